@@ -17,9 +17,11 @@ from ._library import FloatModeError, LibraryError, default_float_mode
 from ._version import __version__
 from .blocks import BlockRefused, Stamps, block_of, listing, listings, read_blocks, reason_listing, write_blocks
 from .calendars import cal2jd, dtf2d, from_unix, jd2cal
+from .csv_files import Readings, read_readings
 from .datetimes import from_datetime, utc_datetime64
 from .offsets import ABSENT, DRIFTING, WHOLE, dat, leap_at_end_of_day, offsets_at_0h
 from .order import argsort, compare, difference, equal, same_stamp, seconds_between
+from .placed import Passes, Placed, place_files, read_passes
 from .placing import milliseconds, place
 from .refusals import Refused, reason
 from .runs import Line, Run, line_up, line_up_recorders, listed_places
@@ -38,8 +40,9 @@ __all__ = [
     "DatesByRule", "default_float_mode", "difference", "DRIFTING", "dtf2d", "equal", "Fields", "FloatModeError", "FORMS", "from_datetime", "from_iso8601",
     "from_unix", "FullWeeks", "gps_from_week", "gps_full_week", "gps_to_week", "gpstai", "jd2cal", "leap_at_end_of_day", "Leaps", "LibraryError", "Line",
     "line_up", "line_up_recorders", "listed_places", "listing", "listings", "Milliseconds", "milliseconds", "NO_INT", "NO_LONG", "Offsets",
-    "offsets_at_0h", "Order", "parse_iso8601", "place", "place_ticks", "Places", "read_blocks", "reason", "reason_listing", "Refused", "Run", "same_stamp",
-    "SCALES", "Seconds", "seconds_between", "Sorted", "Stamps", "standby_bill", "Table", "taigps", "taitcg", "taitt", "taiut1", "taiutc", "tcbtdb",
-    "tcgtai", "tcgtt", "tdbtcb", "tdbtt", "Texts", "TextsByRule", "Ticks", "Times", "to_iso8601", "tttai", "tttcg", "tttdb", "ttut1", "ut1tai", "ut1tt",
-    "ut1utc", "utc_datetime64", "utc_texts", "UtcFields", "utctai", "utcut1", "Walked", "Weeks", "WHOLE", "write_blocks",
+    "offsets_at_0h", "Order", "parse_iso8601", "Passes", "place", "place_files", "place_ticks", "Placed", "Places", "read_blocks", "read_passes",
+    "read_readings", "Readings", "reason", "reason_listing", "Refused", "Run", "same_stamp", "SCALES", "Seconds", "seconds_between", "Sorted", "Stamps",
+    "standby_bill", "Table", "taigps", "taitcg", "taitt", "taiut1", "taiutc", "tcbtdb", "tcgtai", "tcgtt", "tdbtcb", "tdbtt", "Texts", "TextsByRule",
+    "Ticks", "Times", "to_iso8601", "tttai", "tttcg", "tttdb", "ttut1", "ut1tai", "ut1tt", "ut1utc", "utc_datetime64", "utc_texts", "UtcFields", "utctai",
+    "utcut1", "Walked", "Weeks", "WHOLE", "write_blocks",
 ]

@@ -1,14 +1,20 @@
 """python3 -m celestial_time listing [table=FILE] FILE
 python3 -m celestial_time lineup [-r FILE.html] [gps=FILE] [tai=FILE] [utc=FILE] [table=FILE]
+python3 -m celestial_time place [-o OUT.csv] [-p PICTURE.svg] [-r FILE.html] [gps=FILE] [tai=FILE] [utc=FILE] passes=FILE [readings=NAME,..] [table=FILE]
 python3 -m celestial_time --help | --version
 
   listing   the UTC listing of each stamp block of a recorder's file, one after the other; - is standard input
   lineup    the stamps of up to three recorders in one line by their TAI, with their UTC, as the program line_up lists them
             -r: and one page for a browser, with the runs' figures, the leap rows, the refused and left out stamps, and a picture
+  place     a row for each reading of up to three recorders' CSV files: its UTC and its metres along the pipe, from the marker passes beside it,
+            or the number and the sentence by which it has none
+            -o: the table to this file; -p: a picture over metres; -r: and one page for a browser, with figures, sentences and the picture
   table     announced leap rows, a line for each, as 2027-01 38
 
-Exit status: 0 done, 1 a block or the table is refused, 2 not readable or writable, or other words. A refused stamp is no failure. Where nobody reads on, or by
-Ctrl-C, it ends by that signal, as other programs do.
+{files}
+
+Exit status: 0 done, 1 a block, a pass or the table is refused, 2 not readable or writable, or other words. A refused stamp is no failure. Where nobody reads
+on, or by Ctrl-C, it ends by that signal, as other programs do.
 """
 from __future__ import annotations
 
@@ -18,13 +24,18 @@ import sys
 
 from ._library import FloatModeError, LibraryError
 from ._version import __version__
-from .blocks import BlockRefused, Source, listings
+from .blocks import BlockRefused, Source, listings, write_whole
+from .csv_files import HELP
 from .lineup import RECORDERS, line_up_files, listing_of, read_recorder
+from .pipe_pictures import drawn_column, svg_of_places
+from .pipe_report import write_places_page
+from .placed import place_files
 from .refusals import Refused
 from .report import write_page
 from .tables import Table
 
 DONE, REFUSED, FAILED = 0, 1, 2
+USAGE = __doc__.replace("{files}", HELP)
 
 
 class Words(Exception):
@@ -56,22 +67,22 @@ def _list(words: list[str]) -> int:
     return status
 
 
-def _files(words: list[str]) -> dict[str, str]:
-    """The files by the words before them: those of the recorders, of the table, and of the page, which is named by -r."""
+def _files(command: str, words: list[str], known: tuple[str, ...]) -> dict[str, str]:
+    """The files by the words before them: those of the recorders, and others that are known; before a blank stand those that begin with -."""
     files: dict[str, str] = {}
     left = iter(words)
     for word in left:
-        name, _, file = ("-r", "", next(left, "")) if word == "-r" else word.partition("=")
-        if name not in (*RECORDERS, "table", "-r") or not file or name in files:
-            raise Words(f"lineup: not understood, or there twice: {word}")
+        name, _, file = (word, "", next(left, "")) if word in known and word.startswith("-") else word.partition("=")
+        if name not in (*RECORDERS, *known) or not file or name in files:
+            raise Words(f"{command}: not understood, or there twice: {word}")
         files[name] = file
     if not set(files) & set(RECORDERS):
-        raise Words("lineup: no run is named")
+        raise Words(f"{command}: no run is named")
     return files
 
 
 def _line_up(words: list[str]) -> int:
-    files = _files(words)
+    files = _files("lineup", words, ("table", "-r"))
     table = _table(files)
     recorders = tuple(read_recorder(scale, files[scale]) for scale in RECORDERS if scale in files)
     status = DONE
@@ -87,18 +98,36 @@ def _line_up(words: list[str]) -> int:
     return status
 
 
+def _place(words: list[str]) -> int:
+    files = _files("place", words, ("passes", "readings", "table", "-o", "-p", "-r"))
+    if "passes" not in files:
+        raise Words("place: no passes are named")
+    placed = place_files({scale: files[scale] for scale in RECORDERS if scale in files}, files["passes"], table=_table(files))
+    readings = placed.names(files["readings"].split(",") if "readings" in files else None)
+    if "-p" in files:
+        write_whole(files["-p"], iter([svg_of_places(placed, drawn_column(placed, readings)).encode("utf-8", "surrogateescape")]))
+    if "-r" in files:
+        write_places_page(files["-r"], placed, readings)
+    if "-o" in files:
+        write_whole(files["-o"], placed.csv(readings))
+    else:
+        for part in placed.csv(readings):
+            sys.stdout.buffer.write(part)
+    return DONE
+
+
 def _done(words: list[str]) -> int:
     """What the words ask for, done, and the exit status."""
-    commands = {"listing": _list, "lineup": _line_up}
+    commands = {"listing": _list, "lineup": _line_up, "place": _place}
     asked = set(words) & {"-h", "--help", "--version"}
     if asked and (len(words) == 1 or len(words) == 2 and words[0] in commands):
-        print(f"celestial_time {__version__}\n" if asked == {"--version"} else __doc__, end="", flush=True)
+        print(f"celestial_time {__version__}\n" if asked == {"--version"} else USAGE, end="", flush=True)
         return DONE
     if words == ["help"]:
-        print(__doc__, end="", flush=True)
+        print(USAGE, end="", flush=True)
         return DONE
     if not words or words[0] not in commands:
-        raise Words("listing or lineup is due")
+        raise Words("listing, lineup or place is due")
     status = commands[words[0]](words[1:])
     sys.stdout.flush()
     return status
@@ -124,7 +153,7 @@ def main(words: list[str]) -> int:
             raise OSError("standard output is closed")
         return _done(words)
     except Words as wrong:
-        _say(f"{wrong}\n{__doc__.rstrip()}")
+        _say(f"{wrong}\n{USAGE.rstrip()}")
     except BrokenPipeError:
         return _end_by(signal.SIGPIPE)
     except KeyboardInterrupt:

@@ -17,6 +17,7 @@ _SENTENCES: dict[str, tuple[str, ...]] = {
 }
 _FLOATS = ("fraction", "offset")
 LEFT_OUT = 17  # of a stamp of a line; every other number is a refusal
+OUTSIDE = 25  # of a tick or a reading that no two passes hold between them
 # The values that a number's test reads. Those of 4 are not here: the leap of the day is not among a call's arguments.
 _READ: dict[int, tuple[str, ...]] = {
     **dict.fromkeys((1, 2, 3), ("year", "month", "day")),

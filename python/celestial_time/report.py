@@ -14,11 +14,12 @@ from .lineup import Recorder
 from .pictures import leap_rows, svg_of, title_of
 from .refusals import LEFT_OUT, reason
 from .runs import Line
+from .tables import Table
 from .texts import utc_texts
 
 # Sentences on one page at the most: a page of a million would not open.
 MOST_SENTENCES = 1000
-_STYLE = """body{font-family:sans-serif;max-width:72em;margin:2em auto;padding:0 1em;color:#222}table{border-collapse:collapse;font-size:.9em}
+STYLE = """body{font-family:sans-serif;max-width:72em;margin:2em auto;padding:0 1em;color:#222}table{border-collapse:collapse;font-size:.9em}
 #runs td:nth-child(2){white-space:normal;word-break:break-all}
 th,td{border:1px solid #bbb;padding:.25em .7em;text-align:right;white-space:nowrap}th:first-child,td:first-child{text-align:left}svg{width:100%;height:auto}"""
 
@@ -48,7 +49,7 @@ def page_of(line: Line, recorders: tuple[Recorder, ...], files: Mapping[str, str
     names = tuple(recorder.scale for recorder in recorders)
     title = escape(title_of(line))
     parts = [
-        f'<!DOCTYPE html>\n<html lang="en"><head><meta charset="utf-8"><title>{title}</title><style>{_STYLE}</style></head><body>',
+        f'<!DOCTYPE html>\n<html lang="en"><head><meta charset="utf-8"><title>{title}</title><style>{STYLE}</style></head><body>',
         f"<h1>{title}</h1>",
         "<h2>The runs</h2>",
         *_runs(line, recorders, files),
@@ -59,7 +60,7 @@ def page_of(line: Line, recorders: tuple[Recorder, ...], files: Mapping[str, str
         "<h2>Refused and left out</h2>",
         *_sentences(line, recorders),
         "<h2>Leap seconds</h2>",
-        *_rows(line),
+        *rows_told(line.rows),
         f"<p>Made by celestial_time {__version__}.</p></body></html>\n",
     ]
     return "\n".join(parts)
@@ -93,10 +94,10 @@ def _sentences(line: Line, recorders: tuple[Recorder, ...]) -> Iterator[str]:
     more = start = 0
     for recorder in recorders:
         numbers = line.numbers[start : start + len(recorder.stamps.jd1)]
-        stretches = _stretches(numbers)
+        held = stretches(numbers)
         room = MOST_SENTENCES - len(said)
-        said += [_sentence(recorder, int(numbers[first]), first, last) for first, last in stretches[:room].tolist()]
-        more += int((stretches[room:, 1] - stretches[room:, 0] + 1).sum())
+        said += [_sentence(recorder, int(numbers[first]), first, last) for first, last in held[:room].tolist()]
+        more += int((held[room:, 1] - held[room:, 0] + 1).sum())
         start += len(numbers)
     if not said:
         yield "<p>None: every stamp is lined up.</p>"
@@ -108,8 +109,13 @@ def _sentences(line: Line, recorders: tuple[Recorder, ...]) -> Iterator[str]:
         yield f'<p id="more">{more} stamps more are refused or left out, and not told here: the listing has each.</p>'
 
 
-def _stretches(numbers: NDArray[np.uint8]) -> NDArray[np.int64]:
-    """The first and the last place of each stretch of one number other than 0, a row each."""
+def stretches(numbers: NDArray[np.uint8]) -> NDArray[np.int64]:
+    """The first and the last place of each stretch of one number other than 0, a row each.
+
+    >>> stretches(np.array([0, 9, 9, 0, 6], 'u1'))
+    array([[1, 2],
+           [4, 4]])
+    """
     changes = np.flatnonzero(np.diff(numbers)) + 1
     first, end = np.concatenate([[0], changes]), np.concatenate([changes, [len(numbers)]])
     told = numbers[first] != 0 if len(numbers) else np.zeros(1, bool)
@@ -126,10 +132,14 @@ def _sentence(recorder: Recorder, number: int, first: int, last: int) -> str:
     return f"Stamp {first} of the recorder {recorder.scale} is {what} by {number}: {said}."
 
 
-def _rows(line: Line) -> Iterator[str]:
-    """The rows of TAI-UTC that the line was read by, the announced ones named."""
-    announced = {(year, month) for year, month, _ in (line.rows.rows if line.rows is not None else ())}
-    rows = leap_rows(line.rows)
+def rows_told(table: Table | None) -> Iterator[str]:
+    """The rows of TAI-UTC that stamps were read by, the announced ones named.
+
+    >>> next(rows_told(None))
+    '<p>TAI-UTC is 37 s from 2017-01-01 on, as far as the rows below know:'
+    """
+    announced = {(year, month) for year, month, _ in (table.rows if table is not None else ())}
+    rows = leap_rows(table)
     year, month, seconds, _ = rows[-1]
     yield f"<p>TAI-UTC is {seconds} s from {year}-{month:02d}-01 on, as far as the rows below know:"
     yield "a leap second that was announced after them takes a row that is lent.</p>"

@@ -9,9 +9,7 @@ from numpy.typing import ArrayLike, NDArray
 from ._answers import NO_LONG, Number, Ticks
 from ._arrays import Field, address_of, as_array, counts, lent, whole
 from ._library import function
-from .refusals import Refused
-
-OUTSIDE = 25
+from .refusals import OUTSIDE, Refused
 
 
 @overload

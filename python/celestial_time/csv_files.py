@@ -1,0 +1,291 @@
+"""Recorders' and markers' files as CSV: which columns say the time, read as dates of a scale, and the columns that are carried on."""
+from __future__ import annotations
+
+import csv
+import io
+import itertools
+import os
+from typing import IO, Any, Dict, Iterator, NamedTuple, Sequence, Union
+
+import numpy as np
+from numpy.typing import NDArray
+
+from ._answers import Dates
+from .calendars import dtf2d, from_unix
+from .scales import add_seconds, convert
+from .tables import Table
+from .texts import from_iso8601
+from .weeks import gps_from_week
+
+HELP = """  A recorder's file is CSV, with a head line. The columns that say the time of a reading are, in this order, the first that are there:
+    week, millisecond   GPS week, counted from 1980-01-06, and millisecond of it (of gps alone)
+    seconds             since the scale's epoch, 0h of 1980-01-06 (gps) or 1958-01-01 (tai), or Unix time (utc)
+    time                ISO 8601 text of the scale's clock, as 2016-12-31T23:59:60.250Z
+    jd1, jd2            the two parts of a Julian date
+  The passes' file has them too, and metres or millimetres along the pipe; scale says whose clock: gps, tai or utc, and is utc without it. A time that is
+  missing or no number is refused at its place. All other columns of a recorder are carried on, or those alone that readings= names."""
+FORMS = (("week", "millisecond"), ("seconds",), ("time",), ("jd1", "jd2"))
+EPOCHS = {"gps": (1980, 1, 6), "tai": (1958, 1, 1)}
+Cells = NDArray[np.bytes_]
+Columns = Dict[str, Cells]
+File = Union[str, "os.PathLike[str]", IO[str], IO[bytes]]
+# A float of so many digits and a power of ten up to 22 are both exact, so that their quotient is the float nearest to the decimal.
+_EXACT_DIGITS = 15
+_ROWS, _LONGEST = 1 << 15, 1 << 10
+
+
+class Readings(NamedTuple):
+    """A recorder's file: its scale, its name, the dates of its readings in that scale, and the other columns, as they stand in the file.
+
+    >>> import io
+    >>> read_readings('gps', io.StringIO('week,millisecond,wall\\n1930,16500,8.01\\n')).columns
+    {'wall': array([b'8.01'], dtype='|S4')}
+    """
+
+    scale: str
+    file: str
+    dates: Dates
+    columns: Columns
+
+
+def read_columns(source: File) -> Columns:
+    """The columns of a CSV file by the names of its head line, as byte strings; a cell that a short row lacks is empty, and so are lines without a byte.
+
+    >>> import io
+    >>> read_columns(io.StringIO('week, millisecond\\n1930,16500\\n1930\\n'))
+    {'week': array([b'1930', b'1930'], dtype='|S4'), 'millisecond': array([b'16500', b''], dtype='|S5')}
+    """
+    if isinstance(source, (str, os.PathLike)):
+        with open(source, "rb") as file:
+            data = file.read()
+    else:
+        held = source.read()
+        data = held.encode("utf-8", "surrogateescape") if isinstance(held, str) else held
+    data = data[3:] if data.startswith(b"\xef\xbb\xbf") else data
+    head, _, body = data.partition(b"\n")
+    names = [name.strip() for name in next(csv.reader([head.decode("utf-8", "surrogateescape")]), [])]
+    if not names or len(set(names)) < len(names) or "" in names:
+        raise ValueError(f"{name_of(source)}: a head line is due, of columns that have each its name")
+    plain = not any(mark in data for mark in (b'"', b"\0"))
+    cells = _of_even_rows(body if body.endswith(b"\n") or not body else body + b"\n", len(names)) if plain else None
+    return dict(zip(names, _of_any_rows(data, len(names)) if cells is None else cells))
+
+
+def _of_even_rows(body: bytes, count: int) -> list[Cells] | None:
+    """The columns where each row has a cell for each; None where one has not."""
+    room = np.frombuffer(body + bytes(_LONGEST), "u1")
+    held = room[: len(body)]
+    ends = np.flatnonzero((held == ord(",")) | (held == ord("\n")))
+    if len(ends) % count:
+        return None
+    starts = np.concatenate([[0], ends[:-1] + 1])[: len(ends)].reshape(-1, count)
+    ends = ends.reshape(-1, count)
+    if (held[ends[:, -1]] != ord("\n")).any() or (held[ends[:, :-1]] != ord(",")).any():
+        return None
+    if b"\r" in body:
+        ends[:, -1] -= (held[ends[:, -1] - 1] == ord("\r")) & (ends[:, -1] > starts[:, -1])
+    lengths = ends - starts
+    if count == 1 and not lengths.all() or int(lengths.max(initial=0)) > _LONGEST:
+        return None
+    return [_cells(room, starts[:, place], lengths[:, place]) for place in range(count)]
+
+
+def _cells(room: NDArray[np.uint8], starts: NDArray[Any], lengths: NDArray[Any]) -> Cells:
+    """What stands from starts on, as byte strings of one width: taken where they lie, from a view that begins at each byte, and what is behind a cell set to
+    0."""
+    width = max(int(lengths.max(initial=0)), 1)
+    made: Cells = np.ndarray((len(room) - _LONGEST + 1,), f"S{width}", room, strides=(1,))[starts]
+    shortest = int(lengths.min(initial=width))
+    if shortest < width:
+        made.view("u1").reshape(-1, width)[:, shortest:][np.arange(shortest, width) >= lengths[:, None]] = 0
+    return made
+
+
+def _of_any_rows(data: bytes, count: int) -> list[Cells]:
+    """The columns by Python's reader: of cells in quotes, and of rows that are short."""
+    rows = [row[:count] for row in csv.reader(io.StringIO(data.decode("utf-8", "surrogateescape"), newline="")) if row][1:]
+    held = list(itertools.zip_longest(*rows, fillvalue=""))
+    held += [("",) * len(rows)] * (count - len(held))
+    made = [[cell.replace("\0", "\x01").encode("utf-8", "surrogateescape") for cell in column] for column in held]
+    return [np.array(column, f"S{max(map(len, column), default=0) or 1}") for column in made]
+
+
+def read_readings(scale: str, source: File, *, table: Table | None = None) -> Readings:
+    """A recorder's readings, with dates of its scale: gps, tai or utc.
+
+    >>> import io
+    >>> read_readings('utc', io.StringIO('time\\n2016-12-31T23:59:60.250Z\\nlater\\n')).dates.numbers
+    array([ 0, 15], dtype=uint8)
+    """
+    columns = read_columns(source)
+    try:
+        form = form_of(scale, columns)
+        dates = dates_of(scale, {name: columns.pop(name) for name in form}, table=table)
+    except ValueError as error:
+        raise ValueError(f"{name_of(source)}: {error}") from None
+    return Readings(scale, name_of(source), dates, columns)
+
+
+def form_of(scale: str, columns: Columns) -> tuple[str, ...]:
+    """The columns that say the time.
+
+    >>> form_of('tai', {'jd1': np.array([b'']), 'jd2': np.array([b'']), 'wall': np.array([b''])})
+    ('jd1', 'jd2')
+    """
+    for form in FORMS:
+        if set(form) <= set(columns) and (scale == "gps" or form[0] != "week"):
+            return form
+    raise ValueError(f"no time of scale {scale}: the columns are {', '.join(columns)}, and due are {' or '.join(' and '.join(form) for form in FORMS)}")
+
+
+def dates_of(scale: str, columns: Columns, *, table: Table | None = None) -> Dates:
+    """The dates of a scale that columns of one form say.
+
+    >>> dates_of('gps', {'week': np.array([b'1930', b'']), 'millisecond': np.array([b'500', b'500'])})
+    Dates(jd1=array([2457754.5,       nan]), jd2=array([5.78703704e-06,            nan]), numbers=array([ 0, 18], dtype=uint8))
+    """
+    held = list(columns.values())
+    if "week" in columns:
+        return gps_from_week(numbers_of(held[0]), numbers_of(held[1]))
+    if "time" in columns:
+        read = from_iso8601(held[0], scale=scale, table=table)
+        return Dates(read.jd1, read.jd2, read.numbers)
+    if "jd1" in columns:
+        jd1, jd2 = map(numbers_of, held)
+        own = convert("tai" if scale != "utc" else scale, "tai", jd1, jd2, table=table)
+        return Dates(jd1, jd2, own.numbers)
+    return _since_epoch(scale, numbers_of(held[0]), table)
+
+
+def _since_epoch(scale: str, seconds: NDArray[np.float64], table: Table | None) -> Dates:
+    """Seconds to the nearest nanosecond that a float of them has."""
+    finite = np.abs(seconds) < 2.0**62
+    whole = np.floor(np.where(finite, seconds, 0.0))
+    if scale == "utc":
+        nanos = np.minimum(np.rint((np.where(finite, seconds, 0.0) - whole) * 1e9), 999999999)
+        dates = from_unix(whole.astype("<i8"), nanos.astype("<u4"), table=table)
+        return Dates(np.where(finite, dates.jd1, np.nan), np.where(finite, dates.jd2, np.nan), np.where(finite, dates.numbers, 9).astype("u1"))
+    seconds = np.where(finite, seconds, np.nan)
+    days = np.floor(seconds / 86400.0)
+    begun = dtf2d(scale, *EPOCHS[scale], 0, 0, 0.0)
+    # Whole days are exact in the first part, and a second of the day as the calendar has it in the second.
+    jd1, jd2 = begun.jd1 + days, (seconds - 86400.0 * days) / 86400.0
+    return Dates(jd1, jd2, convert("tai", "tai", jd1, jd2).numbers)
+
+
+def numbers_of(cells: Cells) -> NDArray[np.float64]:
+    """Cells as floats; one that is empty or no number is a NaN.
+
+    >>> numbers_of(np.array([b'1.5', b'', b'none']))
+    array([1.5, nan, nan])
+    """
+    fast = _decimals(cells)
+    if fast is not None:
+        return fast
+    try:
+        return cells.astype(float)
+    except ValueError:
+        return np.fromiter(map(_number, cells.tolist()), float, len(cells))
+
+
+def _decimals(cells: Cells) -> NDArray[np.float64] | None:
+    """Cells that are empty or digits with at most one point, all at once; None where others are there, or more digits than a float is sure to have."""
+    bytes_of = np.ascontiguousarray(cells).view("u1").reshape(len(cells), cells.dtype.itemsize)
+    whole, places, points = np.zeros(len(cells), np.int64), np.zeros(len(cells), np.int8), np.zeros(len(cells), np.int8)
+    if bytes_of.shape[1] > _EXACT_DIGITS + 1:
+        return None
+    digits = np.zeros(len(cells), np.int8)
+    for column in np.ascontiguousarray(bytes_of.T):
+        is_digit, is_point = (column >= 48) & (column <= 57), column == ord(".")
+        if not (is_digit | is_point | (column == 0)).all():
+            return None
+        whole = np.where(is_digit, 10 * whole + column - 48, whole)
+        points += is_point
+        digits += is_digit
+        places += is_digit & (points > 0)
+    if (points > 1).any() or ((points > 0) & (digits == 0)).any() or (digits > _EXACT_DIGITS).any():
+        return None
+    return np.where(digits > 0, whole / 10.0**places, np.nan)
+
+
+def _number(cell: bytes) -> float:
+    try:
+        return float(cell)
+    except ValueError:
+        return np.nan
+
+
+def values_of(cells: Cells) -> NDArray[Any]:
+    """A column as an analyst has it: floats where each cell is a number or empty, and else str.
+
+    >>> values_of(np.array([b'8.2', b''])), values_of(np.array([b'a', b'']))
+    (array([8.2, nan]), array(['a', ''], dtype='<U1'))
+    """
+    numbers = numbers_of(cells)
+    return numbers if ((cells == b"") == np.isnan(numbers)).all() else np.char.decode(cells, "utf-8", "replace")
+
+
+def name_of(source: File) -> str:
+    """What a file is called in messages.
+
+    >>> name_of('gps.csv')
+    'gps.csv'
+    """
+    return os.fspath(source) if isinstance(source, (str, os.PathLike)) else str(getattr(source, "name", "a file"))
+
+
+def csv_of(names: Sequence[str], columns: Sequence[NDArray[Any]]) -> Iterator[bytes]:
+    """Columns of byte strings or of whole numbers from 0 on as CSV, a page of rows at a time.
+
+    >>> b''.join(csv_of(['recorder', 'reason'], [np.array([b'gps', b'tai']), np.array([b'one, two', b''])]))
+    b'recorder,reason\\ngps,"one, two"\\ntai,\\n'
+    """
+    head = io.StringIO()
+    csv.writer(head, lineterminator="\n").writerow(names)
+    yield head.getvalue().encode("utf-8", "surrogateescape")
+    quoted = [_quoted(column) if column.dtype.kind == "S" else column for column in columns]
+    for first in range(0, len(columns[0]), _ROWS):
+        yield _page([digits_of(part) if part.dtype.kind != "S" else part for part in (column[first : first + _ROWS] for column in quoted)])
+
+
+def _page(columns: Sequence[Cells]) -> bytes:
+    """Rows of one width, of which the bytes of 0 that fill the cells up are left out."""
+    widths = [column.dtype.itemsize + 1 for column in columns]
+    ends = np.cumsum(widths)
+    rows = np.zeros((len(columns[0]), int(ends[-1])), "u1")
+    for column, width, end in zip(columns, widths, ends):
+        rows[:, end - width : end - 1] = np.ascontiguousarray(column).view("u1").reshape(len(column), width - 1)
+        rows[:, end - 1] = ord(",")
+    rows[:, -1] = ord("\n")
+    kept: bytes = rows[rows != 0].tobytes()
+    return kept
+
+
+def digits_of(numbers: NDArray[Any], decimals: int = 0) -> Cells:
+    """Whole numbers from 0 on as byte strings, with a point before the last decimals; shorter ones are filled up with bytes of 0 before them.
+
+    >>> digits_of(np.array([0, 12600]), 3)
+    array([b'\\x000.000', b'12.600'], dtype='|S6')
+    """
+    width = max(len(str(int(numbers.max(initial=0)))), decimals + 1)
+    made = np.zeros((width + (decimals > 0), len(numbers)), "u1")
+    left = numbers.astype(np.int64)
+    for place in range(width):
+        rest = left // 10
+        row = made[len(made) - 1 - place - (decimals > 0 and place >= decimals)]
+        row[...] = left - 10 * rest + 48
+        if place > decimals:
+            row[left == 0] = 0
+        left = rest
+    if decimals:
+        made[-1 - decimals] = ord(".")
+    return np.ascontiguousarray(made.T).view(f"S{len(made)}").ravel()
+
+
+def _quoted(column: Cells) -> Cells:
+    """Cells with a comma, a quote or the end of a line in them, in quotes."""
+    held = np.ascontiguousarray(column).view("u1")
+    if not any((held == ord(mark)).any() for mark in ',"\n\r'):
+        return column
+    made = [b'"' + cell.replace(b'"', b'""') + b'"' if any(mark in cell for mark in (b",", b'"', b"\n", b"\r")) else cell for cell in column.tolist()]
+    return np.array(made, f"S{max(map(len, made), default=0) or 1}")

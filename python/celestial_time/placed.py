@@ -1,0 +1,213 @@
+"""Recorders' CSV files placed between marker passes, and the table of it: `python3 -m celestial_time place`."""
+from __future__ import annotations
+
+from typing import Any, Iterator, Mapping, NamedTuple, Sequence
+
+import numpy as np
+from numpy.typing import NDArray
+
+from ._answers import Dates, Places
+from .calendars import cal2jd, jd2cal
+from .csv_files import Cells, Columns, File, Readings, csv_of, dates_of, digits_of, form_of, name_of, numbers_of, read_columns, read_readings, values_of
+from .placing import milliseconds, place
+from .refusals import Refused, reason
+from .scales import convert
+from .tables import Table
+from .texts import utc_texts
+
+SCALES = ("gps", "tai", "utc")
+_PAGE = 1 << 15
+
+
+class Passes(NamedTuple):
+    """Marker passes: a TAI midnight a day or more before the first, the milliseconds since then, and the places in millimetres.
+
+    >>> import io
+    >>> read_passes(io.StringIO('time,metres\\n2017-01-01T00:00:00,0\\n2017-01-01T00:00:10,31.5\\n')).mm
+    array([    0, 31500])
+    """
+
+    launch: Dates
+    millis: NDArray[np.int64]
+    mm: NDArray[np.int64]
+
+
+class Placed(NamedTuple):
+    """Recorders with the TAI and the place of each of their readings, the passes between which they lie, and the announced leap rows.
+
+    >>> import io
+    >>> passes = io.StringIO('time,metres\\n2017-01-01T00:00:00Z,0\\n2017-01-01T00:00:10Z,31.5\\n')
+    >>> placed = place_files({'utc': io.StringIO('time,wall\\n2017-01-01T00:00:04,8.2\\nlate,8.1\\n')}, passes)
+    >>> placed.places[0].metres
+    array([12.6,  nan])
+    """
+
+    recorders: tuple[Readings, ...]
+    tai: tuple[Dates, ...]
+    places: tuple[Places, ...]
+    passes: Passes
+    rows: Table | None
+
+    def names(self, readings: Sequence[str] | None = None) -> list[str]:
+        """The columns that are carried on: those of all recorders, or of them those that are named.
+
+        >>> import io
+        >>> passes = io.StringIO('time,metres\\n2017-01-01T00:00:00Z,0\\n2017-01-01T00:00:10Z,31.5\\n')
+        >>> place_files({'utc': io.StringIO('time,wall\\n')}, passes).names()
+        ['wall']
+        """
+        there = list(dict.fromkeys(name for recorder in self.recorders for name in recorder.columns))
+        for name in readings or ():
+            if name not in there:
+                raise ValueError(f"no recorder has a column {name}: there are {', '.join(there) or 'none beside the time'}")
+        return there if readings is None else list(readings)
+
+    def table(self, readings: Sequence[str] | None = None) -> dict[str, Any]:
+        """A row for each reading, by recorders as their files have them, which pandas.DataFrame takes as it is: `recorder`, `index` in its file, `utc`,
+        `metres`, `number` and `reason`, by which it has no place, and the columns that are carried on, of floats where they hold nothing else.
+
+        >>> import io
+        >>> passes = io.StringIO('time,metres\\n2017-01-01T00:00:00Z,0\\n2017-01-01T00:00:10Z,31.5\\n')
+        >>> files = {'utc': io.StringIO('time,wall\\n2017-01-01T00:00:04,8.2\\n2017-01-01T00:00:11,8.1\\n')}
+        >>> for name, column in place_files(files, passes).table().items():
+        ...     print(name, list(column))
+        recorder ['utc', 'utc']
+        index [0, 1]
+        utc ['2017-01-01T00:00:04.000', '2017-01-01T00:00:11.000']
+        metres [12.6, nan]
+        number [0, 25]
+        reason ['', 'tick is outside the passes']
+        wall [8.2, 8.1]
+        """
+        sizes = [len(tai.numbers) for tai in self.tai]
+        numbers = np.concatenate([one.numbers for one in self.places])
+        held = {
+            "recorder": np.repeat([recorder.scale for recorder in self.recorders], sizes),
+            "index": np.concatenate([np.arange(size) for size in sizes]),
+            "utc": np.concatenate([utc_texts("tai", *tai[:2], form="expanded", table=self.rows, as_str=True).text for tai in self.tai]),
+            "metres": np.concatenate([one.metres for one in self.places]),
+            "number": numbers,
+            "reason": _sentences().astype("U")[numbers],
+        }
+        for name in self.names(readings):
+            held[name] = values_of(np.concatenate([_carried(one, name) for one in self.recorders]))
+        return held
+
+    def csv(self, readings: Sequence[str] | None = None) -> Iterator[bytes]:
+        """The table as CSV, in parts: metres to the millimetre, and nothing where there are none; the columns that are carried on as the files have them.
+
+        >>> import io
+        >>> passes = io.StringIO('time,metres\\n2017-01-01T00:00:00Z,0\\n2017-01-01T00:00:10Z,31.5\\n')
+        >>> files = {'utc': io.StringIO('time,wall\\n2017-01-01T00:00:04,8.20\\n2017-01-01T00:00:11,8.10\\n')}
+        >>> print(b''.join(place_files(files, passes).csv()).decode(), end='')
+        recorder,index,utc,metres,number,reason,wall
+        utc,0,2017-01-01T00:00:04.000,12.600,0,,8.20
+        utc,1,2017-01-01T00:00:11.000,,25,tick is outside the passes,8.10
+        """
+        carried = self.names(readings)
+        yield next(csv_of(["recorder", "index", "utc", "metres", "number", "reason", *carried], [np.empty(0, "S1")]))
+        for recorder, tai, places in zip(self.recorders, self.tai, self.places):
+            for first in range(0, len(tai.numbers), _PAGE):
+                page = slice(first, first + _PAGE)
+                numbers = places.numbers[page]
+                metres = digits_of(np.where(numbers == 0, places.mm[page], 0), 3)
+                columns = [
+                    np.full(len(numbers), recorder.scale, "S3"),
+                    np.arange(first, first + len(numbers)),
+                    utc_texts("tai", tai.jd1[page], tai.jd2[page], form="expanded", table=self.rows).text,
+                    np.where(numbers == 0, metres, b"") if numbers.any() else metres,
+                    numbers,
+                    _sentences()[numbers] if numbers.any() else np.zeros(len(numbers), "S1"),
+                    *(_carried(recorder, name)[page] for name in carried),
+                ]
+                yield from list(csv_of(["page"], columns))[1:]
+
+
+def _sentences() -> Cells:
+    """The sentence of each number, of 0 none."""
+    return np.array([b"", *(reason(number).encode("ascii") for number in range(1, 29))])
+
+
+def _carried(recorder: Readings, name: str) -> Cells:
+    """A column of a recorder, of empty cells where it has none of this name."""
+    return recorder.columns.get(name, np.zeros(len(recorder.dates.numbers), "S1"))
+
+
+def read_passes(source: File, *, table: Table | None = None) -> Passes:
+    """The passes of a CSV file. A time that is refused refuses the whole.
+
+    >>> import io
+    >>> read_passes(io.StringIO('week,millisecond,scale,millimetres\\n1930,0,gps,0\\n1930,500,gps,7\\n')).millis - 86400000
+    array([19000, 19500])
+    """
+    columns = read_columns(source)
+    unit = "metres" if "metres" in columns else "millimetres"
+    if unit not in columns:
+        raise ValueError(f"{name_of(source)}: no column metres or millimetres: the columns are {', '.join(columns)}")
+    try:
+        tai = _pass_dates(columns, table)
+    except ValueError as error:
+        raise ValueError(f"{name_of(source)}: {error}") from None
+    if tai.numbers.any():
+        at = int(np.flatnonzero(tai.numbers)[0])
+        raise Refused(int(tai.numbers[at]), f"{name_of(source)}: pass {at}")
+    places = numbers_of(columns[unit]) * (1000.0 if unit == "metres" else 1.0)
+    mm = np.rint(places)
+    broken = ~(np.abs(places - mm) <= 1e-6 * np.maximum(np.abs(mm), 1.0) / 1000.0)
+    if broken.any():
+        at = int(broken.argmax())
+        raise ValueError(f"{name_of(source)}: {unit} of pass {at}, {columns[unit][at].decode('utf-8', 'replace')!r}, is no whole number of millimetres")
+    if not len(mm):
+        raise Refused(23, f"{name_of(source)}")
+    day = jd2cal(float(tai.jd1[0]), float(tai.jd2[0]))
+    midnight = cal2jd(day.year, day.month, day.day)
+    launch = Dates(midnight.jd1, midnight.jd2 - 1.0, midnight.numbers)
+    return Passes(launch, milliseconds(launch, tai).millis, mm.astype(np.int64))
+
+
+def _pass_dates(columns: Columns, table: Table | None) -> Dates:
+    """The TAI of the passes, each by the clock that its row names."""
+    count = len(next(iter(columns.values())))
+    made = Dates(np.full(count, np.nan), np.full(count, np.nan), np.zeros(count, "u1"))
+    if not count:
+        return made
+    told = columns.get("scale", np.full(count, "gps" if "week" in columns else "utc", "S3"))
+    scales = np.char.lower(np.char.strip(np.char.decode(told, "utf-8", "replace")))
+    for scale in np.unique(scales).tolist():
+        at = np.flatnonzero(scales == scale)
+        if scale not in SCALES:
+            raise ValueError(f"no scale: {scale!r} of pass {at[0]}; the scales are {', '.join(SCALES)}")
+        own = dates_of(scale, {name: columns[name][at] for name in form_of(scale, columns)}, table=table)
+        for part, whole in zip(to_tai(scale, own, table), made):
+            whole[at] = part
+    return made
+
+
+def to_tai(scale: str, dates: Dates, table: Table | None = None) -> Dates:
+    """The TAI of dates; a stamp that is refused already keeps its number.
+
+    >>> to_tai('gps', gps_from_week([2048, 5], [0, 10**9])).numbers
+    array([ 0, 18], dtype=uint8)
+    """
+    tai = convert(scale, "tai", dates.jd1, dates.jd2, table=table)
+    return tai._replace(numbers=np.where(dates.numbers, dates.numbers, tai.numbers).astype("u1"))
+
+
+def place_files(files: Mapping[str, File], passes: File, *, table: Table | None = None) -> Placed:
+    """The readings of recorders' files, named by their scales gps, tai and utc, on the pipe.
+
+    >>> import io
+    >>> passes = io.StringIO('time,metres\\n2017-01-01T00:00:00Z,0\\n2017-01-01T00:00:10Z,31.5\\n')
+    >>> gps = io.StringIO('week,millisecond\\n1930,18000\\n1930,19000\\n')
+    >>> place_files({'gps': gps}, passes).places[0].metres
+    array([0.  , 3.15])
+    """
+    for scale in files:
+        if scale not in SCALES:
+            raise ValueError(f"no scale: {scale!r}; the scales are {', '.join(SCALES)}")
+    markers = read_passes(passes, table=table)
+    recorders = tuple(read_readings(scale, files[scale], table=table) for scale in SCALES if scale in files)
+    tai = tuple(to_tai(recorder.scale, recorder.dates, table) for recorder in recorders)
+    lists = markers.millis, markers.mm
+    places = tuple(place(milliseconds(markers.launch, one), lists, unit="mm") for one in tai)
+    return Placed(recorders, tai, places, markers, table)

@@ -1,0 +1,278 @@
+"""Recorders' CSV files to metres: the columns in every form, damage, the table, the picture, the page and the command; and the customer's whole job."""
+import csv
+import importlib.util
+import io
+import math
+import os
+import pathlib
+import re
+import signal
+import subprocess
+import sys
+import tempfile
+import unittest
+import xml.etree.ElementTree
+
+import numpy as np
+
+import celestial_time as ct
+from celestial_time import csv_files, pipe_pictures, placed
+from test_report import BROWSER, Page
+
+ROOT = pathlib.Path(__file__).resolve().parents[2]
+PIPE = ROOT / "python" / "examples" / "pipe"
+RUNS = [f"{scale}={PIPE}/{scale}.csv" for scale in ("gps", "tai", "utc")]
+PASSES = f"passes={PIPE}/passes.csv"
+
+
+def run(*words, **keywords):
+    environment = {**os.environ, "PYTHONPATH": str(ROOT / "python")}
+    return subprocess.run([sys.executable, "-m", "celestial_time", "place", *map(str, words)], capture_output=True, env=environment, **keywords)
+
+
+def text_file(*rows):
+    return io.StringIO("".join(f"{row}\n" for row in rows))
+
+
+def marks():
+    return text_file("time,metres", "2017-01-01T00:00:00Z,0", "2017-01-01T00:00:10Z,31.5")
+
+
+class Columns(unittest.TestCase):
+    def test_any_rows(self):
+        """Even rows are cut all at once and others by Python's reader, with the same cells; ends of lines, a mark of the encoding, quotes and short rows."""
+        even = b"a,b,c\n1,two,\n,3.50,x y\n"
+        due = {"a": [b"1", b""], "b": [b"two", b"3.50"], "c": [b"", b"x y"]}
+        for data in (even, even[:-1], even.replace(b"\n", b"\r\n"), b"\xef\xbb\xbf" + even, even.replace(b"two", b'"two"'), even.replace(b"\n,3", b"\n\n,3"), even.replace(b"two,", b"two")):
+            got = csv_files.read_columns(io.BytesIO(data))
+            self.assertEqual({name: cells.tolist() for name, cells in got.items()}, due, data)
+        got = csv_files.read_columns(io.BytesIO(b'a,b\n"1,5","say ""no"""\n' + "ä,".encode() + b"x" * 3000 + b"\n"))
+        self.assertEqual([cells.tolist() for cells in got.values()], [[b"1,5", "ä".encode()], [b'say "no"', b"x" * 3000]])
+        for empty in (b"a,b\n", b"a,b"):
+            self.assertEqual([cells.tolist() for cells in csv_files.read_columns(io.BytesIO(empty)).values()], [[], []])
+        self.assertEqual([cells.tolist() for cells in csv_files.read_columns(io.BytesIO(b"a\n1\n\n2\n")).values()], [[b"1", b"2"]])
+        for wrong in (b"", b"\n1,2\n", b"a,a\n1,2\n", b"a,,b\n"):
+            with self.assertRaises(ValueError):
+                csv_files.read_columns(io.BytesIO(wrong))
+
+    def test_numbers(self):
+        """Decimals are the floats that Python reads, however many digits; what is none is a NaN."""
+        rng = np.random.default_rng(5)
+        texts = [f"{x:.{d}f}" for x, d in zip(rng.uniform(0, 1e6, 3000), rng.integers(0, 9, 3000))] + ["0", "00012", "1.", ".5", ""]
+        for more in ([], ["-1.5"], ["1e5"], ["2457753.5000000001"], ["none"], ["1.2.3"], ["."], [" 7 "], ["inf"], ["9007199254740993"]):
+            cells = np.array([text.encode() for text in texts + more])
+            got = csv_files.numbers_of(cells)
+            for text, one in zip(texts + more, got.tolist()):
+                try:
+                    due = float(text)
+                except ValueError:
+                    due = math.nan
+                self.assertTrue(one == due or one != one and due != due, (text, one))
+
+    def test_written(self):
+        """Python's reader reads what is written, quotes and all."""
+        cells = [b"plain", b"", b"one, two", b'say "no"', b"two\nlines", "ä".encode()]
+        numbers = np.array([0, 7, 10, 99, 100, 1234567])
+        data = b"".join(csv_files.csv_of(["a", "b"], [np.array(cells), numbers])).decode()
+        self.assertEqual(list(csv.reader(io.StringIO(data, newline="")))[1:], [[cell.decode(), str(number)] for cell, number in zip(cells, numbers.tolist())])
+        for decimals in (0, 1, 3):
+            told = [cell.strip(b"\0").decode() for cell in csv_files.digits_of(numbers, decimals).tolist()]
+            self.assertEqual(told, [f"{number / 10**decimals:.{decimals}f}" for number in numbers.tolist()])
+
+
+class Forms(unittest.TestCase):
+    def test_one_instant(self):
+        """Each form of each scale says the same instant, and has the same place."""
+        forms = {
+            "gps": [("week,millisecond", "1930,22250"), ("seconds", "1167264022.25"), ("time", "2017-01-01T00:00:22.250"), ("jd1,jd2", f"2457754.5,{22.25 / 86400!r}")],
+            "tai": [("seconds", f"{ct_seconds('tai')}"), ("time", "2017-01-01T00:00:41.250"), ("jd1,jd2", f"2457754.5,{41.25 / 86400!r}")],
+            "utc": [("seconds", "1483228804.25"), ("time", "2017-01-01T00:00:04.250Z"), ("jd1,jd2", f"2457754.5,{4.25 / 86400!r}")],
+        }
+        for scale, held in forms.items():
+            for head, row in held:
+                got = ct.place_files({scale: text_file(head, row)}, marks())
+                self.assertEqual((got.places[0].mm.tolist(), got.places[0].numbers.tolist()), ([13387], [0]), (scale, head))
+                self.assertEqual(got.table()["utc"].tolist(), ["2017-01-01T00:00:04.250"])
+
+    def test_damage(self):
+        """A time that is missing, no number or not finite is refused at its place, and the others stand."""
+        for scale, head, rows, numbers in (
+            ("gps", "week,millisecond", ("1930,22250", ",", "x,1", "1930", "1930,1e30", "nan,inf"), [0, 18, 18, 18, 18, 18]),
+            ("gps", "seconds,x", ("1167264022.25,1", ",1", "inf,1", "-1,1", "1167264000,1"), [0, 9, 9, 18, 25]),
+            ("utc", "seconds,x", ("1483228804.25,1", ",1", "none,1", "1e300,1"), [0, 9, 9, 9]),
+            ("tai", "time,x", ("2017-01-01T00:00:41.250,1", ",1", "2017-01-01T00:00:60,2"), [0, 15, 4]),
+            ("utc", "time,x", ("2016-12-31T23:59:60.5,1", "2017-13-01T00:00:00,1"), [25, 2]),
+            ("tai", "jd1,jd2", ("2457754.5,0.0004774305555", "nan,0", ",", "2457754.5,1e300", "1.0,1.0"), [0, 9, 9, None, None]),
+            ("utc", "jd1,jd2", ("2457754.5,0.00005", "nan,0", "2457754.5,1e300"), [0, 6, 6]),
+        ):
+            got = ct.place_files({scale: text_file(head, *rows)}, marks()).places[0]
+            told = got.numbers.tolist()
+            self.assertEqual([one if due is not None else None for one, due in zip(told, numbers)], numbers, (scale, head))
+            self.assertTrue(all(told[i] for i, due in enumerate(numbers) if due is None))
+
+    def test_passes(self):
+        """Passes of every clock are one; a pass that is refused, or is no whole millimetre, or does not rise, refuses the whole."""
+        mixed = text_file("scale,time,millimetres", "utc,2017-01-01T00:00:00Z,0", "GPS,2017-01-01T00:00:23,15750", "tai ,2017-01-01T00:00:47.000,31500")
+        got = ct.read_passes(mixed)
+        self.assertEqual((got.millis - got.millis[0]).tolist(), [0, 5000, 10000])
+        self.assertEqual(got.mm.tolist(), [0, 15750, 31500])
+        for rows, number in ((("2017-01-01T00:00:00Z,0", "noon,5"), 15), (("2017-01-01T00:00:00Z,0",), 23), ((), 23), (("2017-01-01T00:00:05Z,0", "2017-01-01T00:00:00Z,5"), 24),
+                             (("2017-01-01T00:00:00Z,5", "2017-01-01T00:00:05Z,5"), 24)):
+            with self.assertRaises(ct.Refused) as raised:
+                ct.place_files({"utc": text_file("time", "2017-01-01T00:00:04")}, text_file("time,metres", *rows))
+            self.assertEqual(raised.exception.number, number)
+        for head, row in (("time,metres", "2017-01-01T00:00:00Z,0.0005"), ("time,metres", "2017-01-01T00:00:00Z,"), ("time,place", "2017-01-01T00:00:00Z,1"), ("metres", "1"),
+                          ("scale,time,metres", "lunar,2017-01-01T00:00:00Z,1"), ("scale,week,millisecond,metres", "utc,1930,0,1")):
+            with self.assertRaises(ValueError) as raised:
+                ct.read_passes(text_file(head, row))
+            self.assertNotIsInstance(raised.exception, ct.Refused)
+        with self.assertRaises(ValueError):
+            ct.place_files({"tt": text_file("time")}, marks())
+
+
+def ct_seconds(scale):
+    """Seconds of 2017-01-01T00:00:41.250 since the scale's epoch, by Python's own calendar."""
+    import datetime
+
+    return (datetime.datetime(2017, 1, 1) - datetime.datetime(*csv_files.EPOCHS[scale])).total_seconds() + 41.25
+
+
+class Command(unittest.TestCase):
+    def setUp(self):
+        self.folder = tempfile.TemporaryDirectory()
+        self.at = pathlib.Path(self.folder.name)
+
+    def tearDown(self):
+        self.folder.cleanup()
+
+    def test_files_are_as_made(self):
+        subprocess.run([sys.executable, ROOT / "python" / "examples" / "make_pipe.py", self.at], check=True, env={**os.environ, "PYTHONPATH": str(ROOT / "python")})
+        for file in PIPE.glob("*.csv"):
+            self.assertEqual((self.at / file.name).read_text(), file.read_text(), file.name)
+
+    def test_table(self):
+        """A row for each reading, to standard output or a file, as `table` has them; the carried column as it stands."""
+        done = run(*RUNS, PASSES)
+        self.assertEqual((done.returncode, done.stderr), (0, b""))
+        held = run(*RUNS, PASSES, "-o", self.at / "out.csv", "readings=wall_mm")
+        self.assertEqual((held.returncode, held.stdout, (self.at / "out.csv").read_bytes()), (0, b"", done.stdout))
+        rows = list(csv.DictReader(io.StringIO(done.stdout.decode())))
+        got = ct.place_files({scale: PIPE / f"{scale}.csv" for scale in ("gps", "tai", "utc")}, PIPE / "passes.csv")
+        table = got.table()
+        self.assertEqual(list(rows[0]), list(table))
+        self.assertEqual(len(rows), 1100)
+        for i, row in enumerate(rows):
+            self.assertEqual((row["recorder"], int(row["index"]), row["utc"], int(row["number"]), row["reason"]), tuple(table[name][i] for name in ("recorder", "index", "utc", "number", "reason")))
+            self.assertEqual(row["metres"], "" if row["number"] != "0" else f"{table['metres'][i]:.3f}")
+            self.assertEqual(row["reason"], "" if row["number"] == "0" else ct.reason(int(row["number"])))
+        read = [line.split(",")[-1] for scale in ("gps", "tai", "utc") for line in (PIPE / f"{scale}.csv").read_text().splitlines()[1:]]
+        self.assertEqual([row["wall_mm"] for row in rows], read)
+        self.assertEqual({row["number"] for row in rows}, {"0", "15", "18", "25"})
+
+    def test_one_dent(self):
+        """The three recorders see the dent in one place: readings of one millisecond agree exactly, others by the travel between their milliseconds and 1 mm."""
+        got = ct.place_files({scale: PIPE / f"{scale}.csv" for scale in ("gps", "tai", "utc")}, PIPE / "passes.csv")
+        every = {}
+        fastest = np.max(np.diff(got.passes.mm) / np.diff(got.passes.millis))
+        thinnest = []
+        for recorder, tai, places in zip(got.recorders, got.tai, got.places):
+            millis = ct.milliseconds(got.passes.launch, tai).millis
+            for milli, mm, number in zip(millis.tolist(), places.mm.tolist(), places.numbers.tolist()):
+                if number == 0:
+                    self.assertEqual(every.setdefault(milli, mm), mm)
+            read = np.where(places.numbers == 0, csv_files.numbers_of(recorder.columns["wall_mm"]), 99.0)
+            thinnest.append((int(millis[read.argmin()]), int(places.mm[read.argmin()])))
+        for one, mm in thinnest:
+            for other, place in thinnest:
+                self.assertLessEqual(abs(mm - place), fastest * abs(one - other) + 1)
+        rising = sorted(every.items())
+        for (one, mm), (other, place) in zip(rising, rising[1:]):
+            self.assertTrue(0 <= place - mm <= fastest * (other - one) + 1)
+
+    def test_picture_and_page(self):
+        """Well formed, by the data: the panel in metres, the markers, what has no place; the page's figures are the table's."""
+        done = run(*RUNS, PASSES, "-p", self.at / "p.svg", "-r", self.at / "p.html", "-o", self.at / "o.csv")
+        self.assertEqual((done.returncode, done.stderr), (0, b""))
+        self.assertEqual((self.at / "p.svg").read_bytes(), (PIPE.parent / "pipe.svg").read_bytes())
+        picture = xml.etree.ElementTree.parse(self.at / "p.svg").getroot()
+        kinds = [one.get("class") for one in picture.iter() if one.get("class")]
+        self.assertEqual([kinds.count(kind) for kind in ("readings", "marker", "refused", "outside the passes")], [3, 5, 3, 3])
+        said = [one.text for one in picture.iter() if one.tag.endswith("text")]
+        self.assertIn("metres along the pipe; markers are dotted lines", said)
+        self.assertIn("wall_mm, over metres along the pipe", said)
+        page = Page((self.at / "p.html").read_text())
+        self.assertEqual((page.wrong, page.links), ([], []))
+        self.assertEqual([row[2:6] for row in page.tables["runs"][1:]], [["500", "473", "2", "25"], ["400", "378", "2", "20"], ["200", "188", "2", "10"]])
+        self.assertIn("Reading 31 of the recorder gps has no place, by 18: number or GPS week is out of its range.", page.items)
+        self.assertIn("svg", page.tags)
+        self.assertIn("<path class=\"readings\"", (self.at / "p.html").read_text())
+
+    @unittest.skipUnless(BROWSER, "no chromium here: the page in metres is not opened in a browser")
+    def test_browser(self):
+        run(*RUNS, PASSES, "-r", self.at / "p.html")
+        words = ["--headless", "--no-sandbox", "--disable-gpu", f"--user-data-dir={self.at}/profile", "--dump-dom", f"file://{self.at}/p.html"]
+        done = subprocess.run([BROWSER, *words], capture_output=True, text=True, timeout=120)
+        self.assertIn("1039 of 1100 readings of 3 recorders placed", done.stdout)
+
+    def test_odd_pictures(self):
+        """Nothing placed, one reading, a column without numbers, no column: each has a picture that is well formed."""
+        for head, rows in (("time", ()), ("time", ("later",)), ("time,wall", ("2017-01-01T00:00:04,8.2",)), ("time,who", ("2017-01-01T00:00:04,me",)), ("time,wall", ("2017-01-01T00:00:04,", "x,5"))):
+            got = ct.place_files({"utc": text_file(head, *rows)}, marks())
+            xml.etree.ElementTree.fromstring(pipe_pictures.svg_of_places(got, pipe_pictures.drawn_column(got, got.names())))
+        for values in ([0.0], [1.0, 1.0], [-5.0, 1e6], [0.1, 0.2]):
+            axis = pipe_pictures.axis_of(np.array(values))
+            self.assertTrue(1 <= len(axis.ticks) <= 11 and all(axis.first <= tick <= axis.last for tick in axis.ticks), axis)
+
+    def test_wrong_words(self):
+        """Status 2 and a message for words and files that are not as they are due, 1 where passes or the table are refused; nothing is written then."""
+        bad = self.at / "bad.csv"
+        bad.write_text("time,metres\n2017-01-01T00:00:00Z,0\nnoon,5\n")
+        rows = self.at / "rows"
+        rows.write_text("2016-01 50\n")
+        for words, status, said in (
+            ([], 2, "no run is named"), (RUNS, 2, "no passes are named"), ([*RUNS, PASSES, PASSES], 2, "there twice"), ([*RUNS, PASSES, "ut1=x"], 2, "not understood"),
+            ([*RUNS, "passes=none.csv"], 2, "none.csv"), ([RUNS[0] + "x", PASSES], 2, "gps.csvx"), ([*RUNS, f"passes={PIPE}/gps.csv"], 2, "no column metres"),
+            ([f"utc={PIPE}/gps.csv", PASSES], 2, "no time of scale utc"), ([*RUNS, PASSES, "readings=speed"], 2, "no recorder has a column speed"), ([*RUNS, f"passes={bad}"], 1, "pass 1: refused 15"),
+            ([*RUNS, PASSES, f"table={rows}"], 1, "refused 21"), ([*RUNS, PASSES, "-o", self.at / "none" / "o.csv"], 2, "none/o.csv"), ([*RUNS, PASSES, "-p"], 2, "not understood"),
+        ):
+            done = run(*words)
+            self.assertEqual((done.returncode, done.stdout), (status, b""), words)
+            self.assertIn(said, done.stderr.decode(), words)
+            self.assertTrue(done.stderr.startswith(b"celestial_time: "))
+            self.assertNotIn(b"Traceback", done.stderr)
+        self.assertEqual(sorted(path.name for path in self.at.iterdir()), ["bad.csv", "rows"])
+
+    def test_help_and_rows(self):
+        """--help names the columns, and announced leap rows are read by."""
+        told = run("--help").stdout.decode()
+        for name in ("week, millisecond", "seconds", "time", "jd1, jd2", "metres or millimetres", "readings="):
+            self.assertIn(name, told)
+        rows = self.at / "rows"
+        rows.write_text("2027-01 38\n")
+        (self.at / "utc.csv").write_text("time\n2026-12-31T23:59:60.500Z\n")
+        (self.at / "passes.csv").write_text("time,metres\n2026-12-31T23:59:59Z,0\n2027-01-01T00:00:01Z,3\n")
+        told = [run(f"utc={self.at}/utc.csv", f"passes={self.at}/passes.csv", *more).stdout.decode().splitlines()[1] for more in ([f"table={rows}"], [])]
+        self.assertEqual([row.split(",")[3:5] for row in told], [["1.500", "0"], ["", "4"]])
+
+    def test_pipe_that_closes(self):
+        words = [sys.executable, "-m", "celestial_time", "place", *RUNS, PASSES]
+        one = subprocess.Popen(words, stdout=subprocess.PIPE, stderr=subprocess.PIPE, env={**os.environ, "PYTHONPATH": str(ROOT / "python")})
+        one.stdout.close()
+        self.assertEqual((one.stderr.read(), one.wait()), (b"", -signal.SIGPIPE))
+        one.stderr.close()
+
+    def test_ten_lines(self):
+        """The lines of the README run as they stand, and there are ten at the most."""
+        text = (ROOT / "python" / "README.md").read_text()
+        lines = re.search(r"in the folder python/examples/pipe:\n\n((?:    .*\n|\n)+?)\nwhich prints", text)[1].splitlines()
+        self.assertLessEqual(len(lines), 10)
+        program = "\n".join(line[4:] for line in lines)
+        if not importlib.util.find_spec("pandas"):
+            self.skipTest("the lines from files to a table are not run: no pandas here")
+        done = subprocess.run([sys.executable, "-c", program], cwd=PIPE, capture_output=True, text=True, env={**os.environ, "PYTHONPATH": str(ROOT / "python"), "TMPDIR": self.folder.name})
+        self.assertEqual((done.returncode, done.stderr), (0, ""))
+        self.assertEqual(done.stdout, re.search(r"which prints\n\n((?:    .*\n)+)", text)[1].replace("    ", "", 1).replace("\n    ", "\n"))
+
+
+if __name__ == "__main__":
+    unittest.main()
