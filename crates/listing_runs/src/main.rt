@@ -1,5 +1,5 @@
-// Lists the stamp blocks that are read from standard input, one after the other, each behind its length in four bytes. tests/listing/stored writes the input
-// and the listings that are due: a good block, an empty one, each refusal, and the longest.
+// Lists stamp blocks one after the other: they are read from standard input, each behind its length in four bytes. tests/listing/stored writes the input and
+// the listings that are due: a good block, an empty one, each refusal, and the longest.
 ghost use mathlib.Core.Path.{_≡_};
 ghost use lib.ListN.{length};
 

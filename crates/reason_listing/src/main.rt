@@ -1,4 +1,4 @@
-// Lists the stamp block that is read from standard input, with refusals reported in sentences: the second listing program. Proved here: the program is safe,
+// Lists the stamp block on standard input, with refusals in sentences: the second listing program. Proved here: the program is safe,
 // and ends where its input does. That the parts are the listing is a theorem (stamps::listing_laws); that they go out in order is tested by what the program
 // prints.
 ghost use mathlib.Core.Path.{_≡_};

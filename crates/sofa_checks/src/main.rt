@@ -1,5 +1,5 @@
-// SOFA's published check values, as ERFA's test program has them, executed over the C interface and compared within SOFA's tolerances. SOFA's status is the
-// sign of the code that a call returns.
+// SOFA's published check values, over the C interface: as ERFA's test program has them, compared within SOFA's tolerances. SOFA's status is the sign of the
+// code that a call returns.
 mod calendar_checks;
 mod scale_checks;
 mod tally;

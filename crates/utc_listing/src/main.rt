@@ -1,4 +1,4 @@
-// Lists the stamp block that is read from standard input, with refusals reported by number. Proved here: the program is safe and ends. That the parts are the
+// Lists the stamp block on standard input, with refusals by number. Proved here: the program is safe and ends. That the parts are the
 // listing is a theorem (stamps::listing_laws); that they go out in order is tested by what the program prints.
 ghost use mathlib.Core.Path.{_≡_};
 ghost use lib.ListN.{length};
