@@ -1,8 +1,8 @@
 // Every stamp's place in the listing: the ordered ones by their TAI, the others behind the last ordered one before them in their run.
 ghost use mathlib.Core.Path.{_≡_};
-ghost use mathlib.Core.List.{List, _∷_, _++_};
+ghost use mathlib.Core.List.{_∷_, _++_};
 ghost use lib.ListN.{length, take, drop};
-ghost use Prim.Native.Nat.{_≤_, _<_, _+_, _*_, suc};
+ghost use Prim.Native.Nat.{suc, _*_};
 ghost use Rattle.line_up.specs.LineUp as U;
 ghost use Rattle.line_up.specs.keep.Cells as C;
 ghost use Rattle.line_listing.specs.order.Order as O;

@@ -14,7 +14,7 @@ use Rattle.line_up.proofs.laws.Once.{any-default}
 use Rattle.line_listing.specs.order.Order.{behind, eachBehind, starts, lineOrder, runEnd}
 use Rattle.line_listing.specs.laws.Places.{upFrom, Run, run-1, run-2, run-3, DirectlyBehind, BeforeAll}
 use Rattle.line_listing.proofs.order.Segments.{behind-none, behind-cons}
-use Rattle.line_listing.proofs.order.Tiles.{up-append, end-1, end-2, end-3}
+use Rattle.line_listing.proofs.order.Tiles.{end-1, end-2, end-3}
 
 -- ---- a list at one of its places
 

@@ -1,5 +1,5 @@
 -- What is true of every listing's order that is not refused, and when a call is answered. Assumes nothing.
-use Prim.Native.Nat.{ℕ, zero, suc, _+_, _*_, _<_, _≤_}
+use Prim.Native.Nat.{ℕ, suc, _+_, _*_, _<_, _≤_}
 use native.Mathlib.Omega.{arith}
 use mathlib.Core.Path.{_≡_, refl, sym, ap, subst, _∙_}
 use mathlib.Core.Bool.{Bool, true, false, cond}
@@ -24,7 +24,6 @@ use Rattle.line_up.specs.keep.Cells.{cells}
 use Rattle.line_up.proofs.Places.{after-length}
 use Rattle.line_up.proofs.Testing.{tested-length}
 use Rattle.line_up.proofs.laws.Pairwise.{each-of-timesIn}
-use Rattle.line_up.proofs.laws.Theorems.{refused-line}
 use Rattle.line_up.proofs.laws.Due.{due-answered, answered-due, none-refused}
 use Rattle.line_up.proofs.laws.Written.{place-back, listed-stamp}
 use Rattle.line_listing.specs.order.Order.{lineOrder, orderWritten, putInOrder, linesInOrder}

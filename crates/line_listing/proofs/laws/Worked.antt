@@ -1,7 +1,6 @@
 -- Small runs, worked out: the numbers after the lining up, the ends of the runs, the ordered places. Assumes nothing.
-use Prim.Native.Nat.{ℕ}
 use mathlib.Core.Path.{_≡_, refl}
-use mathlib.Core.List.{List, [], _∷_}
+use mathlib.Core.List.{[], _∷_}
 use Rattle.line_listing.specs.order.Order.{untilZero, eachBehind, starts, lineOrder}
 
 -- refused at the start, in the middle and at the end of a run

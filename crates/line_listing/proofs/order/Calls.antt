@@ -7,8 +7,8 @@ use mathlib.Core.List.{List, [], _∷_, _++_}
 use lib.ListN.{length, take, drop}
 use lib.Seq.{drop-at}
 use borrow.Author.Tests.{ne-eqb}
-use Rattle.refusals.specs.Outcome.{answer, refusal}
-use Rattle.numerals.specs.little_endian.LittleEndian.{u32At, fourAt, fourBytes}
+use Rattle.refusals.specs.Outcome.{answer}
+use Rattle.numerals.specs.little_endian.LittleEndian.{u32At, fourAt}
 use Rattle.numerals.proofs.little_endian.RoundTrip.{read-written-4}
 use Rattle.line_up.specs.declared.LineUpAnswer.{LineUpAnswer}
 use Rattle.line_up.specs.declared.LineUpAnswer.the-variants.{Ordered, Refused}

@@ -5,7 +5,7 @@ use mathlib.Core.List.{List, [], _∷_, _++_}
 use lib.ListN.{length, take, drop}
 use Rattle.line_up.specs.keep.Cells.{cells}
 use Rattle.line_up.specs.LineUp.{placesBytes}
-use Rattle.line_listing.specs.order.Order.{behind, starts, lineOrder, runEnd}
+use Rattle.line_listing.specs.order.Order.{behind, starts, lineOrder}
 
 -- the places ps are written from place k on, up to r, and all else stays
 pub record Put (out out' : List ℕ) (k : ℕ) (ps : List ℕ) (r : ℕ) : Type 0 where

@@ -2,7 +2,7 @@
 use Prim.Native.Nat.{_-_}
 use native.Mathlib.Omega.{arith}
 use mathlib.Core.Path.{_∙_}
-use lib.ListN.{length, take}
+use lib.ListN.{take}
 use borrow.Author.Needs.{needs}
 use Rattle.line_up.specs.keep.Cells.{cells}
 use Rattle.line_listing.proofs.order.Loops.{Listing, starts-fit, listing-starts, one-fits, listing-goes, listing-ends}

@@ -1,5 +1,4 @@
 -- `line_listing::order::put_one` meets its contract. Assumes nothing.
-use native.Mathlib.Omega.{arith}
 use borrow.Author.Needs.{needs}
 use Rattle.line_listing.proofs.order.Loops.{one-behind, one-ends}
 use Rattle.line_listing.proofs.order.put_one.Statement.{statement}
