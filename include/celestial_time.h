@@ -215,6 +215,21 @@ int64_t ct_line_up(const uint8_t *jd1, size_t jd1_len, const uint8_t *jd2, size_
                    size_t numbers_len, uint64_t first_count, uint64_t second_count, uint8_t *out,
                    size_t out_len, uint8_t *tails, size_t tails_len, uint8_t *ranks, size_t ranks_len);
 
+/* The order of a listing that has a line for every stamp, as that of the program line_up. Arguments, numbers,
+   answer and refusals are those of ct_line_up: 14, 12, 14, 13 and 11, the last for fewer than 4 bytes a stamp
+   in order, work1 or work2. order gets the places of all stamps, 4 bytes each: first those that are not ordered
+   and have no ordered stamp before them in their run, by run and then by place; then the ordered ones as
+   ct_line_up has them, and directly behind each the stamps of its run that follow it, up to the next ordered
+   one or to the end of the run. So every stamp has one line, and those of a run are in its order. What lies
+   behind the places stays; what is left in work1 and work2 means nothing. A refused call writes neither numbers
+   nor order. Of a run of three stamps, 2451545.0, 2451546.0 and 2451545.5, and a run of one, 2451545.25, the
+   second of the first gets 17 and stands behind place 0: it is 3, and order has 0, 1, 3, 2; with first_count 5
+   it is 14. */
+int64_t ct_lines_in_order(const uint8_t *jd1, size_t jd1_len, const uint8_t *jd2, size_t jd2_len,
+                          uint8_t *numbers, size_t numbers_len, uint64_t first_count, uint64_t second_count,
+                          uint8_t *order, size_t order_len, uint8_t *work1, size_t work1_len, uint8_t *work2,
+                          size_t work2_len);
+
 /* The days from the other date to this, rounded. With parts under 2^52 in size never of the wrong sign,
    but 0.0 also for some dates that differ, the further apart the larger their parts: (2457754.5, 0.0) and
    (2^-32, 2457754.5) are 20 microseconds apart, (2^51, 2457754.5 - 2^51) and (0.1, 2457754.5) 8,640 s. So

@@ -55,6 +55,10 @@ calls! {
         jd1: &[u8], jd2: &[u8], numbers: &mut [u8], first_count: u64, second_count: u64, out: &mut [u8],
         tails: &mut [u8], ranks: &mut [u8]
     ) -> i64;
+    fn ct_lines_in_order(
+        jd1: &[u8], jd2: &[u8], numbers: &mut [u8], first_count: u64, second_count: u64, order: &mut [u8],
+        work1: &mut [u8], work2: &mut [u8]
+    ) -> i64;
 
     fn ct_check_table(table: &[u8]) -> i64;
     fn ct_get_tai_utc_offset(

@@ -199,3 +199,35 @@ pub fn line_up(stamps: Stamps<TAI>, numbers: &mut [u8], first_count: u64, second
     places.truncate(ordered as usize);
     Ok(places)
 }
+
+/// The places of all stamps in the order of a listing that has a line for each, as that of the program line_up: arguments,
+/// numbers and refusals are those of [`line_up`]. First come those that are not ordered and have no ordered stamp before
+/// them in their run, by run and then by place; then the ordered ones, and directly behind each the stamps of its run that
+/// follow it, up to the next ordered one.
+///
+/// ```
+/// use celestial_time_proved::runs::{lines_in_order, Stamps};
+/// let mut numbers = [0; 4];
+/// let order = lines_in_order(Stamps::new(&[2451545.0, 2451546.0, 2451545.5, 2451545.25], &[0.0; 4]), &mut numbers, 3, 1);
+/// assert_eq!(order, Ok(vec![0, 1, 3, 2]));
+/// assert_eq!(numbers, [0, 17, 0, 0]);
+/// ```
+pub fn lines_in_order(
+    stamps: Stamps<TAI>,
+    numbers: &mut [u8],
+    first_count: u64,
+    second_count: u64,
+) -> TimeResult<Vec<u32>> {
+    let [mut order, mut work1, mut work2] = [(); 3].map(|()| vec![0_u32; numbers.len()]);
+    judged(ffi::ct_lines_in_order(
+        bytes(stamps.jd1),
+        bytes(stamps.jd2),
+        numbers,
+        first_count,
+        second_count,
+        bytes_mut(&mut order),
+        bytes_mut(&mut work1),
+        bytes_mut(&mut work2),
+    ))?;
+    Ok(order)
+}

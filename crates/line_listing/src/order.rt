@@ -24,7 +24,7 @@ fn run_end(end1: usize, end2: usize, n: usize, p: usize) -> usize
 // Writes the places from `from` up to the first ordered one, or up to `to`, from place k of `out` on; the answer is the place behind them.
 fn put_behind(numbers: &[u8], from: usize, to: usize, out: &mut [u8], k: usize) -> usize
     requires { ⌜ N.Puttable (now numbers) from to (now out) k ⌝ }
-    ensures { λ r. ⌜ N.Put (now (out .entry)) (now (out .exit)) k (O.behind (now (numbers .entry)) from to) r ⌝ }
+    ensures { λ r. ⌜ N.PlacesPut (now (out .entry)) (now (out .exit)) k (O.behind (now (numbers .entry)) from to) r ⌝ }
 {
     let mut i = from;
     let mut at = k;
@@ -42,7 +42,7 @@ fn put_behind(numbers: &[u8], from: usize, to: usize, out: &mut [u8], k: usize) 
 // Writes place p and those behind it, up to the next ordered one of its run, which ends at `to`.
 fn put_one(numbers: &[u8], p: usize, to: usize, out: &mut [u8], k: usize) -> usize
     requires { ⌜ N.OnePuttable (now numbers) p to (now out) k ⌝ }
-    ensures { λ r. ⌜ N.Put (now (out .entry)) (now (out .exit)) k (p ∷ O.behind (now (numbers .entry)) (suc p) to) r ⌝ }
+    ensures { λ r. ⌜ N.PlacesPut (now (out .entry)) (now (out .exit)) k (p ∷ O.behind (now (numbers .entry)) (suc p) to) r ⌝ }
 {
     numerals::little_endian::put_nth_u32(out, k, p as u32);
     put_behind(numbers, p + 1, to, out, k + 1)
@@ -51,7 +51,7 @@ fn put_one(numbers: &[u8], p: usize, to: usize, out: &mut [u8], k: usize) -> usi
 // Writes the places that have no ordered one before them in their run.
 fn put_starts(numbers: &[u8], end1: usize, end2: usize, out: &mut [u8]) -> usize
     requires { ⌜ N.StartsPuttable (now numbers) end1 end2 (now out) ⌝ }
-    ensures { λ r. ⌜ N.Put (now (out .entry)) (now (out .exit)) 0 (O.starts (now (numbers .entry)) end1 end2) r ⌝ }
+    ensures { λ r. ⌜ N.PlacesPut (now (out .entry)) (now (out .exit)) 0 (O.runStarts (now (numbers .entry)) end1 end2) r ⌝ }
 {
     let n = numbers.len();
     let k = put_behind(numbers, 0, end1, out, 0);

@@ -12,7 +12,7 @@ use Rattle.line_up.specs.laws.Claims.{Each}
 use Rattle.line_up.proofs.Places.{place-timesIn}
 use Rattle.line_up.proofs.laws.Once.{any-default}
 use Rattle.line_up.proofs.laws.Pairwise.{each-of-timesIn}
-use Rattle.line_listing.specs.order.Order.{behind, eachBehind, starts, lineOrder, runEnd}
+use Rattle.line_listing.specs.order.Order.{behind, eachBehind, runStarts, lineOrder, runEnd}
 use Rattle.line_listing.specs.laws.Places.{upFrom, only, Run, run-1, run-2, run-3, inRun, isOrdered}
 use Rattle.line_listing.proofs.order.Segments.{behind-none, behind-cons}
 use Rattle.line_listing.proofs.order.Tiles.{tile-1, tile-2, tile-3}
@@ -139,7 +139,7 @@ module _ (lt : ℕ → ℕ → Bool) (ms : List ℕ) (a b : ℕ) (ab : a ≤ b) 
 
     parts : only t (lineOrder ms a b (ordered lt ms a b n))
         ≡ (only t (behind ms 0 a) ++ (only t (behind ms a b) ++ only t (behind ms b n))) ++ flat f (merge lt (merge lt A1 A2) A3)
-    unfolding lineOrder starts ordered
+    unfolding lineOrder runStarts ordered
     parts =
         only-append t (behind ms 0 a ++ (behind ms a b ++ behind ms b n)) (eachBehind ms end (merge lt (merge lt A1 A2) A3))
         ∙ (λ i.
@@ -264,7 +264,7 @@ module _ (lt : ℕ → ℕ → Bool) (ms : List ℕ) (a b : ℕ) (ab : a ≤ b) 
       rw (e .0) (λ i. p ∷ (none-ordered (suc p) (end p) (end-fits p) i ++ one-each ps (e .1) i))
 
   pub ordered-lines : only (isOrdered ms) (lineOrder ms a b (ordered lt ms a b n)) ≡ ordered lt ms a b n
-  unfolding lineOrder starts
+  unfolding lineOrder runStarts
   ordered-lines =
       let t = isOrdered ms in
       only-append t (behind ms 0 a ++ (behind ms a b ++ behind ms b n)) (eachBehind ms end (ordered lt ms a b n))

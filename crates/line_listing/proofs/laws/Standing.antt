@@ -11,7 +11,7 @@ use Rattle.line_up.specs.Runs.{ordered, timesIn}
 use Rattle.line_up.specs.laws.Claims.{Each}
 use Rattle.line_up.proofs.Places.{place-timesIn}
 use Rattle.line_up.proofs.laws.Once.{any-default}
-use Rattle.line_listing.specs.order.Order.{behind, eachBehind, starts, lineOrder, runEnd}
+use Rattle.line_listing.specs.order.Order.{behind, eachBehind, runStarts, lineOrder, runEnd}
 use Rattle.line_listing.specs.laws.Places.{upFrom, Run, run-1, run-2, run-3, DirectlyBehind, BeforeAll}
 use Rattle.line_listing.proofs.order.Segments.{behind-none, behind-cons}
 use Rattle.line_listing.proofs.order.Tiles.{end-1, end-2, end-3}
@@ -121,13 +121,13 @@ module _ (lt : ℕ → ℕ → Bool) (ms : List ℕ) (a b : ℕ) (ab : a ≤ b) 
       ap (behind ms (suc p)) (run-ends from to r p l (omega arith))
       ∙ behind-run ms to tn d (suc p) (omega arith) (λ x u v. k x (omega arith) (omega arith)) in
       record {
-        before = starts ms a b ++ each (s .before);
+        before = runStarts ms a b ++ each (s .before);
         after = rest ++ each (s .after);
-        whole = ap (λ (x : List ℕ). starts ms a b ++ x)
+        whole = ap (λ (x : List ℕ). runStarts ms a b ++ x)
             (ap each (s .whole) ∙ each-append ms end (s .before) (p ∷ s .after)
             ∙ ap (λ (x : List ℕ). each (s .before) ++ (p ∷ (x ++ each (s .after)))) f
             ∙ ap (λ (x : List ℕ). each (s .before) ++ (p ∷ x)) (append-assoc (upFrom (suc p) d) rest (each (s .after))))
-            ∙ sym (append-assoc (starts ms a b) (each (s .before)) (p ∷ (upFrom (suc p) d ++ (rest ++ each (s .after)))));
+            ∙ sym (append-assoc (runStarts ms a b) (each (s .before)) (p ∷ (upFrom (suc p) d ++ (rest ++ each (s .after)))));
       }
 
   -- what stands before the first ordered place of a run has q behind its smaller places
@@ -146,7 +146,7 @@ module _ (lt : ℕ → ℕ → Bool) (ms : List ℕ) (a b : ℕ) (ab : a ≤ b) 
 
     -- the lines, with q in one of the three starts
     placed : (xs rest : List ℕ) → Each (Unordered ms q) xs
-        → starts ms a b ≡ xs ++ (q ∷ rest) → BeforeAll ms (lineOrder ms a b line) q
+        → runStarts ms a b ≡ xs ++ (q ∷ rest) → BeforeAll ms (lineOrder ms a b line) q
     unfolding lineOrder
     placed xs rest e w = record {
       before = xs;
@@ -158,7 +158,7 @@ module _ (lt : ℕ → ℕ → Bool) (ms : List ℕ) (a b : ℕ) (ab : a ≤ b) 
     -- BEFORE ALL ORDERED STAMPS where there is none before it in its run
     pub stands-first : (from to : ℕ) → Run a b n from to → from ≤ q → q < to → ((x : ℕ) → from ≤ x → x ≤ q → getD ms x 0 ≡ 0 → ⊥)
         → BeforeAll ms (lineOrder ms a b line) q
-    unfolding starts
+    unfolding runStarts
     stands-first from to run-1 l h k =
         let u = upFrom 0 (q - 0) in
         let r = behind ms (suc q) a in

@@ -14,8 +14,8 @@ use Rattle.numerals.proofs.little_endian.Puts.{put-32-is}
 use Rattle.line_up.specs.keep.Cells.{cells}
 use Rattle.line_up.proofs.keep.Cells.{cells-at, cells-put, length-low}
 use Rattle.line_up.specs.LineUp.{placesBytes}
-use Rattle.line_listing.specs.order.Order.{behind, eachBehind, starts, lineOrder, runEnd}
-use Rattle.line_listing.specs.order.Asked.{Put, Puttable, Below, Listable, Copyable, OnePuttable, StartsPuttable}
+use Rattle.line_listing.specs.order.Order.{behind, eachBehind, runStarts, lineOrder, runEnd}
+use Rattle.line_listing.specs.order.Asked.{PlacesPut, Puttable, Below, Listable, Copyable, OnePuttable, StartsPuttable}
 use Rattle.line_listing.proofs.order.Segments.{behind-none, behind-cons}
 use Rattle.line_listing.proofs.order.Puts.{put-none, put-then, put-place}
 
@@ -24,7 +24,7 @@ use Rattle.line_listing.proofs.order.Puts.{put-none, put-then, put-plac
 -- those before i are written
 pub record Putting (ms : List ℕ) (from to : ℕ) (out₀ : List ℕ) (k : ℕ) (out : List ℕ) (i at : ℕ) : Type 0 where
   pub done : List ℕ
-  pub put : Put out₀ out k done at
+  pub put : PlacesPut out₀ out k done at
   pub left : done ++ behind ms i to ≡ behind ms from to
 
 pub putting-starts : (ms : List ℕ) (from to : ℕ) (out : List ℕ) (k : ℕ) → Putting ms from to out k out from k
@@ -32,15 +32,15 @@ putting-starts ms from to out k = record { done = []; put = put-none out k; left
 
 module _ (ms : List ℕ) (from to : ℕ) (out₀ : List ℕ) (k : ℕ) (pre : Puttable ms from to out₀ k) (out : List ℕ) (i at : ℕ)
     (p : Putting ms from to out₀ k out i at) where
-  all-done : behind ms i to ≡ [] → Put out₀ out k (behind ms from to) at
+  all-done : behind ms i to ≡ [] → PlacesPut out₀ out k (behind ms from to) at
   all-done e =
       let w : p .done ≡ behind ms from to = sym (append-nil (p .done)) ∙ ap (λ (l : List ℕ). p .done ++ l) (sym e) ∙ p .left in
-      subst (λ (l : List ℕ). Put out₀ out k l at) w (p .put)
+      subst (λ (l : List ℕ). PlacesPut out₀ out k l at) w (p .put)
 
-  pub putting-found : i < to → getD ms i 0 ≡ 0 → Put out₀ out k (behind ms from to) at
+  pub putting-found : i < to → getD ms i 0 ≡ 0 → PlacesPut out₀ out k (behind ms from to) at
   putting-found h e = all-done (behind-cons ms to (pre .high) i h ∙ rw (eq-eqb (getD ms i 0) 0 e))
 
-  pub putting-ends : to ≤ i → Put out₀ out k (behind ms from to) at
+  pub putting-ends : to ≤ i → PlacesPut out₀ out k (behind ms from to) at
   putting-ends h = all-done (behind-none ms to (pre .high) i h)
 
   module _ (h : i < to) (e : getD ms i 0 ≡ 0 → ⊥) where
@@ -62,7 +62,7 @@ module _ (ms : List ℕ) (from to : ℕ) (out₀ : List ℕ) (k : ℕ) (pre : Pu
 -- ---- a place and those behind it
 
 module _ (ms : List ℕ) (p to : ℕ) (out : List ℕ) (k : ℕ) (pre : OnePuttable ms p to out k) (out' : List ℕ) (w : out' ≡ withNth32 out k p) where
-  first-put : Put out out' k (p ∷ []) (k + 1)
+  first-put : PlacesPut out out' k (p ∷ []) (k + 1)
   first-put = put-place out out' k p (omega (arith, pre .room)) w
 
   pub one-behind : Puttable ms (p + 1) to out' (k + 1)
@@ -72,27 +72,27 @@ module _ (ms : List ℕ) (p to : ℕ) (out : List ℕ) (k : ℕ) (pre : OnePutta
     room = omega (arith, pre .room, first-put .len, ap (λ (j : ℕ). length (behind ms j to)) (add-one p));
   }
 
-  pub one-ends : (out'' : List ℕ) (r : ℕ) → Put out' out'' (k + 1) (behind ms (p + 1) to) r → Put out out'' k (p ∷ behind ms (suc p) to) r
+  pub one-ends : (out'' : List ℕ) (r : ℕ) → PlacesPut out' out'' (k + 1) (behind ms (p + 1) to) r → PlacesPut out out'' k (p ∷ behind ms (suc p) to) r
   one-ends out'' r q =
       put-then out out' out'' (p ∷ []) (behind ms (suc p) to) k (k + 1) r first-put
-      (subst (λ (j : ℕ). Put out' out'' (k + 1) (behind ms j to) r) (add-one p) q)
+      (subst (λ (j : ℕ). PlacesPut out' out'' (k + 1) (behind ms j to) r) (add-one p) q)
 
 -- ---- the places that have no ordered one before them
 
 module _ (ms : List ℕ) (end1 end2 : ℕ) (out : List ℕ) (pre : StartsPuttable ms end1 end2 out) where
-  starts-long : length (starts ms end1 end2) ≡ length (behind ms 0 end1) + (length (behind ms end1 end2) + length (behind ms end2 (length ms)))
-  unfolding starts
+  starts-long : length (runStarts ms end1 end2) ≡ length (behind ms 0 end1) + (length (behind ms end1 end2) + length (behind ms end2 (length ms)))
+  unfolding runStarts
   starts-long = length-append (behind ms 0 end1) (behind ms end1 end2 ++ behind ms end2 (length ms))
       ∙ ap (λ (n : ℕ). length (behind ms 0 end1) + n) (length-append (behind ms end1 end2) (behind ms end2 (length ms)))
 
   pub start-1 : Puttable ms 0 end1 out 0
   start-1 = record { high = omega (arith, pre .low, pre .high); small = pre .small; room = omega (arith, pre .room, starts-long) }
 
-  module _ (out1 : List ℕ) (k : ℕ) (put1 : Put out out1 0 (behind ms 0 end1) k) where
+  module _ (out1 : List ℕ) (k : ℕ) (put1 : PlacesPut out out1 0 (behind ms 0 end1) k) where
     pub start-2 : Puttable ms end1 end2 out1 k
     start-2 = record { high = pre .high; small = pre .small; room = omega (arith, pre .room, starts-long, put1 .len, put1 .many) }
 
-    module _ (out2 : List ℕ) (m : ℕ) (put2 : Put out1 out2 k (behind ms end1 end2) m) where
+    module _ (out2 : List ℕ) (m : ℕ) (put2 : PlacesPut out1 out2 k (behind ms end1 end2) m) where
       pub start-3 : Puttable ms end2 (length ms) out2 m
       start-3 = record {
         high = omega arith;
@@ -100,8 +100,8 @@ module _ (ms : List ℕ) (end1 end2 : ℕ) (out : List ℕ) (pre : StartsPuttabl
         room = omega (arith, pre .room, starts-long, put1 .len, put1 .many, put2 .len, put2 .many);
       }
 
-      pub starts-end : (out3 : List ℕ) (r : ℕ) → Put out2 out3 m (behind ms end2 (length ms)) r → Put out out3 0 (starts ms end1 end2) r
-      unfolding starts
+      pub starts-end : (out3 : List ℕ) (r : ℕ) → PlacesPut out2 out3 m (behind ms end2 (length ms)) r → PlacesPut out out3 0 (runStarts ms end1 end2) r
+      unfolding runStarts
       starts-end out3 r put3 =
           put-then out out1 out3 (behind ms 0 end1) (behind ms end1 end2 ++ behind ms end2 (length ms)) 0 k r put1
           (put-then out1 out2 out3 (behind ms end1 end2) (behind ms end2 (length ms)) k m r put2 put3)
@@ -116,7 +116,7 @@ below-at n (x ∷ xs) b (suc i) h = below-at n xs (b .1) i (omega arith)
 -- the lines of the first j ordered places are written, from place k₀ on
 pub record Listing (ms : List ℕ) (end1 end2 : ℕ) (line out₀ : List ℕ) (k₀ : ℕ) (out : List ℕ) (k j : ℕ) : Type 0 where
   pub done : List ℕ
-  pub put : Put out₀ out k₀ done k
+  pub put : PlacesPut out₀ out k₀ done k
   pub left : done ++ eachBehind ms (runEnd end1 end2 (length ms)) (drop j line) ≡ eachBehind ms (runEnd end1 end2 (length ms)) line
 
 pub listing-starts : (ms : List ℕ) (end1 end2 : ℕ) (line out : List ℕ) (k : ℕ) → Listing ms end1 end2 line out k out k 0
@@ -132,14 +132,14 @@ module _ (ms : List ℕ) (end1 end2 : ℕ) (places : List ℕ) (many : ℕ) (out
   abbrev each : List ℕ → List ℕ
   each l = eachBehind ms (runEnd end1 end2 (length ms)) l
 
-  whole-long : length (starts ms end1 end2) + length (each line) ≡ length ms
+  whole-long : length (runStarts ms end1 end2) + length (each line) ≡ length ms
   unfolding lineOrder
-  whole-long = omega (arith, pre .whole, length-append (starts ms end1 end2) (each line))
+  whole-long = omega (arith, pre .whole, length-append (runStarts ms end1 end2) (each line))
 
   pub starts-fit : StartsPuttable ms end1 end2 out₀
   starts-fit = record { low = pre .low; high = pre .high; small = pre .small; room = omega (arith, pre .room, whole-long) }
 
-  module _ (out1 : List ℕ) (k₀ : ℕ) (put0 : Put out₀ out1 0 (starts ms end1 end2) k₀) (out : List ℕ) (k j : ℕ)
+  module _ (out1 : List ℕ) (k₀ : ℕ) (put0 : PlacesPut out₀ out1 0 (runStarts ms end1 end2) k₀) (out : List ℕ) (k j : ℕ)
       (l : Listing ms end1 end2 line out1 k₀ out k j) where
     module _ (h : j < many) (p : ℕ) (e : p ≡ u32At places (4 * j)) (to : ℕ) (q : to ≡ runEnd end1 end2 (length ms) p) where
       place-is : p ≡ getD line j 0
@@ -185,7 +185,7 @@ module _ (ms : List ℕ) (end1 end2 : ℕ) (places : List ℕ) (many : ℕ) (out
             );
       }
 
-      pub listing-goes : (out' : List ℕ) (k' : ℕ) → Put out out' k (p ∷ behind ms (suc p) to) k' → Listing ms end1 end2 line out1 k₀ out' k' (j + 1)
+      pub listing-goes : (out' : List ℕ) (k' : ℕ) → PlacesPut out out' k (p ∷ behind ms (suc p) to) k' → Listing ms end1 end2 line out1 k₀ out' k' (j + 1)
       listing-goes out' k' w = record {
         done = l .done ++ (p ∷ behind ms (suc p) to);
         put = put-then out1 out out' (l .done) (p ∷ behind ms (suc p) to) k₀ k k' (l .put) w;
@@ -194,12 +194,12 @@ module _ (ms : List ℕ) (end1 end2 : ℕ) (places : List ℕ) (many : ℕ) (out
       }
 
     -- the lines behind those of the starts
-    both-put : many ≤ j → Put out₀ out 0 (lineOrder ms end1 end2 line) k
+    both-put : many ≤ j → PlacesPut out₀ out 0 (lineOrder ms end1 end2 line) k
     unfolding lineOrder eachBehind
     both-put h =
         let z : drop j line ≡ [] = drop-of-length-le line {i = j} (omega (arith, line-long)) in
         let w : l .done ≡ each line = sym (append-nil (l .done)) ∙ ap (λ (x : List ℕ). l .done ++ each x) (sym z) ∙ l .left in
-        put-then out₀ out1 out (starts ms end1 end2) (each line) 0 k₀ k put0 (subst (λ (x : List ℕ). Put out1 out k₀ x k) w (l .put))
+        put-then out₀ out1 out (runStarts ms end1 end2) (each line) 0 k₀ k put0 (subst (λ (x : List ℕ). PlacesPut out1 out k₀ x k) w (l .put))
 
     pub listing-ends : many ≤ j → out ≡ placesBytes (lineOrder ms end1 end2 line) ++ drop (4 * length ms) out₀
     listing-ends h =

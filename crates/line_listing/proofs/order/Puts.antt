@@ -10,7 +10,7 @@ use Rattle.numerals.proofs.little_endian.Puts.{put-32-is}
 use Rattle.line_up.specs.LineUp.{placesBytes}
 use Rattle.line_up.proofs.Lines.{drop-later}
 use Rattle.line_up.proofs.Merging.{put-take, put-drop}
-use Rattle.line_listing.specs.order.Asked.{Put}
+use Rattle.line_listing.specs.order.Asked.{PlacesPut}
 
 pub places-append : (xs ys : List ℕ) → placesBytes (xs ++ ys) ≡ placesBytes xs ++ placesBytes ys
 unfolding placesBytes
@@ -22,11 +22,11 @@ unfolding placesBytes
 places-long [] = refl
 places-long (p ∷ ps) = omega (arith, length-append (fourBytes p) (placesBytes ps), places-long ps)
 
-pub put-none : (out : List ℕ) (k : ℕ) → Put out out k [] k
+pub put-none : (out : List ℕ) (k : ℕ) → PlacesPut out out k [] k
 unfolding placesBytes
 put-none out k = record { len = refl; many = omega arith; written = sym (append-nil (take (4 * k) out)); rest = refl }
 
-pub put-then : (out out' out'' xs ys : List ℕ) (k r s : ℕ) → Put out out' k xs r → Put out' out'' r ys s → Put out out'' k (xs ++ ys) s
+pub put-then : (out out' out'' xs ys : List ℕ) (k r s : ℕ) → PlacesPut out out' k xs r → PlacesPut out' out'' r ys s → PlacesPut out out'' k (xs ++ ys) s
 put-then out out' out'' xs ys k r s p q = record {
   len = q .len ∙ p .len;
   many = omega (arith, p .many, q .many, length-append xs ys);
@@ -35,7 +35,7 @@ put-then out out' out'' xs ys k r s p q = record {
   rest = q .rest ∙ drop-later (4 * r) (4 * s) out' out (omega (arith, q .many)) (p .rest);
 }
 
-pub put-place : (out out' : List ℕ) (k p : ℕ) → 4 * k + 4 ≤ length out → out' ≡ withNth32 out k p → Put out out' k (p ∷ []) (k + 1)
+pub put-place : (out out' : List ℕ) (k p : ℕ) → 4 * k + 4 ≤ length out → out' ≡ withNth32 out k p → PlacesPut out out' k (p ∷ []) (k + 1)
 unfolding placesBytes
 put-place out out' k p h e =
     let w : out' ≡ sets out (4 * k) (fourBytes p) = e ∙ put-32-is out k p h in

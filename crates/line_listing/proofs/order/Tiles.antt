@@ -12,7 +12,7 @@ use Rattle.line_up.specs.Runs.{acceptedIn, into, merge, ordered, once, timesIn}
 use Rattle.line_up.proofs.Cursors.{acceptedIn-none, acceptedIn-cons}
 use Rattle.line_up.proofs.Merges.{From}
 use Rattle.line_up.proofs.Zeros.{timesIn-below, from-less}
-use Rattle.line_listing.specs.order.Order.{behind, eachBehind, starts, lineOrder, runEnd}
+use Rattle.line_listing.specs.order.Order.{behind, eachBehind, runStarts, lineOrder, runEnd}
 use Rattle.line_listing.specs.laws.Places.{upFrom}
 use Rattle.line_listing.proofs.order.Segments.{behind-none, behind-cons}
 
@@ -166,7 +166,7 @@ module _ (lt : ℕ → ℕ → Bool) (ms : List ℕ) (a b : ℕ) (ab : a ≤ b) 
 
   -- any sum over the lines is the sum over all places
   pub whole-weigh : (w : ℕ → ℕ) → weigh w all ≡ weigh w (upFrom 0 (length ms))
-  unfolding lineOrder starts ordered
+  unfolding lineOrder runStarts ordered
   whole-weigh w =
       let n = length ms in
       let x1 = acceptedIn ms 0 a in

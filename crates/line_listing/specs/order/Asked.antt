@@ -5,10 +5,10 @@ use mathlib.Core.List.{List, [], _∷_, _++_}
 use lib.ListN.{length, take, drop}
 use Rattle.line_up.specs.keep.Cells.{cells}
 use Rattle.line_up.specs.LineUp.{placesBytes}
-use Rattle.line_listing.specs.order.Order.{behind, starts, lineOrder}
+use Rattle.line_listing.specs.order.Order.{behind, runStarts, lineOrder}
 
 -- the places ps are written from place k on, up to r, and all else stays
-pub record Put (out out' : List ℕ) (k : ℕ) (ps : List ℕ) (r : ℕ) : Type 0 where
+pub record PlacesPut (out out' : List ℕ) (k : ℕ) (ps : List ℕ) (r : ℕ) : Type 0 where
   pub len : length out' ≡ length out
   pub many : r ≡ k + length ps
   pub written : take (4 * r) out' ≡ take (4 * k) out ++ placesBytes ps
@@ -30,7 +30,7 @@ pub record StartsPuttable (ms : List ℕ) (end1 end2 : ℕ) (out : List ℕ) : T
   pub low : end1 ≤ end2
   pub high : end2 ≤ length ms
   pub small : length ms ≤ 4294967295
-  pub room : 4 * length (starts ms end1 end2) ≤ length out
+  pub room : 4 * length (runStarts ms end1 end2) ≤ length out
 
 -- both areas have `many` cells
 pub record Copyable (from to : List ℕ) (many : ℕ) : Type 0 where

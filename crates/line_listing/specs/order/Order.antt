@@ -32,12 +32,12 @@ eachBehind ms end [] = []
 eachBehind ms end (p ∷ ps) = (p ∷ behind ms (suc p) (end p)) ++ eachBehind ms end ps
 
 -- the places that have no ordered one before them in their run
-unfoldable pub starts : List ℕ → ℕ → ℕ → List ℕ
-starts ms a b = behind ms 0 a ++ (behind ms a b ++ behind ms b (length ms))
+unfoldable pub runStarts : List ℕ → ℕ → ℕ → List ℕ
+runStarts ms a b = behind ms 0 a ++ (behind ms a b ++ behind ms b (length ms))
 
 -- THE ORDER: with the ordered places in `line`
 unfoldable pub lineOrder : List ℕ → ℕ → ℕ → List ℕ → List ℕ
-lineOrder ms a b line = starts ms a b ++ eachBehind ms (runEnd a b (length ms)) line
+lineOrder ms a b line = runStarts ms a b ++ eachBehind ms (runEnd a b (length ms)) line
 
 -- ---- the call
 
