@@ -9,6 +9,7 @@ pub mod Call
 pub mod Cases
 pub mod Written
 pub mod Blocks
+pub mod Slopes
 pub mod Readings
 pub mod ListedReadings
 pub mod PlacesCases

@@ -27,6 +27,8 @@ use Rattle.ticks.proofs.places.Puts.{is-kept, is-outside, is-placed, pl
 use Rattle.ticks.specs.laws.Sound.{Sound, Inside, JustBelow}
 use Rattle.ticks.specs.laws.Reasons.{WholeLists, HasPlaces, UsablePasses, RisingPasses}
 use Rattle.ticks.specs.laws.Readings.{notZeros, NumberEach, PlacedExactlyWhen, ReadingNumber, HasPlace, ReadingsRight, ReadingsMeaning}
+use Rattle.ticks.specs.laws.Slopes.{SlopeAtMost, NearExact, ReadingsNear}
+use Rattle.ticks.proofs.laws.Slopes.{near-exact, near-each-other}
 use Rattle.ticks.proofs.laws.Tests.{whole-test, usable-test, rising-test, sound-by}
 use Rattle.ticks.proofs.laws.Steps.{Apart, Steps, steps, through}
 use Rattle.ticks.proofs.laws.Laws.{on-line, at-a-pass, never-earlier, just-below}
@@ -269,3 +271,21 @@ module _ (ps ls ms ns before ns' after : List ℕ) (r : PlacesAnswer) (call : pl
 
       count : (n : ℕ) → r ≡ Written n → k ≡ 0 → n ≡ notZeros ns'
       count n e z = let w : Written n ≡ Written (notZeros ns') = sym e ∙ answered z in cc
+
+  -- over both steps, where the passes are nowhere steeper than rise / run
+  pub readings-near : (n : ℕ) → r ≡ Written n → (rise run : ℕ) → SlopeAtMost p rise run → ReadingsNear ps ls ms ns' after rise run
+  readings-near n e rise run slope = record {
+    each = λ i h a d b j ds x near. subst (NearExact p rise run a d b j) (sym (place-is z u v i h))
+        (near-exact p (sound z u v) rise run slope (numberAt ms i) (lies-in z u v i h) a d b j ds x near);
+    two = λ i i' h h' l. rw (place-is z u v i h, place-is z u v i' h')
+        (near-each-other p (sound z u v) rise run slope (numberAt ms i) (numberAt ms i') (lies-in z u v i h) (lies-in z u v i' h') l);
+  }
+    where
+      z : k ≡ 0
+      z = answered-only n e
+
+      u : UsablePasses ps ls
+      u = all-steps .at-0 .0 z .3
+
+      v : RisingPasses ps ls
+      v = all-steps .at-0 .0 z .4
