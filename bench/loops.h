@@ -350,6 +350,20 @@ static void rising_ticks_loop(any *f) { (void)f, place_ticks(rising_ticks); }
 
 static void random_ticks_loop(any *f) { (void)f, place_ticks(random_ticks); }
 
+/* The places of readings, one round as above: the passes' ticks are milliseconds here, and all readings are inside. */
+static void place_readings(const uint8_t *millis)
+{
+    static uint8_t numbers[INPUTS];
+    int64_t without = ct_place_readings(pass_ticks, sizeof pass_ticks, pass_millis, sizeof pass_millis, millis, 8 * INPUTS, tick_millis, sizeof tick_millis,
+                                        numbers, sizeof numbers);
+    shown = tick_millis;
+    shown_length = without ? 0 : sizeof tick_millis;
+}
+
+static void rising_readings_loop(any *f) { (void)f, place_readings(rising_ticks); }
+
+static void random_readings_loop(any *f) { (void)f, place_readings(random_ticks); }
+
 /* ---- runs: one round is one run of all inputs, counted per stamp. The parts of the stamps are those of the block. Of the Rust and of ERFA the driver makes a
    run by their single calls. */
 

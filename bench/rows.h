@@ -107,6 +107,8 @@ static const row rows[] = {
     {"check_table", LEAP_SECOND_YEARS, {{check_table_loop, (any *)ct_check_table}, {NULL, NULL}, {NULL, NULL}}},
     {"place_ticks per tick, rising", LEAP_SECOND_YEARS, {{rising_ticks_loop, NULL}, NOT_IN_ERFA, NOT_IN_ERFA}},
     {"place_ticks per tick, by chance", LEAP_SECOND_YEARS, {{random_ticks_loop, NULL}, NOT_IN_ERFA, NOT_IN_ERFA}},
+    {"place_readings per reading, rising", LEAP_SECOND_YEARS, {{rising_readings_loop, NULL}, NOT_IN_ERFA, NOT_IN_ERFA}},
+    {"place_readings per reading, by chance", LEAP_SECOND_YEARS, {{random_readings_loop, NULL}, NOT_IN_ERFA, NOT_IN_ERFA}},
     {"block_stamps", LEAP_SECOND_YEARS, {PORT_ALONE(stamps_loop, block_stamps)}},
     {"run per stamp, GPS to TAI", LEAP_SECOND_YEARS, {RUN(gps, tai), NOT_IN_ERFA}},
     {"run per stamp, TAI to TT", LEAP_SECOND_YEARS, {RUN(tai, tt), BY_ERFA(erfa_run_loop, eraTaitt)}},

@@ -509,7 +509,7 @@ int64_t ct_count_reason(uint32_t number, uint32_t n, uint8_t *out, size_t out_le
 int64_t ct_block_reason(uint32_t number, uint64_t length, uint32_t size, uint32_t second_size, uint8_t *out,
                         size_t out_len);
 
-/* ---- Ticks between marker passes: lists of 8 bytes a number, the lowest byte first */
+/* ---- Ticks and readings between marker passes: lists of 8 bytes a number, the lowest byte first */
 
 /* Each tick's TAI millisecond on the straight line between the passes beside it, rounded down: 8 bytes a
    tick, in the ticks' order. Pass i is number i of pass_ticks and of pass_millis. Ticks stand in any order
@@ -523,6 +523,23 @@ int64_t ct_block_reason(uint32_t number, uint64_t length, uint32_t size, uint32_
 int64_t ct_place_ticks(const uint8_t *pass_ticks, size_t pass_ticks_len, const uint8_t *pass_millis,
                        size_t pass_millis_len, const uint8_t *ticks, size_t ticks_len, uint8_t *out,
                        size_t out_len);
+
+/* The place along the pipe of each reading of a run: that of its TAI millisecond on the straight line
+   between the passes beside it, rounded down to the millimetre. Pass i is number i of pass_millis, when the
+   marker was passed, and of pass_places, where it is. Reading i is number i of millis, its place number i of
+   places, 8 bytes each, and its own number byte i of numbers, in and out: any other than 0 says by what it
+   was refused before, and stays; a 0 becomes 25 before the first pass or after the last, 2^40 too, and else
+   stays. Readings stand in any order and may repeat; one at a pass has that pass's place. Returns how many
+   have a number other than 0; their 8 bytes of places stay, and what lies behind.
+
+   Refuses 14 for a length of the first three lists that is no multiple of 8; 12 for another number of bytes
+   in numbers than of readings; 11 for fewer whole places in places than readings; 23 and 24 for the passes,
+   as ct_place_ticks. A refused call writes nothing. Passes at 1000, 2000 ms by 0, 500 mm: of the readings
+   1003, 2001 with the numbers 0, 0 the first is at 1, the second gets 25, and 1 is returned. With 15 bytes
+   of places it is 11, with three numbers besides 12, and with 16 bytes and passes at 1000, 1000 ms 24. */
+int64_t ct_place_readings(const uint8_t *pass_millis, size_t pass_millis_len, const uint8_t *pass_places,
+                          size_t pass_places_len, const uint8_t *millis, size_t millis_len, uint8_t *places,
+                          size_t places_len, uint8_t *numbers, size_t numbers_len);
 
 /* ---- Crew standby by quarter hours */
 

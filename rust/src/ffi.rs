@@ -128,6 +128,9 @@ calls! {
     fn ct_block_reason(number: u32, length: u64, size: u32, second_size: u32, out: &mut [u8]) -> i64;
 
     fn ct_place_ticks(pass_ticks: &[u8], pass_millis: &[u8], ticks: &[u8], out: &mut [u8]) -> i64;
+    fn ct_place_readings(
+        pass_millis: &[u8], pass_places: &[u8], millis: &[u8], places: &mut [u8], numbers: &mut [u8]
+    ) -> i64;
     fn ct_standby_bill(
         start_year: i32, start_month: u8, start_day: u8, start_hour: u8, start_minute: u8, start_second: u8,
         start_millis: u32, end_year: i32, end_month: u8, end_day: u8, end_hour: u8, end_minute: u8, end_second: u8,

@@ -1,4 +1,4 @@
-//! Ticks between marker passes.
+//! Ticks and readings between marker passes.
 
 use crate::answers::judged;
 use crate::bytes::{bytes, bytes_mut};
@@ -22,4 +22,29 @@ pub fn place_ticks(pass_ticks: &[u64], pass_millis: &[u64], ticks: &[u64]) -> Ti
     let mut millis = vec![0_u64; ticks.len()];
     judged(ffi::ct_place_ticks(bytes(pass_ticks), bytes(pass_millis), bytes(ticks), bytes_mut(&mut millis)))?;
     Ok(millis)
+}
+
+/// The place along the pipe of each reading of a run: that of its TAI millisecond on the straight line between the passes
+/// beside it, rounded down to the millimetre, into `places[i]`. Pass i is at `pass_millis[i]` by `pass_places[i]`. Into
+/// `numbers`, in and out: any number but 0 says by what reading i was refused before, and stays; a 0 becomes 25 outside
+/// the passes, and else stays. The places of readings with a number stay, and what lies behind.
+///
+/// Answers how many readings have a number other than 0. Refuses 12 for another count of numbers than of readings; 11 for
+/// fewer places; 23 and 24 for the passes, as [`place_ticks`]. A refused call writes nothing.
+///
+/// ```
+/// use celestial_time_proved::ticks::place_readings;
+/// let (mut places, mut numbers) = ([7; 4], [0, 9, 0, 0]);
+/// assert_eq!(place_readings(&[1000, 2000], &[0, 500], &[1003, 1003, 2001, 2000], &mut places, &mut numbers), Ok(2));
+/// assert_eq!((places, numbers), ([1, 7, 7, 500], [0, 9, 25, 0]));
+/// assert_eq!(place_readings(&[1000], &[0, 500], &[1003], &mut places, &mut [0]).unwrap_err().number(), 23);
+/// ```
+pub fn place_readings(
+    pass_millis: &[u64],
+    pass_places: &[u64],
+    millis: &[u64],
+    places: &mut [u64],
+    numbers: &mut [u8],
+) -> TimeResult<u64> {
+    judged(ffi::ct_place_readings(bytes(pass_millis), bytes(pass_places), bytes(millis), bytes_mut(places), numbers))
 }

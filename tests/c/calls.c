@@ -491,6 +491,7 @@ int main(void)
     read_answers();
     reason_calls();
     tick_calls();
+    reading_calls();
     table_calls();
     standby_calls();
     line_up_calls();

@@ -1,5 +1,5 @@
 -- The laws that the proofs of the C interface cite: a table that is lent, by value and as two arrays, a text, and one with its rule in two buffers, the number
--- of a block's stamps, a part of a listing, a walk, three runs in a line, ticks, a run, and its texts.
+-- of a block's stamps, a part of a listing, a walk, three runs in a line, ticks, the places of a run, a run, and its texts.
 pub mod Tables
 pub mod Arrays
 pub mod TextRules
@@ -9,6 +9,7 @@ pub mod Texts
 pub mod ListingParts
 pub mod Walks
 pub mod Ticks
+pub mod Places
 pub mod Runs
 pub mod RunTexts
 pub mod laws

@@ -1,3 +1,3 @@
 -- The laws of readings placed: the refusals in their order, and the answers put one after the other.
-pub mod Ladder
 pub mod Puts
+pub mod Ladder

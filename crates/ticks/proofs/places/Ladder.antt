@@ -7,10 +7,12 @@ use mathlib.Core.List.{List}
 use lib.Dec.{eqb, leb}
 use lib.ListN.{length}
 use borrow.Author.Tests.{eqb-true, leb-true, eq-eqb, ne-eqb, le-leb, lt-leb}
+use Rattle.refusals.specs.Outcome.{answer, refusal}
 use Rattle.ticks.specs.declared.places.PlacesAnswer.the-variants as Answer
 use Rattle.ticks.specs.judging.Refusing.{numbersIn, wholeNumbers, passesRefusal}
-use Rattle.ticks.specs.places.Places.{readingAt, placesRefusal, placesOutcome, placesCall, readingsWritten, placedRun}
+use Rattle.ticks.specs.places.Places.{withoutPlace, readingAt, placesRefusal, placesOutcome, placesCall, readingsWritten, placedRun}
 use Rattle.ticks.specs.places.Asked.{HasReadings, ReadingsPut}
+use Rattle.ticks.proofs.places.Puts.{at-most}
 use Rattle.ticks.proofs.judging.Ladder.{passes-right, usable-is, passes-good}
 
 module _ (ps ls ms : List ℕ) (count room : ℕ) where
@@ -74,3 +76,13 @@ module _ (ps ls ms out ns : List ℕ) (number : ℕ) (en : number ≡ placesRefu
         → placesCall (placesOutcome (Answer.Written r)) out' ns' ≡ placedRun ps ls ms out ns
     unfolding placedRun placesOutcome readingsWritten
     run-placed r out' ns' p = rw (← en, eq-eqb number 0 z, p .count, p .places, p .numbers)
+
+-- at most all readings have no place
+pub run-count : (ps ls ms out ns : List ℕ) (j : ℕ) → answer j ≡ placedRun ps ls ms out ns .answer → j ≤ numbersIn ms
+unfolding placedRun readingsWritten
+run-count ps ls ms out ns j e = go (eqb (placesRefusal ps ls ms (length ns) (length out)) 0) e
+  where
+    go : (b : Bool) → answer j ≡ cond b (readingsWritten (readingAt ps ls ms ns) (numbersIn ms) out ns)
+        (placesCall (refusal (placesRefusal ps ls ms (length ns) (length out))) out ns) .answer → j ≤ numbersIn ms
+    go true h = let w : j ≡ withoutPlace (readingAt ps ls ms ns) (numbersIn ms) = cc in omega (arith, at-most (readingAt ps ls ms ns) (numbersIn ms))
+    go false h = let y : _≡_ {A = ℕ} 0 1 = cc in absurd (omega arith)
