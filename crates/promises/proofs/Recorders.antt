@@ -1,4 +1,4 @@
--- THREE RECORDERS, THEIR RUNS AND THEIR LINE, for every table that is taken. Assumes nothing.
+-- THREE RECORDERS, THEIR RUNS, THEIR LINE AND THEIR PLACES, for every table that is taken. Assumes nothing.
 use mathlib.Core.Path.{_≡_}
 use mathlib.Core.List.{List}
 use Prim.Native.Nat.{ℕ}
@@ -12,7 +12,10 @@ use Rattle.stamps.proofs.listing_laws.NotFinite.{not-finite-refused, not-finite
 use Rattle.runs.specs.Run.{runRefusal}
 use Rattle.runs.proofs.laws.Theorems as Runs
 use Rattle.line_up.proofs.laws.Theorems as Lines
-use Rattle.promises.specs.Recorders.{Recorders, Run, Line}
+use Rattle.ticks.specs.declared.places.PlacesAnswer.{PlacesAnswer}
+use Rattle.ticks.specs.places.Places.{placesOutcome, placesCall, placedRun}
+use Rattle.ticks.proofs.laws.Readings.{readings-mean, readings-near}
+use Rattle.promises.specs.Recorders.{Recorders, Run, Line, Places}
 
 pub recorders : (t : AnnouncedRows) (rows : List Row) → tableOf t ≡ answer rows → Recorders rows
 recorders t rows e = record {
@@ -31,3 +34,10 @@ run rows from to js ks out1 out2 numbers z = record {
 
 pub line : (js ks ns : List ℕ) (first second : ℕ) (out : List ℕ) (tails ranks : ℕ) → Line js ks ns first second out tails ranks
 line = Lines.lined-up
+
+pub places : (ps ls ms ns before ns' after : List ℕ) (r : PlacesAnswer) → placesCall (placesOutcome r) after ns' ≡ placedRun ps ls ms before ns
+    → Places ps ls ms ns before r ns' after
+places ps ls ms ns before ns' after r e = record {
+  call = readings-mean ps ls ms ns before ns' after r e;
+  over-both = readings-near ps ls ms ns before ns' after r e;
+}

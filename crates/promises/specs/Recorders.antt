@@ -1,5 +1,6 @@
--- What three recorders, their runs and their line promise beyond the requests. `rows` are those of a table that is taken. From the mission's first sentences:
--- "Each tool will carry three recorders, one on GPS time, one on TAI, one on UTC. I am the data analyst who lines them up". Assumes nothing.
+-- What three recorders, their runs, their line and the places of their readings promise beyond the requests. `rows` are those of a table that is taken. From
+-- the mission's first sentences: "Each tool will carry three recorders, one on GPS time, one on TAI, one on UTC. I am the data analyst who lines them up".
+-- Assumes nothing.
 use Prim.Native.Nat.{ℕ, _/_, _≤_, _<_}
 use mathlib.Core.Path.{_≡_}
 use mathlib.Core.List.{List}
@@ -15,6 +16,11 @@ use Rattle.stamps.specs.listing_laws.NotFinite.{NotFinite, notFiniteIn}
 use Rattle.runs.specs.Run.{stampAnswer, convertedRun, runRefusal}
 use Rattle.runs.specs.laws.Done.{StampDone}
 use Rattle.runs.specs.laws.NotFiniteStamps.{StampNotFinite, numberOfNotFinite, notZeroIn}
+use Rattle.ticks.specs.declared.places.PlacesAnswer.{PlacesAnswer}
+use Rattle.ticks.specs.declared.places.PlacesAnswer.the-variants.{Written}
+use Rattle.ticks.specs.Ticks.{passesOf}
+use Rattle.ticks.specs.laws.Readings.{ReadingsMeaning}
+use Rattle.ticks.specs.laws.Slopes.{SlopeAtMost, ReadingsNear}
 use Rattle.line_up.specs.LineUp.{linedUp, lineRefusal, leastRoom}
 use Rattle.line_up.specs.laws.Claims.{Lined}
 
@@ -38,3 +44,12 @@ pub record Run (rows : List Row) (from to : ℕ) (js ks out1 out2 numbers : List
 abbrev pub Line : List ℕ → List ℕ → List ℕ → ℕ → ℕ → List ℕ → ℕ → ℕ → Type 0
 Line js ks ns first second out tails ranks = lineRefusal (length js) (length ks) (length ns) first second (leastRoom (length out) tails ranks) ≡ 0
     → Lined js ks ns first second out (linedUp js ks ns first second out tails ranks)
+
+-- the places of a run of readings between marker passes, for every call
+pub record Places (ps ls ms ns before : List ℕ) (r : PlacesAnswer) (ns' after : List ℕ) : Type 0 where
+  -- a number for each reading, 25 exactly outside the passes; its place on the line between them: exact at a pass, never backwards, less than 1 mm below; the
+  -- answer is how many numbers are not 0; 14, 12, 11, 23, 24 in this order; what lies behind stays
+  pub call : ReadingsMeaning ps ls ms ns before r ns' after
+  -- over both steps, by passes nowhere steeper than rise / run mm a ms: a reading whose millisecond is within b ms of its exact time is placed at most b * rise /
+  -- run above the exact line at that time, and less than 1 mm more below
+  pub over-both : (n : ℕ) → r ≡ Written n → (rise run : ℕ) → SlopeAtMost (passesOf ps ls) rise run → ReadingsNear ps ls ms ns' after rise run

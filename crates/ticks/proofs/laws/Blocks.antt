@@ -12,7 +12,7 @@ use lib.Seq.{sets, take-at, drop-at, drop-drop, take-append-le, drop-append-le, 
 use borrow.Author.Tests.{ne-eqb}
 use Rattle.refusals.specs.Outcome.{Outcome, answer, refusal}
 use Rattle.numerals.specs.little_endian.LittleEndian.{eightBytes}
-use Rattle.ticks.specs.places.Places.{numberOf, withPlace, withPlaces, withNumbers, withoutPlace}
+use Rattle.ticks.specs.places.Places.{numberOf, withPlace, withPlaces, withReadingNumbers, withoutPlace}
 use Rattle.ticks.proofs.Puts.{put, put-drop}
 use Rattle.ticks.proofs.places.Puts.{places-length, numbers-length}
 use Rattle.ticks.specs.laws.Readings.{notZeros}
@@ -92,23 +92,23 @@ module _ (f : ℕ → Outcome ℕ) (l : List ℕ) where
       go (inr m) before = one-before (f n) n (withPlaces f n l) room i m ∙ before m
 
   -- ---- the numbers
-  pub number-at : (n : ℕ) → n ≤ length l → (i : ℕ) → i < n → getD (withNumbers f n l) i 0 ≡ numberOf (f i)
-  unfolding withNumbers
+  pub number-at : (n : ℕ) → n ≤ length l → (i : ℕ) → i < n → getD (withReadingNumbers f n l) i 0 ≡ numberOf (f i)
+  unfolding withReadingNumbers
   number-at zero h i g = absurd (omega arith)
   number-at (suc n) h i g = go (eq-or-lt-of-le (omega arith)) (number-at n (omega arith) i)
     where
-      go : (i ≡ n) ⊎ (i < n) → (i < n → getD (withNumbers f n l) i 0 ≡ numberOf (f i))
-          → getD (set (withNumbers f n l) n (numberOf (f n))) i 0 ≡ numberOf (f i)
-      go (inl e) before = rw e (getD-set-same (withNumbers f n l) n (numberOf (f n)) 0 (omega (arith, numbers-length f n l)))
-      go (inr m) before = getD-set-other (withNumbers f n l) n i (numberOf (f n)) 0 (λ e. omega arith) ∙ before m
+      go : (i ≡ n) ⊎ (i < n) → (i < n → getD (withReadingNumbers f n l) i 0 ≡ numberOf (f i))
+          → getD (set (withReadingNumbers f n l) n (numberOf (f n))) i 0 ≡ numberOf (f i)
+      go (inl e) before = rw e (getD-set-same (withReadingNumbers f n l) n (numberOf (f n)) 0 (omega (arith, numbers-length f n l)))
+      go (inr m) before = getD-set-other (withReadingNumbers f n l) n i (numberOf (f n)) 0 (λ e. omega arith) ∙ before m
 
   -- the count is of the numbers that are not 0
-  pub counted : (n : ℕ) → n ≤ length l → notZeros (take n (withNumbers f n l)) ≡ withoutPlace f n
-  unfolding withNumbers withoutPlace notZeros
+  pub counted : (n : ℕ) → n ≤ length l → notZeros (take n (withReadingNumbers f n l)) ≡ withoutPlace f n
+  unfolding withReadingNumbers withoutPlace notZeros
   counted zero h = refl
   counted (suc n) h =
-      ap notZeros (take-suc-set (withNumbers f n l) n (numberOf (f n)) (omega (arith, numbers-length f n l)))
-      ∙ one-more (take n (withNumbers f n l)) (numberOf (f n))
+      ap notZeros (take-suc-set (withReadingNumbers f n l) n (numberOf (f n)) (omega (arith, numbers-length f n l)))
+      ∙ one-more (take n (withReadingNumbers f n l)) (numberOf (f n))
       ∙ ap (λ (x : ℕ). x + cond (eqb (numberOf (f n)) 0) 0 1) (counted n (omega arith))
     where
       one-more : (a : List ℕ) (v : ℕ) → notZeros (a ++ (v ∷ [])) ≡ notZeros a + cond (eqb v 0) 0 1

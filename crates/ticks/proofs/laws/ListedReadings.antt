@@ -19,7 +19,7 @@ use Rattle.ticks.specs.laws.Sound.{Sound, Inside}
 use Rattle.ticks.specs.laws.Reasons.{WholeLists, HasPlaces, UsablePasses}
 use Rattle.ticks.specs.laws.Writer.{listedPasses}
 use Rattle.ticks.specs.laws.Readings.{notZeros, NumberEach, ReadingNumber, ReadingsRight, ReadingsMeaning}
-use Rattle.ticks.specs.laws.ListedReadings.{ListedRun, ListedReading, ListedReadings}
+use Rattle.ticks.specs.laws.ListedReadings.{ListedPlacing, ListedReading, ListedReadings}
 use Rattle.ticks.proofs.laws.Laws.{is-on-line}
 use Rattle.ticks.proofs.laws.Tests.{sound-by}
 use Rattle.ticks.proofs.laws.Written.{as-many, passes-are}
@@ -43,7 +43,7 @@ module _ (ps ls ms ns before ns' after : List ℕ) (r : PlacesAnswer) (pass-bits
   the-passes = passes-are ps ls pass-bits place-bits
 
   -- ---- the answer
-  good : r ≡ Written (notZeros ns') → ListedRun ps ls ms ns (length before)
+  good : r ≡ Written (notZeros ns') → ListedPlacing ps ls ms ns (length before)
   good e =
       let g = means .decided .is-answer .0 e in
       record {
@@ -53,7 +53,7 @@ module _ (ps ls ms ns before ns' after : List ℕ) (r : PlacesAnswer) (pass-bits
         sound = subst Sound the-passes (sound-by pb lb (g .3) (g .4));
       }
 
-  taken : ListedRun ps ls ms ns (length before) → r ≡ Written (notZeros ns')
+  taken : ListedPlacing ps ls ms ns (length before) → r ≡ Written (notZeros ns')
   taken c =
       let s : Sound (passesOf pb lb) = subst Sound (sym the-passes) (c .sound) in
       let w : WholeLists pb lb mb = record { passes = omega (arith, eight-each ps); millis = omega (arith, eight-each ls); ticks = omega (arith, eight-each ms) } in

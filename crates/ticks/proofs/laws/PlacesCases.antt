@@ -10,7 +10,7 @@ use Rattle.ticks.specs.Line.{lineAt}
 use Rattle.ticks.specs.judging.Numbers.{holdsBelow, allSmall, allRising}
 use Rattle.ticks.specs.Passes.{Passes, lastNotAfter, millisAt}
 use Rattle.ticks.specs.judging.Refusing.{wellCounted, usable, bothRising, passesRefusal}
-use Rattle.ticks.specs.places.Places.{within, placedReading, numberOf, withPlace, withPlaces, withNumbers, withoutPlace, placesRefusal, placesCall}
+use Rattle.ticks.specs.places.Places.{within, placedReading, numberOf, withPlace, withPlaces, withReadingNumbers, withoutPlace, placesRefusal, placesCall}
 use Rattle.ticks.specs.places.Places.{readingsWritten, placedRun}
 use Rattle.ticks.specs.laws.Writer.{listedPasses}
 
@@ -54,7 +54,7 @@ pub run-of-five : placedRun (numbers (1000 ∷ 2000 ∷ [])) (numbers (0 ∷ 500
     (numbers (7 ∷ 7 ∷ 7 ∷ 7 ∷ 7 ∷ 8 ∷ []))
     (0 ∷ 9 ∷ 0 ∷ 0 ∷ 0 ∷ [])
     ≡ placesCall (answer 3) (numbers (1 ∷ 7 ∷ 7 ∷ 2 ∷ 7 ∷ 8 ∷ [])) (0 ∷ 9 ∷ 25 ∷ 0 ∷ 25 ∷ [])
-unfolding placedRun placesRefusal passesRefusal readingsWritten withPlaces withPlace withNumbers withoutPlace numberOf placedReading within wellCounted usable
+unfolding placedRun placesRefusal passesRefusal readingsWritten withPlaces withPlace withReadingNumbers withoutPlace numberOf placedReading within wellCounted usable
     bothRising holdsBelow allSmall allRising lastNotAfter millisAt lineAt fourAt u64At allBytes
 run-of-five = refl
 

@@ -19,14 +19,14 @@ use Rattle.ticks.specs.declared.places.PlacesAnswer.the-variants.{Writte
 use Rattle.ticks.specs.judging.Refusing.{numberAt, numbersIn, wholeNumbers, usable, bothRising, passesRefusal}
 use Rattle.ticks.specs.Passes.{Passes, millisAt}
 use Rattle.ticks.specs.Ticks.{passesOf}
-use Rattle.ticks.specs.places.Places.{within, placedReading, numberOf, withPlaces, withNumbers, withoutPlace, readingAt, placesRefusal, placesOutcome}
+use Rattle.ticks.specs.places.Places.{within, placedReading, numberOf, withPlaces, withReadingNumbers, withoutPlace, readingAt, placesRefusal, placesOutcome}
 use Rattle.ticks.specs.places.Places.{PlacesCall, placesCall, readingsWritten, placedRun}
 use Rattle.ticks.proofs.judging.Every.{both}
 use Rattle.ticks.proofs.places.Ladder.{Taken, taken}
 use Rattle.ticks.proofs.places.Puts.{is-kept, is-outside, is-placed, places-length, numbers-length}
 use Rattle.ticks.specs.laws.Sound.{Sound, Inside, JustBelow}
 use Rattle.ticks.specs.laws.Reasons.{WholeLists, HasPlaces, UsablePasses, RisingPasses}
-use Rattle.ticks.specs.laws.Readings.{notZeros, NumberEach, PlacedExactlyWhen, ReadingNumber, HasPlace, ReadingsRight, ReadingsMeaning}
+use Rattle.ticks.specs.laws.Readings.{notZeros, NumberEach, PlacedExactlyWhen, ReadingNumber, IsPlaced, ReadingsRight, ReadingsMeaning}
 use Rattle.ticks.specs.laws.Slopes.{SlopeAtMost, NearExact, ReadingsNear}
 use Rattle.ticks.proofs.laws.Slopes.{near-exact, near-each-other}
 use Rattle.ticks.proofs.laws.Tests.{whole-test, usable-test, rising-test, sound-by}
@@ -104,7 +104,7 @@ module _ (ps ls ms ns before ns' after : List ℕ) (r : PlacesAnswer) (call : pl
   is-refused h = call ∙ rw (ne-eqb k 0 h)
 
   is-written : k ≡ 0
-      → placesCall (placesOutcome r) after ns' ≡ placesCall (answer (withoutPlace f (numbersIn ms))) (withPlaces f (numbersIn ms) before) (withNumbers f (numbersIn ms) ns)
+      → placesCall (placesOutcome r) after ns' ≡ placesCall (answer (withoutPlace f (numbersIn ms))) (withPlaces f (numbersIn ms) before) (withReadingNumbers f (numbersIn ms) ns)
   unfolding placedRun readingsWritten
   is-written h = call ∙ rw (eq-eqb k 0 h)
 
@@ -151,7 +151,7 @@ module _ (ps ls ms ns before ns' after : List ℕ) (r : PlacesAnswer) (call : pl
     out-is : after ≡ withPlaces f (numbersIn ms) before
     out-is = ap (λ (c : PlacesCall). c .out) (is-written z)
 
-    numbers-are : ns' ≡ withNumbers f (numbersIn ms) ns
+    numbers-are : ns' ≡ withReadingNumbers f (numbersIn ms) ns
     numbers-are = ap (λ (c : PlacesCall). c .numbers) (is-written z)
 
     out-length : length after ≡ length before
@@ -206,13 +206,13 @@ module _ (ps ls ms ns before ns' after : List ℕ) (r : PlacesAnswer) (call : pl
       sound : Sound p
       sound = sound-by ps ls u v
 
-      lies-in : (i : ℕ) → HasPlace ms ns' i → Inside p (numberAt ms i)
+      lies-in : (i : ℕ) → IsPlaced ms ns' i → Inside p (numberAt ms i)
       lies-in i h = each i (h .there) .is-0 .0 (h .none) .1
 
-      below : (i : ℕ) → HasPlace ms ns' i → JustBelow p (numberAt ms i) (millisAt p (numberAt ms i))
+      below : (i : ℕ) → IsPlaced ms ns' i → JustBelow p (numberAt ms i) (millisAt p (numberAt ms i))
       below i h = just-below p sound (numberAt ms i) (lies-in i h)
 
-      place-is : (i : ℕ) → HasPlace ms ns' i → numberAt after i ≡ millisAt p (numberAt ms i)
+      place-is : (i : ℕ) → IsPlaced ms ns' i → numberAt after i ≡ millisAt p (numberAt ms i)
       unfolding numberOf
       place-is i h = go (f i) (bytes-are i (h .there)) (said p (getD ns i 0) (numberAt ms i))
         where

@@ -16,7 +16,7 @@ use Rattle.ticks.specs.judging.Refusing.{numberAt, numbersIn}
 use Rattle.ticks.specs.judging.GoodCalls.{GoodPasses}
 use Rattle.ticks.specs.Passes.{Passes, millisAt}
 use Rattle.ticks.specs.Ticks.{passesOf}
-use Rattle.ticks.specs.places.Places.{within, placedReading, numberOf, withPlace, withPlaces, withNumbers, withoutPlace}
+use Rattle.ticks.specs.places.Places.{within, placedReading, numberOf, withPlace, withPlaces, withReadingNumbers, withoutPlace}
 use Rattle.ticks.specs.places.Asked.{ReadingPut, ReadingsPut}
 
 -- ---- one reading
@@ -75,16 +75,16 @@ unfolding withPlaces
 places-length f zero l = refl
 places-length f (suc n) l = place-length (f n) n (withPlaces f n l) ∙ places-length f n l
 
-pub numbers-length : (f : ℕ → Outcome ℕ) (n : ℕ) (l : List ℕ) → length (withNumbers f n l) ≡ length l
-unfolding withNumbers
+pub numbers-length : (f : ℕ → Outcome ℕ) (n : ℕ) (l : List ℕ) → length (withReadingNumbers f n l) ≡ length l
+unfolding withReadingNumbers
 numbers-length f zero l = refl
-numbers-length f (suc n) l = length-set (withNumbers f n l) n (numberOf (f n)) ∙ numbers-length f n l
+numbers-length f (suc n) l = length-set (withReadingNumbers f n l) n (numberOf (f n)) ∙ numbers-length f n l
 
 -- the numbers from place n on are as they were
-pub later-number : (f : ℕ → Outcome ℕ) (n : ℕ) (l : List ℕ) (i : ℕ) → n ≤ i → getD (withNumbers f n l) i 0 ≡ getD l i 0
-unfolding withNumbers
+pub later-number : (f : ℕ → Outcome ℕ) (n : ℕ) (l : List ℕ) (i : ℕ) → n ≤ i → getD (withReadingNumbers f n l) i 0 ≡ getD l i 0
+unfolding withReadingNumbers
 later-number f zero l i h = refl
-later-number f (suc n) l i h = getD-set-other (withNumbers f n l) n i (numberOf (f n)) 0 (λ e. omega arith) ∙ later-number f n l i (omega arith)
+later-number f (suc n) l i h = getD-set-other (withReadingNumbers f n l) n i (numberOf (f n)) 0 (λ e. omega arith) ∙ later-number f n l i (omega arith)
 
 one-at-most : (b : Bool) → cond b 0 1 ≤ 1
 one-at-most true = omega arith
@@ -118,14 +118,14 @@ module _ (f : ℕ → Outcome ℕ) (n k : ℕ) (out₀ ns₀ : List ℕ) where
   }
 
   pub putting-starts : Putting f n k out₀ ns₀ out₀ ns₀ 0 0 0
-  unfolding withPlaces withNumbers withoutPlace
+  unfolding withPlaces withReadingNumbers withoutPlace
   putting-starts = putting out₀ ns₀ 0 0 0 (omega arith) (omega arith) (record { count = refl; places = refl; numbers = refl })
 
   module _ (out ns : List ℕ) (without j i : ℕ) (p : Putting f n k out₀ ns₀ out ns without j i) where
     pub putting-goes : (q : Passes) (m : ℕ) → placedReading q (getD ns i 0) m ≡ f i → (out' : List ℕ) (r j' without' : ℕ) → i < n
         → ReadingPut q k (getD ns i 0) m i out r j' out' → without' ≡ without + cond (eqb r 0) 0 1
         → Putting f n k out₀ ns₀ out' (set ns i r) without' j' (i + 1)
-    unfolding withPlaces withNumbers withoutPlace
+    unfolding withPlaces withReadingNumbers withoutPlace
     putting-goes q m is out' r j' without' h s e =
         subst (λ (x : ℕ). Putting f n k out₀ ns₀ out' (set ns i r) without' j' x) (sym (add-one i))
         (putting out' (set ns i r) without' j' (suc i) (omega arith) (s .near)

@@ -14,7 +14,7 @@ use Rattle.ticks.specs.laws.Writer.{listedPasses}
 use Rattle.ticks.specs.laws.Readings.{notZeros}
 
 -- nothing is refused of these lists and so many bytes of room
-pub record ListedRun (ps ls ms ns : List ℕ) (room : ℕ) : Type 0 where
+pub record ListedPlacing (ps ls ms ns : List ℕ) (room : ℕ) : Type 0 where
   pub numbers : length ms ≡ length ns
   pub places : 8 * length ms ≤ room
   pub equal : length ps ≡ length ls
@@ -32,7 +32,7 @@ pub record ListedReading (ps ls ms ns before ns' after : List ℕ) (i : ℕ) : T
 -- The call over these lists: answered exactly where nothing is refused, by how many numbers are not 0 after it; refused, both lent lists stay; and the bytes
 -- behind the places stay.
 pub record ListedReadings (ps ls ms ns before : List ℕ) (r : PlacesAnswer) (ns' after : List ℕ) : Type 0 where
-  pub answered : (r ≡ Written (notZeros ns')) ↔ ListedRun ps ls ms ns (length before)
+  pub answered : (r ≡ Written (notZeros ns')) ↔ ListedPlacing ps ls ms ns (length before)
   pub stays : (n : ℕ) → r ≡ Refused n → (ns' ≡ ns) × (after ≡ before)
   pub each : (n : ℕ) → r ≡ Written n → (i : ℕ) → i < length ms → ListedReading ps ls ms ns before ns' after i
   pub spare : (n : ℕ) → r ≡ Written n → drop (8 * length ms) after ≡ drop (8 * length ms) before

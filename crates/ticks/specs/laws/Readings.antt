@@ -44,7 +44,7 @@ pub record ReadingNumber (ps ls ms ns before ns' after : List ℕ) (i : ℕ) : T
   pub stays : (getD ns' i 0 ≡ 0 → ⊥) → take 8 (drop (8 * i) after) ≡ take 8 (drop (8 * i) before)
 
 -- reading i has a place
-pub record HasPlace (ms ns' : List ℕ) (i : ℕ) : Type 0 where
+pub record IsPlaced (ms ns' : List ℕ) (i : ℕ) : Type 0 where
   pub there : i < numbersIn ms
   pub none : getD ns' i 0 ≡ 0
 
@@ -55,11 +55,11 @@ pub record ReadingsRight (ps ls ms ns before ns' after : List ℕ) : Type 0 wher
   pub numbers-as-long : length ns' ≡ length ns
   pub spare : drop (8 * numbersIn ms) after ≡ drop (8 * numbersIn ms) before
   pub each : (i : ℕ) → i < numbersIn ms → ReadingNumber ps ls ms ns before ns' after i
-  pub on-any-line : (i j : ℕ) → HasPlace ms ns' i → j + 1 < numbersIn ps → numberAt ps j ≤ numberAt ms i → numberAt ms i ≤ numberAt ps (j + 1)
+  pub on-any-line : (i j : ℕ) → IsPlaced ms ns' i → j + 1 < numbersIn ps → numberAt ps j ≤ numberAt ms i → numberAt ms i ≤ numberAt ps (j + 1)
       → numberAt after i ≡ millisBetween (passesOf ps ls) j (numberAt ms i)
-  pub at-passes : (i j : ℕ) → HasPlace ms ns' i → j < numbersIn ps → numberAt ms i ≡ numberAt ps j → numberAt after i ≡ numberAt ls j
-  pub in-order : (i i' : ℕ) → HasPlace ms ns' i → HasPlace ms ns' i' → numberAt ms i ≤ numberAt ms i' → numberAt after i ≤ numberAt after i'
-  pub near-line : (i : ℕ) → HasPlace ms ns' i → JustBelow (passesOf ps ls) (numberAt ms i) (numberAt after i)
+  pub at-passes : (i j : ℕ) → IsPlaced ms ns' i → j < numbersIn ps → numberAt ms i ≡ numberAt ps j → numberAt after i ≡ numberAt ls j
+  pub in-order : (i i' : ℕ) → IsPlaced ms ns' i → IsPlaced ms ns' i' → numberAt ms i ≤ numberAt ms i' → numberAt after i ≤ numberAt after i'
+  pub near-line : (i : ℕ) → IsPlaced ms ns' i → JustBelow (passesOf ps ls) (numberAt ms i) (numberAt after i)
 
 -- the whole call: its answer, the count of the numbers that are not 0, and the lent lists before and after
 pub record ReadingsMeaning (ps ls ms ns before : List ℕ) (r : PlacesAnswer) (ns' after : List ℕ) : Type 0 where

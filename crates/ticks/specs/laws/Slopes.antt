@@ -8,7 +8,7 @@ use Rattle.ticks.specs.Passes.{Passes}
 use Rattle.ticks.specs.judging.Refusing.{numberAt}
 use Rattle.ticks.specs.Ticks.{passesOf}
 use Rattle.ticks.specs.laws.Sound.{ticksBetween}
-use Rattle.ticks.specs.laws.Readings.{HasPlace}
+use Rattle.ticks.specs.laws.Readings.{IsPlaced}
 
 -- the millimetres between pass j and the next
 abbrev pub millisRise : Passes → ℕ → ℕ
@@ -45,7 +45,7 @@ pub record NearExact (p : Passes) (rise run a d e j r : ℕ) : Type 0 where
 -- Over both steps, for the places of a call: reading i, whose stamp is at time a / d and whose millisecond is at most e / d from it, has a place near the exact
 -- line at that time; and of two readings the later's place is less than 1 mm and the slope times the milliseconds between them further.
 pub record ReadingsNear (ps ls ms ns' after : List ℕ) (rise run : ℕ) : Type 0 where
-  pub each : (i : ℕ) → HasPlace ms ns' i → (a d e j : ℕ) → 0 < d → TimeBetween (passesOf ps ls) a d j → NearTime (numberAt ms i) a d e
+  pub each : (i : ℕ) → IsPlaced ms ns' i → (a d e j : ℕ) → 0 < d → TimeBetween (passesOf ps ls) a d j → NearTime (numberAt ms i) a d e
       → NearExact (passesOf ps ls) rise run a d e j (numberAt after i)
-  pub two : (i i' : ℕ) → HasPlace ms ns' i → HasPlace ms ns' i' → numberAt ms i ≤ numberAt ms i'
+  pub two : (i i' : ℕ) → IsPlaced ms ns' i → IsPlaced ms ns' i' → numberAt ms i ≤ numberAt ms i'
       → numberAt after i' * run + rise * numberAt ms i < (numberAt after i + 1) * run + rise * numberAt ms i'

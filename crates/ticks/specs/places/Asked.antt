@@ -7,7 +7,7 @@ use Rattle.refusals.specs.Outcome.{Outcome}
 use Rattle.ticks.specs.judging.Refusing.{numberAt}
 use Rattle.ticks.specs.judging.GoodCalls.{GoodPasses}
 use Rattle.ticks.specs.Passes.{Passes}
-use Rattle.ticks.specs.places.Places.{placedReading, numberOf, withPlace, withPlaces, withNumbers, withoutPlace}
+use Rattle.ticks.specs.places.Places.{placedReading, numberOf, withPlace, withPlaces, withReadingNumbers, withoutPlace}
 
 -- k + 2 passes from `first` to `last`, a last neighbour, and eight bytes for reading i
 pub record HasReading (ps ls : List ℕ) (k j first last i : ℕ) (out : List ℕ) : Type 0 where
@@ -34,4 +34,4 @@ pub record HasReadings (ps ls : List ℕ) (k : ℕ) (ms : List ℕ) (n : ℕ) (o
 pub record ReadingsPut (f : ℕ → Outcome ℕ) (n : ℕ) (out ns : List ℕ) (r : ℕ) (out' ns' : List ℕ) : Type 0 where
   pub count : r ≡ withoutPlace f n
   pub places : out' ≡ withPlaces f n out
-  pub numbers : ns' ≡ withNumbers f n ns
+  pub numbers : ns' ≡ withReadingNumbers f n ns

@@ -42,9 +42,9 @@ unfoldable pub withPlaces : (ℕ → Outcome ℕ) → ℕ → List ℕ → List 
 withPlaces f zero l = l
 withPlaces f (suc k) l = withPlace (f k) k (withPlaces f k l)
 
-unfoldable pub withNumbers : (ℕ → Outcome ℕ) → ℕ → List ℕ → List ℕ
-withNumbers f zero l = l
-withNumbers f (suc k) l = set (withNumbers f k l) k (numberOf (f k))
+unfoldable pub withReadingNumbers : (ℕ → Outcome ℕ) → ℕ → List ℕ → List ℕ
+withReadingNumbers f zero l = l
+withReadingNumbers f (suc k) l = set (withReadingNumbers f k l) k (numberOf (f k))
 
 -- how many have no place
 unfoldable pub withoutPlace : (ℕ → Outcome ℕ) → ℕ → ℕ
@@ -83,7 +83,7 @@ placesCall o out numbers = record { answer = o; out = out; numbers = numbers }
 
 -- n readings with these answers
 unfoldable pub readingsWritten : (ℕ → Outcome ℕ) → ℕ → List ℕ → List ℕ → PlacesCall
-readingsWritten f n out ns = placesCall (answer (withoutPlace f n)) (withPlaces f n out) (withNumbers f n ns)
+readingsWritten f n out ns = placesCall (answer (withoutPlace f n)) (withPlaces f n out) (withReadingNumbers f n ns)
 
 unfoldable pub placedRun : List ℕ → List ℕ → List ℕ → List ℕ → List ℕ → PlacesCall
 placedRun ps ls ms out ns =
