@@ -40,8 +40,8 @@ static void places(int number, tick_list due, tick_list passes, tick_list millis
     check(!memcmp(got, want, sizeof got), "ct_place_ticks leaves other bytes");
 }
 
-/* Asks for the places of readings whose numbers are `given`, with `place_bytes` bytes; `due` and `left` are what is left in the two lists, a due number of UNDUE
-   being a place that stays. Bytes behind, and all at a refusal, stay. */
+/* Asks for the places of readings whose numbers are `given`, with `place_bytes` bytes; `due` and `left` are what is left in the two lists, a due number of
+   UNDUE being a place that stays. Bytes behind, and all at a refusal, stay. */
 static void readings(int64_t code, tick_list due, const char *left, tick_list passes, tick_list marks, tick_list millis, const char *given, size_t place_bytes)
 {
     uint8_t got[8 * MOST_TICKS + TICK_GUARD], want[sizeof got], said[MOST_TICKS + TICK_GUARD], numbered[sizeof said];

@@ -1,7 +1,7 @@
 /* Cases of ct_place_readings from standard input, their answers to standard output.
-   A case is five sizes of 4 bytes (the bytes of pass_millis, pass_places, millis, of the lent places and of the numbers) and the bytes of the three lists and of
-   the numbers; an answer is the call's code in 8 bytes, the whole lent list of places, which is filled with aa before the call, and the numbers. Numbers have
-   the lowest byte first. */
+   A case is five sizes of 4 bytes (the bytes of pass_millis, pass_places, millis, of the lent places and of the numbers) and the bytes of the three lists
+   and of the numbers; an answer is the call's code in 8 bytes, the whole lent list of places, which is filled with aa before the call, and the numbers.
+   Numbers have the lowest byte first. */
 #include "celestial_time.h"
 #include <stdio.h>
 #include <stdlib.h>

@@ -50,6 +50,6 @@ pub record Places (ps ls ms ns before : List ℕ) (r : PlacesAnswer) (ns' after 
   -- a number for each reading, 25 exactly outside the passes; its place on the line between them: exact at a pass, never backwards, less than 1 mm below; the
   -- answer is how many numbers are not 0; 14, 12, 11, 23, 24 in this order; what lies behind stays
   pub call : ReadingsMeaning ps ls ms ns before r ns' after
-  -- over both steps, by passes nowhere steeper than rise / run mm a ms: a reading whose millisecond is within b ms of its exact time is placed at most b * rise /
-  -- run above the exact line at that time, and less than 1 mm more below
+  -- over both steps, by passes nowhere steeper than rise / run mm a ms: a reading whose millisecond is within b ms of its exact time is placed at most b * rise
+  -- / run above the exact line at that time, and less than 1 mm more below
   pub over-both : (n : ℕ) → r ≡ Written n → (rise run : ℕ) → SlopeAtMost (passesOf ps ls) rise run → ReadingsNear ps ls ms ns' after rise run

@@ -51,7 +51,8 @@ fn place_reading(
     out: &mut [u8],
 ) -> Placed
     requires { ⌜ HasReading (now passes) (now places) k j first last i (now out) ⌝ }
-    ensures { λ r. ⌜ ReadingPut (passesOf (now (passes .entry)) (now (places .entry))) k number m i (now (out .entry)) (r .number) (r .near) (now (out .exit)) ⌝ }
+    ensures { λ r. ⌜ ReadingPut (passesOf (now (passes .entry)) (now (places .entry))) k number m i (now (out .entry)) (r .number) (r .near)
+        (now (out .exit)) ⌝ }
 {
     if number != 0 {
         return Placed { number, near: j };
@@ -109,8 +110,8 @@ fn place_all(
 
 // Gives each reading of a run its place: the i-th eight bytes of `out` are the place of the i-th millisecond on the straight line between the passes beside it,
 // rounded down. A reading that comes with a number other than 0 keeps it; one outside the passes gets 25; of both the places in `out` stay, and the answer is
-// how many they are. Refusals in order: 14 a length that is no multiple of 8; 12 not as many numbers as readings; 11 fewer places than readings; 23 unequal, too
-// few or too many passes or too large a number in them; 24 passes not strictly rising in both.
+// how many they are. Refusals in order: 14 a length that is no multiple of 8; 12 not as many numbers as readings; 11 fewer places than readings; 23 unequal,
+// too few or too many passes or too large a number in them; 24 passes not strictly rising in both.
 pub fn place_readings(
     passes: &[u8],
     places: &[u8],

@@ -88,7 +88,8 @@ module _ (f : ℕ → Outcome ℕ) (l : List ℕ) where
 
       go : (i ≡ n) ⊎ (i < n) → (i < n → block i (withPlaces f n l) ≡ due (f i) (block i l))
           → block i (withPlace (f n) n (withPlaces f n l)) ≡ due (f i) (block i l)
-      go (inl e) before = rw e (one (f n) n (withPlaces f n l) room ∙ ap (λ (b : List ℕ). due (f n) (take 8 b)) (places-behind n (omega arith) (8 * n) (omega arith)))
+      go (inl e) before = rw e
+          (one (f n) n (withPlaces f n l) room ∙ ap (λ (b : List ℕ). due (f n) (take 8 b)) (places-behind n (omega arith) (8 * n) (omega arith)))
       go (inr m) before = one-before (f n) n (withPlaces f n l) room i m ∙ before m
 
   -- ---- the numbers

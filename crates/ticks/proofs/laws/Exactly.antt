@@ -96,7 +96,8 @@ module _ (ps ms ts before after : List ℕ) (r : TicksAnswer) (call : TicksCall 
 
   all-steps : Steps 14 11 23 24 25 (WholeLists ps ms ts) (HasPlaces ts (length before)) (UsablePasses ps ms) (RisingPasses ps ms) (TicksInside ps ms ts) k
   unfolding refusedBy
-  all-steps = steps 14 11 23 24 25 apart (wholeNumbers ps && (wholeNumbers ms && wholeNumbers ts)) (leb (numbersIn ts) (length before / 8)) (usable ps ms) (bothRising ps ms)
+  all-steps = steps 14 11 23 24 25 apart (wholeNumbers ps && (wholeNumbers ms && wholeNumbers ts)) (leb (numbersIn ts) (length before / 8))
+      (usable ps ms) (bothRising ps ms)
       (allInside ps ts)
       (whole-test ps ms ts)
       (leb-true (numbersIn ts) (length before / 8), le-leb (numbersIn ts) (length before / 8))

@@ -1,5 +1,5 @@
--- EACH PASS, EACH READING AND EACH PLACE AT ITS OWN BYTES: of lists that are written number by number the call's answer is that of the lists, and the eight bytes
--- from 8 i on read back as the millimetre of the i-th reading. Assumes nothing.
+-- EACH PASS, EACH READING AND EACH PLACE AT ITS OWN BYTES: of lists that are written number by number the call's answer is that of the lists, and the eight
+-- bytes from 8 i on read back as the millimetre of the i-th reading. Assumes nothing.
 use Prim.Native.Nat.{ℕ, _+_, _*_, _<_}
 use native.Mathlib.Omega.{arith}
 use mathlib.Core.Path.{_≡_, sym, ap, subst, _∙_}
@@ -56,7 +56,8 @@ module _ (ps ls ms ns before ns' after : List ℕ) (r : PlacesAnswer) (pass-bits
   taken : ListedPlacing ps ls ms ns (length before) → r ≡ Written (notZeros ns')
   taken c =
       let s : Sound (passesOf pb lb) = subst Sound (sym the-passes) (c .sound) in
-      let w : WholeLists pb lb mb = record { passes = omega (arith, eight-each ps); millis = omega (arith, eight-each ls); ticks = omega (arith, eight-each ms) } in
+      let w : WholeLists pb lb mb =
+      record { passes = omega (arith, eight-each ps); millis = omega (arith, eight-each ls); ticks = omega (arith, eight-each ms) } in
       let n : NumberEach mb ns = as-many ms ∙ c .numbers in
       let h : HasPlaces mb (length before) = omega (arith, as-many ms, c .places) in
       let u : UsablePasses pb lb =

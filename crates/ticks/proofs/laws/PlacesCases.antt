@@ -1,5 +1,5 @@
--- Readings and runs that pin a rule each, computed from the definitions: a reading at each pass, by one outside on both sides, one that comes with a number, the
--- largest numbers, what stays, and the order of the refusals. Assumes nothing.
+-- Readings and runs that pin a rule each, computed from the definitions: a reading at each pass, by one outside on both sides, one that comes with a number,
+-- the largest numbers, what stays, and the order of the refusals. Assumes nothing.
 use mathlib.Core.Path.{_≡_, refl}
 use Prim.Native.Nat.{ℕ}
 use mathlib.Core.List.{List, [], _∷_}
@@ -19,7 +19,8 @@ abbrev threeMarks : Passes
 threeMarks = listedPasses (1000 ∷ 2000 ∷ 4000 ∷ []) (0 ∷ 500 ∷ 2500 ∷ [])
 
 -- a reading at a pass has its mark
-pub at-the-marks : (placedReading threeMarks 0 1000 ≡ answer 0) × (placedReading threeMarks 0 2000 ≡ answer 500) × (placedReading threeMarks 0 4000 ≡ answer 2500)
+pub at-the-marks : (placedReading threeMarks 0 1000 ≡ answer 0) × (placedReading threeMarks 0 2000 ≡ answer 500)
+    × (placedReading threeMarks 0 4000 ≡ answer 2500)
 unfolding placedReading within lastNotAfter millisAt lineAt
 at-the-marks = (refl, refl, refl)
 
@@ -54,8 +55,8 @@ pub run-of-five : placedRun (numbers (1000 ∷ 2000 ∷ [])) (numbers (0 ∷ 500
     (numbers (7 ∷ 7 ∷ 7 ∷ 7 ∷ 7 ∷ 8 ∷ []))
     (0 ∷ 9 ∷ 0 ∷ 0 ∷ 0 ∷ [])
     ≡ placesCall (answer 3) (numbers (1 ∷ 7 ∷ 7 ∷ 2 ∷ 7 ∷ 8 ∷ [])) (0 ∷ 9 ∷ 25 ∷ 0 ∷ 25 ∷ [])
-unfolding placedRun placesRefusal passesRefusal readingsWritten withPlaces withPlace withReadingNumbers withoutPlace numberOf placedReading within wellCounted usable
-    bothRising holdsBelow allSmall allRising lastNotAfter millisAt lineAt fourAt u64At allBytes
+unfolding placedRun placesRefusal passesRefusal readingsWritten withPlaces withPlace withReadingNumbers withoutPlace numberOf placedReading within
+    wellCounted usable bothRising holdsBelow allSmall allRising lastNotAfter millisAt lineAt fourAt u64At allBytes
 run-of-five = refl
 
 -- each refusal where the next would hold too: 14 before 12, 12 before 11, 11 before 23, 23 before 24; and the passes are judged of no reading too

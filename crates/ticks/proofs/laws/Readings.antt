@@ -19,8 +19,8 @@ use Rattle.ticks.specs.declared.places.PlacesAnswer.the-variants.{Writte
 use Rattle.ticks.specs.judging.Refusing.{numberAt, numbersIn, wholeNumbers, usable, bothRising, passesRefusal}
 use Rattle.ticks.specs.Passes.{Passes, millisAt}
 use Rattle.ticks.specs.Ticks.{passesOf}
-use Rattle.ticks.specs.places.Places.{within, placedReading, numberOf, withPlaces, withReadingNumbers, withoutPlace, readingAt, placesRefusal, placesOutcome}
-use Rattle.ticks.specs.places.Places.{PlacesCall, placesCall, readingsWritten, placedRun}
+use Rattle.ticks.specs.places.Places.{within, placedReading, numberOf, withPlaces, withReadingNumbers, withoutPlace, readingAt}
+use Rattle.ticks.specs.places.Places.{placesRefusal, placesOutcome, PlacesCall, placesCall, readingsWritten, placedRun}
 use Rattle.ticks.proofs.judging.Every.{both}
 use Rattle.ticks.proofs.places.Ladder.{Taken, taken}
 use Rattle.ticks.proofs.places.Puts.{is-kept, is-outside, is-placed, places-length, numbers-length}
@@ -104,7 +104,8 @@ module _ (ps ls ms ns before ns' after : List ℕ) (r : PlacesAnswer) (call : pl
   is-refused h = call ∙ rw (ne-eqb k 0 h)
 
   is-written : k ≡ 0
-      → placesCall (placesOutcome r) after ns' ≡ placesCall (answer (withoutPlace f (numbersIn ms))) (withPlaces f (numbersIn ms) before) (withReadingNumbers f (numbersIn ms) ns)
+      → placesCall (placesOutcome r) after ns' ≡ placesCall (answer (withoutPlace f (numbersIn ms))) (withPlaces f (numbersIn ms) before)
+      (withReadingNumbers f (numbersIn ms) ns)
   unfolding placedRun readingsWritten
   is-written h = call ∙ rw (eq-eqb k 0 h)
 

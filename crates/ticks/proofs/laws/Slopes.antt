@@ -1,5 +1,5 @@
--- OVER BOTH STEPS: a whole millisecond that is near an exact time has a place that is near the exact line there, by the steepest piece between the passes; and two
--- milliseconds that are near each other have places that are. Assumes nothing.
+-- OVER BOTH STEPS: a whole millisecond that is near an exact time has a place that is near the exact line there, by the steepest piece between the passes; and
+-- two milliseconds that are near each other have places that are. Assumes nothing.
 use Prim.Native.Nat.{ℕ, zero, suc, _+_, _-_, _*_, _<_, _≤_}
 use native.Mathlib.Omega.{arith}
 use native.Mathlib.Nat.{le-refl, mul-comm, mul-assoc, add-mul, mul-add, mul-right-comm, mul-mul-mul-comm, mul-le-mul-left, mul-le-mul-right}
@@ -173,7 +173,8 @@ module _ (p : Passes) (s : Sound p) where
         let a : p .milli (j + 1) ≡ p .milli j + millisRise p j = omega (arith, s .millis-rise j h) in
         let b : p .tick (j + 1) ≡ p .tick j + ticksBetween p j = omega (arith, s .ticks-rise j h) in
         let c : p .milli (j + 1) * run ≡ p .milli j * run + millisRise p j * run = ap (λ (x : ℕ). x * run) a ∙ add-mul (p .milli j) (millisRise p j) run in
-        let e : rise * p .tick (j + 1) ≡ rise * p .tick j + rise * ticksBetween p j = ap (λ (x : ℕ). rise * x) b ∙ mul-add rise (p .tick j) (ticksBetween p j) in
+        let e : rise * p .tick (j + 1) ≡ rise * p .tick j + rise * ticksBetween p j =
+        ap (λ (x : ℕ). rise * x) b ∙ mul-add rise (p .tick j) (ticksBetween p j) in
         omega (arith, slope .each j h)
 
     climb : (i n : ℕ) → i + n < p .size → p .milli (i + n) * run + rise * p .tick i ≤ p .milli i * run + rise * p .tick (i + n)
@@ -283,7 +284,8 @@ module _ (p : Passes) (s : Sound p) where
       same o = record {
         not-above = same-above (p .milli j) M T run (rise * T) d (a - p .tick j * d) e (slope .each j (x .next)) v (t - p .tick j) (o .above)
             (omega (arith, far, near .not-late, x .from));
-        not-below = same-below (p .milli j) M T run (rise * T) d (a - p .tick j * d) e (slope .each j (x .next)) (v + 1) (t - p .tick j) ds (slope .some) (o .below)
+        not-below = same-below (p .milli j) M T run (rise * T) d (a - p .tick j * d) e (slope .each j (x .next)) (v + 1) (t - p .tick j) ds
+            (slope .some) (o .below)
             (omega (arith, far, near .not-early, x .from));
       }
         where

@@ -1,8 +1,8 @@
 -- A run of readings between marker passes: the place of each, or its number, and what the two lent lists hold after the call. Written from the customer's words
 -- ("passes as item 10 has them, a TAI millisecond and the marker's place in millimetres along the pipe; a run of milliseconds in, millimetres out, a number for
--- each (25 outside the passes, as an answer of that reading and not of the call). By item 10's own definition of the line between two passes") and from document
--- 02, item 10. Refusals of the call by documents 01's and 02's numbers: 14 a broken length, 12 sizes that differ, 11 too few places, 23 and 24 as item 10.
--- Assumes nothing.
+-- each (25 outside the passes, as an answer of that reading and not of the call). By item 10's own definition of the line between two passes") and from
+-- document 02, item 10. Refusals of the call by documents 01's and 02's numbers: 14 a broken length, 12 sizes that differ, 11 too few places, 23 and 24 as item
+-- 10. Assumes nothing.
 use Prim.Native.Nat.{ℕ, zero, suc, _+_, _-_, _*_, _/_}
 use mathlib.Core.Bool.{Bool, cond, _&&_}
 use mathlib.Core.List.{List}

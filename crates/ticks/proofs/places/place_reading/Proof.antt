@@ -65,7 +65,8 @@ returns-4 c =
     let j = n .neighbour .result in
     let e = n .neighbour .ensures in
     put-place (passesOf (a .passes .now) (a .places .now)) (a .number) (a .m) (a .k) (a .i) 0 j
-    (still-near (a .passes .now) (a .places .now) (a .k) g (a .m) (low q) (high q) j e) (a .out .now) _ (c .before .before .before .before .millis-between .result)
+    (still-near (a .passes .now) (a .places .now) (a .k) g (a .m) (low q) (high q) j e) (a .out .now) _
+    (c .before .before .before .before .millis-between .result)
     (is-placed (passesOf (a .passes .now) (a .places .now)) (a .number) (a .m) (q .before .before .if1 .left)
     (between (a .passes .now) (a .places .now) (a .k) g (a .first) (a .last) (a .m) (s .pre .from) (s .pre .to) (q .before .if2 .left) (q .if3 .left))
     ∙ sym (ap answer (c .before .before .before .before .millis-between .ensures
