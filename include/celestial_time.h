@@ -67,10 +67,10 @@
      27  a number of a bill is over its limit
      28  both lengths of line are 0
    A call tests in the order in which its comment lists them, and 11 last, but for
-   ct_place_ticks, where 11 comes second, and ct_offsets_at_0h, where it comes before the
-   dates' numbers. Where it has two or more, the comment has an example in which two hold,
-   with the one that comes first. "With no byte" is with a buffer of length 0, of which 11
-   holds. */
+   ct_place_ticks and ct_place_readings, where it comes before those of the passes, and
+   ct_offsets_at_0h, where it comes before the dates' numbers. Where it has two or more, the
+   comment has an example in which two hold, with the one that comes first. "With no byte" is
+   with a buffer of length 0, of which 11 holds. */
 #ifndef CELESTIAL_TIME_H
 #define CELESTIAL_TIME_H
 
