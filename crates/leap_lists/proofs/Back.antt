@@ -17,14 +17,14 @@ use Rattle.leap_lists.specs.declared.held.Held.{Held}
 use Rattle.leap_lists.specs.declared.lines.Line.{Line}
 use Rattle.leap_lists.specs.declared.lines.Line.the-variants as K
 use Rattle.leap_lists.specs.declared.ListAnswer.{ListAnswer}
-use Rattle.leap_lists.specs.lines.Scan.{isBlank}
-use Rattle.leap_lists.specs.lines.Months.{firstMonth, allMonths, daysOf, daysFrom}
-use Rattle.leap_lists.specs.lines.Lines.{lineOf}
-use Rattle.leap_lists.specs.Held.{faultOf, withLine}
+use Rattle.leap_lists.specs.lines.Scan.{lineBlank}
+use Rattle.leap_lists.specs.lines.Months.{firstMonth, allMonths, monthDays, daysFrom}
+use Rattle.leap_lists.specs.lines.Lines.{lineSays}
+use Rattle.leap_lists.specs.Held.{lineFault, withLine}
 use Rattle.leap_lists.specs.Texts.{onFirst, linesOf}
 use Rattle.leap_lists.specs.Reading.{refusedAt, answered, readFrom}
-use Rattle.leap_lists.specs.Grammar.{AllBlank, none, Ending, Says, month, ntp, expiry}
-use Rattle.leap_lists.specs.Writer.{lastDigits, monthLine, ntpLine, expiryLine, textOf}
+use Rattle.leap_lists.specs.Grammar.{OnlyBlanks, none, LineEnd, Says, month, ntp, expiry}
+use Rattle.leap_lists.specs.Writer.{lastDigits, monthLine, ntpLine, expiryLine, linesText}
 use Rattle.leap_lists.proofs.Grammar.{says-read}
 
 -- ---- digits with zeros in front
@@ -50,8 +50,8 @@ last-number zero n h = omega arith
 last-number (suc k) n h = digit-added n (lastDigits k (n / 10)) (last-number k (n / 10) (tenth n (10 ^ k) (rw (pow-suc 10 k) at h)))
 
 -- ---- one blank and a number, at the end of a line
-ends : (most c n : ℕ) → isBlank false c ≡ true → length (digitsOf n) ≤ most → Ending most (digitsOf n) (c ∷ digitsOf n)
-unfolding AllBlank
+ends : (most c n : ℕ) → lineBlank false c ≡ true → length (digitsOf n) ≤ most → LineEnd most (digitsOf n) (c ∷ digitsOf n)
+unfolding OnlyBlanks
 ends most c n b h = record {
   gap = c ∷ [];
   after = [];
@@ -66,17 +66,17 @@ ends most c n b h = record {
   a-comment = none;
 }
 
-space : isBlank false 32 ≡ true
-unfolding isBlank
+space : lineBlank false 32 ≡ true
+unfolding lineBlank
 space = refl
 
-tab : isBlank false 9 ≡ true
-unfolding isBlank
+tab : lineBlank false 9 ≡ true
+unfolding lineBlank
 tab = refl
 
 -- ---- a row, and an expiry
-pub month-line-read : (m s : ℕ) → m < 120000 → s < 1000000000 → lineOf (monthLine m s) ≡ K.Row m s
-unfolding monthLine AllBlank
+pub month-line-read : (m s : ℕ) → m < 120000 → s < 1000000000 → lineSays (monthLine m s) ≡ K.Row m s
+unfolding monthLine OnlyBlanks
 month-line-read m s hm hs =
     let y = lastDigits 4 (m / 12) in
     let n = lastDigits 2 (m % 12 + 1) in
@@ -88,15 +88,15 @@ month-line-read m s hm hs =
     ∙ (λ i. K.Row (whole i) (number-digits s i))
 
 days-most : (k m : ℕ) → daysFrom m k ≤ 31 * k
-unfolding daysFrom daysOf
+unfolding daysFrom monthDays
 days-most zero m = omega arith
 days-most (suc k) m =
     let h = days-most k (m + 1) in
     let d = short (leapYear (pos (m / 12))) (m % 12 + 1) (omega arith) (omega arith) in
     omega arith
 
-pub ntp-line-read : (m s : ℕ) → firstMonth ≤ m → m < 120000 → s < 1000000000 → lineOf (ntpLine m s) ≡ K.Row m s
-unfolding ntpLine AllBlank
+pub ntp-line-read : (m s : ℕ) → firstMonth ≤ m → m < 120000 → s < 1000000000 → lineSays (ntpLine m s) ≡ K.Row m s
+unfolding ntpLine OnlyBlanks
 ntp-line-read m s low hm hs =
     let k = m - firstMonth in
     let n = 86400 * daysFrom firstMonth k in
@@ -107,8 +107,8 @@ ntp-line-read m s low hm hs =
     (number-digits n) (ends 9 9 s tab (digits-few 8 s hs)))
     ∙ (λ i. K.Row (same i) (number-digits s i))
 
-pub expiry-line-read : (day : ℕ) → 15020 ≤ day → day < 11589094 → lineOf (expiryLine day) ≡ K.Expiry day
-unfolding expiryLine AllBlank
+pub expiry-line-read : (day : ℕ) → 15020 ≤ day → day < 11589094 → lineSays (expiryLine day) ≡ K.Expiry day
+unfolding expiryLine OnlyBlanks
 expiry-line-read day low high =
     let n = 86400 * (day - 15020) in
     let whole : number (digitsOf n) / 86400 + 15020 ≡ day = omega (arith, number-digits n) in
@@ -128,21 +128,21 @@ unfolding linesOf OneLine onFirst
 line-first [] x h = refl
 line-first (c ∷ l) x h = rw (ne-eqb _ _ (h .0), line-first l x (h .1))
 
-pub lines-back : (ls : List (List ℕ)) → AllLines ls → linesOf (textOf ls) ≡ ls
-unfolding textOf AllLines linesOf
+pub lines-back : (ls : List (List ℕ)) → AllLines ls → linesOf (linesText ls) ≡ ls
+unfolding linesText AllLines linesOf
 lines-back [] h = refl
-lines-back (l ∷ ls) h = line-first l (textOf ls) (h .0) ∙ ap (λ (x : List (List ℕ)). l ∷ x) (lines-back ls (h .1))
+lines-back (l ∷ ls) h = line-first l (linesText ls) (h .0) ∙ ap (λ (x : List (List ℕ)). l ∷ x) (lines-back ls (h .1))
 
 -- ---- two texts whose lines say the same are read alike
 said : Held → ℕ → List Line → ListAnswer
 said h n [] = answered h
-said h n (l ∷ ls) = cond (eqb (faultOf h l) 0) (said (withLine h l) (n + 1) ls) (refusedAt (faultOf h l) (n + 1))
+said h n (l ∷ ls) = cond (eqb (lineFault h l) 0) (said (withLine h l) (n + 1) ls) (refusedAt (lineFault h l) (n + 1))
 
-by-said : (h : Held) (n : ℕ) (ls : List (List ℕ)) → readFrom h n ls ≡ said h n (map lineOf ls)
+by-said : (h : Held) (n : ℕ) (ls : List (List ℕ)) → readFrom h n ls ≡ said h n (map lineSays ls)
 unfolding readFrom said
 by-said h n [] = refl
 by-said h n (l ∷ ls) =
-    ap (λ (r : ListAnswer). cond (eqb (faultOf h (lineOf l)) 0) r (refusedAt (faultOf h (lineOf l)) (n + 1))) (by-said (withLine h (lineOf l)) (n + 1) ls)
+    ap (λ (r : ListAnswer). cond (eqb (lineFault h (lineSays l)) 0) r (refusedAt (lineFault h (lineSays l)) (n + 1))) (by-said (withLine h (lineSays l)) (n + 1) ls)
 
-pub read-alike : (h : Held) (n : ℕ) (ls ks : List (List ℕ)) → map lineOf ls ≡ map lineOf ks → readFrom h n ls ≡ readFrom h n ks
+pub read-alike : (h : Held) (n : ℕ) (ls ks : List (List ℕ)) → map lineSays ls ≡ map lineSays ks → readFrom h n ls ≡ readFrom h n ks
 read-alike h n ls ks e = by-said h n ls ∙ ap (said h n) e ∙ sym (by-said h n ks)

@@ -17,13 +17,13 @@ use Rattle.leap_table.specs.offsets.WholeSeconds.{wholeSeconds}
 use Rattle.leap_lists.specs.declared.ListAnswer.{ListAnswer}
 use Rattle.leap_lists.specs.declared.lines.Line.{Line}
 use Rattle.leap_lists.specs.declared.lines.Line.the-variants as K
-use Rattle.leap_lists.specs.lines.Scan.{isBlank, afterBlanks, leading, ended, numberThen, lastNumber}
-use Rattle.leap_lists.specs.lines.Months.{daysOf, monthAfter, monthFrom}
-use Rattle.leap_lists.specs.lines.Lines.{rowWith, monthRow, ntpRow, rowBehind, rowOf, expiryOf, lineFrom, lineOf}
-use Rattle.leap_lists.specs.Held.{secondsFrom, libraryRow, noneHeld, laterFault, faultOf, withLine}
+use Rattle.leap_lists.specs.lines.Scan.{lineBlank, behindBlanks, firstDigits, ended, numberThen, lastNumber}
+use Rattle.leap_lists.specs.lines.Months.{monthDays, monthAfter, monthFrom}
+use Rattle.leap_lists.specs.lines.Lines.{rowWith, monthRow, ntpRow, rowBehind, rowOf, expiryOf, lineFrom, lineSays}
+use Rattle.leap_lists.specs.Held.{secondsFrom, libraryRow, noneHeld, laterFault, lineFault, withLine}
 use Rattle.leap_lists.specs.Texts.{onFirst, linesOf}
 use Rattle.leap_lists.specs.Reading.{answered, refusedAt, readFrom, readOf}
-use Rattle.leap_lists.specs.Writer.{textOf}
+use Rattle.leap_lists.specs.Writer.{linesText}
 
 -- the bytes of a text that is written out here
 abbrev pub asciiBytes : String → List ℕ
@@ -79,9 +79,9 @@ others =
     (239 ∷ (188 ∷ (146 ∷ (239 ∷ (188 ∷ (144 ∷ (239 ∷ (188 ∷ (146 ∷ (239 ∷ (188 ∷ (151 ∷ asciiBytes "-01 38")))))))))))) ∷
     []
 
-pub outside-lines : map lineOf others ≡ replicate 44 K.Outside
-unfolding others lineOf lineFrom rowOf rowBehind monthRow ntpRow rowWith expiryOf lastNumber numberThen ended leading afterBlanks isBlank
-    isDigit monthFrom monthAfter daysOf leapSize lengths
+pub outside-lines : map lineSays others ≡ replicate 44 K.Outside
+unfolding others lineSays lineFrom rowOf rowBehind monthRow ntpRow rowWith expiryOf lastNumber numberThen ended firstDigits behindBlanks lineBlank
+    isDigit monthFrom monthAfter monthDays leapSize lengths
 outside-lines = refl
 
 -- ---- lines of every kind
@@ -99,7 +99,7 @@ kinds =
     asciiBytes "0000-01 0" ∷
     asciiBytes "2272060800 10" ∷
     (asciiBytes "2272060800" ++ (9 ∷ (asciiBytes "10" ++ (9 ∷ asciiBytes "# 1 Jan 1972")))) ∷
-    (13 ∷ (asciiBytes " 3692217600 37" ++ (13 ∷ []))) ∷
+    (13 ∷ (asciiBytes " 3644697600 36" ++ (13 ∷ []))) ∷
     asciiBytes "0 5#-" ∷
     asciiBytes "255608611200 1" ∷
     asciiBytes "#@ 3928521600" ∷
@@ -107,7 +107,7 @@ kinds =
     (asciiBytes "#@ 999999999999" ++ (13 ∷ [])) ∷
     []
 
-pub kinds-read : map lineOf kinds
+pub kinds-read : map lineSays kinds
     ≡ K.Blank ∷
     K.Blank ∷
     K.Blank ∷
@@ -120,15 +120,15 @@ pub kinds-read : map lineOf kinds
     K.Row 0 0 ∷
     K.Row 23664 10 ∷
     K.Row 23664 10 ∷
-    K.Row 24204 37 ∷
+    K.Row 24186 36 ∷
     K.Row 22800 5 ∷
     K.Row 119999 1 ∷
     K.Expiry 60489 ∷
     K.Expiry 60489 ∷
     K.Expiry 11589094 ∷
     []
-unfolding kinds lineOf lineFrom rowOf rowBehind monthRow ntpRow rowWith expiryOf lastNumber numberThen ended leading afterBlanks isBlank
-    isDigit monthFrom monthAfter daysOf leapSize lengths
+unfolding kinds lineSays lineFrom rowOf rowBehind monthRow ntpRow rowWith expiryOf lastNumber numberThen ended firstDigits behindBlanks lineBlank
+    isDigit monthFrom monthAfter monthDays leapSize lengths
 kinds-read = refl
 
 -- ---- the library's own rows, in both forms
@@ -201,124 +201,124 @@ abbrev pub told : ListAnswer → List ℕ
 told r = r .number ∷ r .line ∷ r .table .«months_size» ∷ r .«known_until» ∷ []
 
 -- 28 rows that the library has: no row is lent
-pub own-months : told (readOf (textOf monthLines)) ≡ 0 ∷ 0 ∷ 0 ∷ 0 ∷ []
-unfolding monthLines readOf readFrom linesOf onFirst textOf noneHeld faultOf withLine laterFault libraryRow secondsFrom wholeSeconds fixed
-    reached monthNumber answered refusedAt lineOf lineFrom rowOf rowBehind monthRow ntpRow rowWith expiryOf lastNumber numberThen ended
-    leading afterBlanks isBlank isDigit monthFrom monthAfter daysOf leapSize lengths
+pub own-months : told (readOf (linesText monthLines)) ≡ 0 ∷ 0 ∷ 0 ∷ 0 ∷ []
+unfolding monthLines readOf readFrom linesOf onFirst linesText noneHeld lineFault withLine laterFault libraryRow secondsFrom wholeSeconds fixed
+    reached monthNumber answered refusedAt lineSays lineFrom rowOf rowBehind monthRow ntpRow rowWith expiryOf lastNumber numberThen ended
+    firstDigits behindBlanks lineBlank isDigit monthFrom monthAfter monthDays leapSize lengths
 own-months = refl
 
 -- the IERS's form says the same, line by line
-pub own-ntp : map lineOf (linesOf (textOf ntpLines)) ≡ map lineOf monthLines
-unfolding monthLines ntpLines readOf readFrom linesOf onFirst textOf noneHeld faultOf withLine laterFault libraryRow secondsFrom wholeSeconds fixed
-    reached monthNumber answered refusedAt lineOf lineFrom rowOf rowBehind monthRow ntpRow rowWith expiryOf lastNumber numberThen ended
-    leading afterBlanks isBlank isDigit monthFrom monthAfter daysOf leapSize lengths
+pub own-ntp : map lineSays (linesOf (linesText ntpLines)) ≡ map lineSays monthLines
+unfolding monthLines ntpLines readOf readFrom linesOf onFirst linesText noneHeld lineFault withLine laterFault libraryRow secondsFrom wholeSeconds fixed
+    reached monthNumber answered refusedAt lineSays lineFrom rowOf rowBehind monthRow ntpRow rowWith expiryOf lastNumber numberThen ended
+    firstDigits behindBlanks lineBlank isDigit monthFrom monthAfter monthDays leapSize lengths
 own-ntp = refl
 
 -- and one behind them
-pub one-more : told (readOf (textOf (monthLines ++ (asciiBytes "2027-01 38" ∷ [])))) ≡ 0 ∷ 0 ∷ 1 ∷ 0 ∷ []
-unfolding monthLines readOf readFrom linesOf onFirst textOf noneHeld faultOf withLine laterFault libraryRow secondsFrom wholeSeconds fixed
-    reached monthNumber answered refusedAt lineOf lineFrom rowOf rowBehind monthRow ntpRow rowWith expiryOf lastNumber numberThen ended
-    leading afterBlanks isBlank isDigit monthFrom monthAfter daysOf leapSize lengths
+pub one-more : told (readOf (linesText (monthLines ++ (asciiBytes "2027-01 38" ∷ [])))) ≡ 0 ∷ 0 ∷ 1 ∷ 0 ∷ []
+unfolding monthLines readOf readFrom linesOf onFirst linesText noneHeld lineFault withLine laterFault libraryRow secondsFrom wholeSeconds fixed
+    reached monthNumber answered refusedAt lineSays lineFrom rowOf rowBehind monthRow ntpRow rowWith expiryOf lastNumber numberThen ended
+    firstDigits behindBlanks lineBlank isDigit monthFrom monthAfter monthDays leapSize lengths
 one-more = refl
 
 pub no-text : told (readOf ([])) ≡ 0 ∷ 0 ∷ 0 ∷ 0 ∷ []
-unfolding readOf readFrom linesOf onFirst textOf noneHeld faultOf withLine laterFault libraryRow secondsFrom wholeSeconds fixed reached
-    monthNumber answered refusedAt lineOf lineFrom rowOf rowBehind monthRow ntpRow rowWith expiryOf lastNumber numberThen ended leading
-    afterBlanks isBlank isDigit monthFrom monthAfter daysOf leapSize lengths
+unfolding readOf readFrom linesOf onFirst linesText noneHeld lineFault withLine laterFault libraryRow secondsFrom wholeSeconds fixed reached
+    monthNumber answered refusedAt lineSays lineFrom rowOf rowBehind monthRow ntpRow rowWith expiryOf lastNumber numberThen ended firstDigits
+    behindBlanks lineBlank isDigit monthFrom monthAfter monthDays leapSize lengths
 no-text = refl
 
 -- the expiry of the list that ends on 2026-12-28
-pub with-expiry : told (readOf (textOf ((asciiBytes "#$" ++ (9 ∷ asciiBytes "3676924800")) ∷ (asciiBytes "#@" ++ (9 ∷ asciiBytes "3991420800")) ∷ (asciiBytes "3692217600" ++ (9 ∷ asciiBytes "37")) ∷ []))) ≡ 0 ∷ 0 ∷ 0 ∷ 61217 ∷ []
-unfolding readOf readFrom linesOf onFirst textOf noneHeld faultOf withLine laterFault libraryRow secondsFrom wholeSeconds fixed reached
-    monthNumber answered refusedAt lineOf lineFrom rowOf rowBehind monthRow ntpRow rowWith expiryOf lastNumber numberThen ended leading
-    afterBlanks isBlank isDigit monthFrom monthAfter daysOf leapSize lengths
+pub with-expiry : told (readOf (linesText ((asciiBytes "#$" ++ (9 ∷ asciiBytes "3676924800")) ∷ (asciiBytes "#@" ++ (9 ∷ asciiBytes "3991420800")) ∷ (asciiBytes "3692217600" ++ (9 ∷ asciiBytes "37")) ∷ []))) ≡ 0 ∷ 0 ∷ 0 ∷ 61217 ∷ []
+unfolding readOf readFrom linesOf onFirst linesText noneHeld lineFault withLine laterFault libraryRow secondsFrom wholeSeconds fixed reached
+    monthNumber answered refusedAt lineSays lineFrom rowOf rowBehind monthRow ntpRow rowWith expiryOf lastNumber numberThen ended firstDigits
+    behindBlanks lineBlank isDigit monthFrom monthAfter monthDays leapSize lengths
 with-expiry = refl
 
 -- of two expiries the last
-pub last-expiry : told (readOf (textOf (asciiBytes "#@ 3991420800" ∷ asciiBytes "#@ 3991507200" ∷ []))) ≡ 0 ∷ 0 ∷ 0 ∷ 61218 ∷ []
-unfolding readOf readFrom linesOf onFirst textOf noneHeld faultOf withLine laterFault libraryRow secondsFrom wholeSeconds fixed reached
-    monthNumber answered refusedAt lineOf lineFrom rowOf rowBehind monthRow ntpRow rowWith expiryOf lastNumber numberThen ended leading
-    afterBlanks isBlank isDigit monthFrom monthAfter daysOf leapSize lengths
+pub last-expiry : told (readOf (linesText (asciiBytes "#@ 3991420800" ∷ asciiBytes "#@ 3991507200" ∷ []))) ≡ 0 ∷ 0 ∷ 0 ∷ 61218 ∷ []
+unfolding readOf readFrom linesOf onFirst linesText noneHeld lineFault withLine laterFault libraryRow secondsFrom wholeSeconds fixed reached
+    monthNumber answered refusedAt lineSays lineFrom rowOf rowBehind monthRow ntpRow rowWith expiryOf lastNumber numberThen ended firstDigits
+    behindBlanks lineBlank isDigit monthFrom monthAfter monthDays leapSize lengths
 last-expiry = refl
 
 -- the first fault in the text's order: line 2 is outside the grammar, line 3 goes by two seconds
-pub not-a-line : told (readOf (textOf (asciiBytes "2027-01 38" ∷ asciiBytes "2028-01" ∷ asciiBytes "2029-01 40" ∷ []))) ≡ 15 ∷ 2 ∷ 0 ∷ 0 ∷ []
-unfolding readOf readFrom linesOf onFirst textOf noneHeld faultOf withLine laterFault libraryRow secondsFrom wholeSeconds fixed reached
-    monthNumber answered refusedAt lineOf lineFrom rowOf rowBehind monthRow ntpRow rowWith expiryOf lastNumber numberThen ended leading
-    afterBlanks isBlank isDigit monthFrom monthAfter daysOf leapSize lengths
+pub not-a-line : told (readOf (linesText (asciiBytes "2027-01 38" ∷ asciiBytes "2028-01" ∷ asciiBytes "2029-01 40" ∷ []))) ≡ 15 ∷ 2 ∷ 0 ∷ 0 ∷ []
+unfolding readOf readFrom linesOf onFirst linesText noneHeld lineFault withLine laterFault libraryRow secondsFrom wholeSeconds fixed reached
+    monthNumber answered refusedAt lineSays lineFrom rowOf rowBehind monthRow ntpRow rowWith expiryOf lastNumber numberThen ended firstDigits
+    behindBlanks lineBlank isDigit monthFrom monthAfter monthDays leapSize lengths
 not-a-line = refl
 
 -- a row of the library's with other seconds
-pub other-own-seconds : told (readOf (textOf (asciiBytes "1972-01 10" ∷ asciiBytes "1972-07 12" ∷ []))) ≡ 22 ∷ 2 ∷ 0 ∷ 0 ∷ []
-unfolding readOf readFrom linesOf onFirst textOf noneHeld faultOf withLine laterFault libraryRow secondsFrom wholeSeconds fixed reached
-    monthNumber answered refusedAt lineOf lineFrom rowOf rowBehind monthRow ntpRow rowWith expiryOf lastNumber numberThen ended leading
-    afterBlanks isBlank isDigit monthFrom monthAfter daysOf leapSize lengths
+pub other-own-seconds : told (readOf (linesText (asciiBytes "1972-01 10" ∷ asciiBytes "1972-07 12" ∷ []))) ≡ 22 ∷ 2 ∷ 0 ∷ 0 ∷ []
+unfolding readOf readFrom linesOf onFirst linesText noneHeld lineFault withLine laterFault libraryRow secondsFrom wholeSeconds fixed reached
+    monthNumber answered refusedAt lineSays lineFrom rowOf rowBehind monthRow ntpRow rowWith expiryOf lastNumber numberThen ended firstDigits
+    behindBlanks lineBlank isDigit monthFrom monthAfter monthDays leapSize lengths
 other-own-seconds = refl
 
 -- a month in which the library has no row
-pub other-own-month : told (readOf (textOf ([] ∷ asciiBytes "2016-07 36" ∷ []))) ≡ 22 ∷ 2 ∷ 0 ∷ 0 ∷ []
-unfolding readOf readFrom linesOf onFirst textOf noneHeld faultOf withLine laterFault libraryRow secondsFrom wholeSeconds fixed reached
-    monthNumber answered refusedAt lineOf lineFrom rowOf rowBehind monthRow ntpRow rowWith expiryOf lastNumber numberThen ended leading
-    afterBlanks isBlank isDigit monthFrom monthAfter daysOf leapSize lengths
+pub other-own-month : told (readOf (linesText ([] ∷ asciiBytes "2016-07 36" ∷ []))) ≡ 22 ∷ 2 ∷ 0 ∷ 0 ∷ []
+unfolding readOf readFrom linesOf onFirst linesText noneHeld lineFault withLine laterFault libraryRow secondsFrom wholeSeconds fixed reached
+    monthNumber answered refusedAt lineSays lineFrom rowOf rowBehind monthRow ntpRow rowWith expiryOf lastNumber numberThen ended firstDigits
+    behindBlanks lineBlank isDigit monthFrom monthAfter monthDays leapSize lengths
 other-own-month = refl
 
-pub before-1972 : told (readOf (textOf (asciiBytes "1971-12 10" ∷ []))) ≡ 22 ∷ 1 ∷ 0 ∷ 0 ∷ []
-unfolding readOf readFrom linesOf onFirst textOf noneHeld faultOf withLine laterFault libraryRow secondsFrom wholeSeconds fixed reached
-    monthNumber answered refusedAt lineOf lineFrom rowOf rowBehind monthRow ntpRow rowWith expiryOf lastNumber numberThen ended leading
-    afterBlanks isBlank isDigit monthFrom monthAfter daysOf leapSize lengths
+pub before-1972 : told (readOf (linesText (asciiBytes "1971-12 10" ∷ []))) ≡ 22 ∷ 1 ∷ 0 ∷ 0 ∷ []
+unfolding readOf readFrom linesOf onFirst linesText noneHeld lineFault withLine laterFault libraryRow secondsFrom wholeSeconds fixed reached
+    monthNumber answered refusedAt lineSays lineFrom rowOf rowBehind monthRow ntpRow rowWith expiryOf lastNumber numberThen ended firstDigits
+    behindBlanks lineBlank isDigit monthFrom monthAfter monthDays leapSize lengths
 before-1972 = refl
 
-pub not-rising : told (readOf (textOf (asciiBytes "2027-01 38" ∷ asciiBytes "2027-01 39" ∷ []))) ≡ 21 ∷ 2 ∷ 0 ∷ 0 ∷ []
-unfolding readOf readFrom linesOf onFirst textOf noneHeld faultOf withLine laterFault libraryRow secondsFrom wholeSeconds fixed reached
-    monthNumber answered refusedAt lineOf lineFrom rowOf rowBehind monthRow ntpRow rowWith expiryOf lastNumber numberThen ended leading
-    afterBlanks isBlank isDigit monthFrom monthAfter daysOf leapSize lengths
+pub not-rising : told (readOf (linesText (asciiBytes "2027-01 38" ∷ asciiBytes "2027-01 39" ∷ []))) ≡ 21 ∷ 2 ∷ 0 ∷ 0 ∷ []
+unfolding readOf readFrom linesOf onFirst linesText noneHeld lineFault withLine laterFault libraryRow secondsFrom wholeSeconds fixed reached
+    monthNumber answered refusedAt lineSays lineFrom rowOf rowBehind monthRow ntpRow rowWith expiryOf lastNumber numberThen ended firstDigits
+    behindBlanks lineBlank isDigit monthFrom monthAfter monthDays leapSize lengths
 not-rising = refl
 
-pub two-seconds : told (readOf (textOf (asciiBytes "2027-01 38" ∷ asciiBytes "2027-07 40" ∷ []))) ≡ 22 ∷ 2 ∷ 0 ∷ 0 ∷ []
-unfolding readOf readFrom linesOf onFirst textOf noneHeld faultOf withLine laterFault libraryRow secondsFrom wholeSeconds fixed reached
-    monthNumber answered refusedAt lineOf lineFrom rowOf rowBehind monthRow ntpRow rowWith expiryOf lastNumber numberThen ended leading
-    afterBlanks isBlank isDigit monthFrom monthAfter daysOf leapSize lengths
+pub two-seconds : told (readOf (linesText (asciiBytes "2027-01 38" ∷ asciiBytes "2027-07 40" ∷ []))) ≡ 22 ∷ 2 ∷ 0 ∷ 0 ∷ []
+unfolding readOf readFrom linesOf onFirst linesText noneHeld lineFault withLine laterFault libraryRow secondsFrom wholeSeconds fixed reached
+    monthNumber answered refusedAt lineSays lineFrom rowOf rowBehind monthRow ntpRow rowWith expiryOf lastNumber numberThen ended firstDigits
+    behindBlanks lineBlank isDigit monthFrom monthAfter monthDays leapSize lengths
 two-seconds = refl
 
-pub one-less : told (readOf (textOf (asciiBytes "2027-01 36" ∷ asciiBytes "2027-07 35" ∷ []))) ≡ 0 ∷ 0 ∷ 2 ∷ 0 ∷ []
-unfolding readOf readFrom linesOf onFirst textOf noneHeld faultOf withLine laterFault libraryRow secondsFrom wholeSeconds fixed reached
-    monthNumber answered refusedAt lineOf lineFrom rowOf rowBehind monthRow ntpRow rowWith expiryOf lastNumber numberThen ended leading
-    afterBlanks isBlank isDigit monthFrom monthAfter daysOf leapSize lengths
+pub one-less : told (readOf (linesText (asciiBytes "2027-01 36" ∷ asciiBytes "2027-07 35" ∷ []))) ≡ 0 ∷ 0 ∷ 2 ∷ 0 ∷ []
+unfolding readOf readFrom linesOf onFirst linesText noneHeld lineFault withLine laterFault libraryRow secondsFrom wholeSeconds fixed reached
+    monthNumber answered refusedAt lineSays lineFrom rowOf rowBehind monthRow ntpRow rowWith expiryOf lastNumber numberThen ended firstDigits
+    behindBlanks lineBlank isDigit monthFrom monthAfter monthDays leapSize lengths
 one-less = refl
 
-pub sixteen : told (readOf (textOf (asciiBytes "2020-01 38" ∷ asciiBytes "2021-01 39" ∷ asciiBytes "2022-01 40" ∷ asciiBytes "2023-01 41" ∷ asciiBytes "2024-01 42" ∷ asciiBytes "2025-01 43" ∷ asciiBytes "2026-01 44" ∷ asciiBytes "2027-01 45" ∷ asciiBytes "2028-01 46" ∷ asciiBytes "2029-01 47" ∷ asciiBytes "2030-01 48" ∷ asciiBytes "2031-01 49" ∷ asciiBytes "2032-01 50" ∷ asciiBytes "2033-01 51" ∷ asciiBytes "2034-01 52" ∷ asciiBytes "2035-01 53" ∷ []))) ≡ 0 ∷ 0 ∷ 16 ∷ 0 ∷ []
-unfolding readOf readFrom linesOf onFirst textOf noneHeld faultOf withLine laterFault libraryRow secondsFrom wholeSeconds fixed reached
-    monthNumber answered refusedAt lineOf lineFrom rowOf rowBehind monthRow ntpRow rowWith expiryOf lastNumber numberThen ended leading
-    afterBlanks isBlank isDigit monthFrom monthAfter daysOf leapSize lengths
+pub sixteen : told (readOf (linesText (asciiBytes "2020-01 38" ∷ asciiBytes "2021-01 39" ∷ asciiBytes "2022-01 40" ∷ asciiBytes "2023-01 41" ∷ asciiBytes "2024-01 42" ∷ asciiBytes "2025-01 43" ∷ asciiBytes "2026-01 44" ∷ asciiBytes "2027-01 45" ∷ asciiBytes "2028-01 46" ∷ asciiBytes "2029-01 47" ∷ asciiBytes "2030-01 48" ∷ asciiBytes "2031-01 49" ∷ asciiBytes "2032-01 50" ∷ asciiBytes "2033-01 51" ∷ asciiBytes "2034-01 52" ∷ asciiBytes "2035-01 53" ∷ []))) ≡ 0 ∷ 0 ∷ 16 ∷ 0 ∷ []
+unfolding readOf readFrom linesOf onFirst linesText noneHeld lineFault withLine laterFault libraryRow secondsFrom wholeSeconds fixed reached
+    monthNumber answered refusedAt lineSays lineFrom rowOf rowBehind monthRow ntpRow rowWith expiryOf lastNumber numberThen ended firstDigits
+    behindBlanks lineBlank isDigit monthFrom monthAfter monthDays leapSize lengths
 sixteen = refl
 
 -- 20 comes before 21 and 22
-pub seventeen : told (readOf (textOf (asciiBytes "2020-01 38" ∷ asciiBytes "2021-01 39" ∷ asciiBytes "2022-01 40" ∷ asciiBytes "2023-01 41" ∷ asciiBytes "2024-01 42" ∷ asciiBytes "2025-01 43" ∷ asciiBytes "2026-01 44" ∷ asciiBytes "2027-01 45" ∷ asciiBytes "2028-01 46" ∷ asciiBytes "2029-01 47" ∷ asciiBytes "2030-01 48" ∷ asciiBytes "2031-01 49" ∷ asciiBytes "2032-01 50" ∷ asciiBytes "2033-01 51" ∷ asciiBytes "2034-01 52" ∷ asciiBytes "2035-01 53" ∷ asciiBytes "2020-01 99" ∷ []))) ≡ 20 ∷ 17 ∷ 0 ∷ 0 ∷ []
-unfolding readOf readFrom linesOf onFirst textOf noneHeld faultOf withLine laterFault libraryRow secondsFrom wholeSeconds fixed reached
-    monthNumber answered refusedAt lineOf lineFrom rowOf rowBehind monthRow ntpRow rowWith expiryOf lastNumber numberThen ended leading
-    afterBlanks isBlank isDigit monthFrom monthAfter daysOf leapSize lengths
+pub seventeen : told (readOf (linesText (asciiBytes "2020-01 38" ∷ asciiBytes "2021-01 39" ∷ asciiBytes "2022-01 40" ∷ asciiBytes "2023-01 41" ∷ asciiBytes "2024-01 42" ∷ asciiBytes "2025-01 43" ∷ asciiBytes "2026-01 44" ∷ asciiBytes "2027-01 45" ∷ asciiBytes "2028-01 46" ∷ asciiBytes "2029-01 47" ∷ asciiBytes "2030-01 48" ∷ asciiBytes "2031-01 49" ∷ asciiBytes "2032-01 50" ∷ asciiBytes "2033-01 51" ∷ asciiBytes "2034-01 52" ∷ asciiBytes "2035-01 53" ∷ asciiBytes "2020-01 99" ∷ []))) ≡ 20 ∷ 17 ∷ 0 ∷ 0 ∷ []
+unfolding readOf readFrom linesOf onFirst linesText noneHeld lineFault withLine laterFault libraryRow secondsFrom wholeSeconds fixed reached
+    monthNumber answered refusedAt lineSays lineFrom rowOf rowBehind monthRow ntpRow rowWith expiryOf lastNumber numberThen ended firstDigits
+    behindBlanks lineBlank isDigit monthFrom monthAfter monthDays leapSize lengths
 seventeen = refl
 
 -- 21 comes before 22
-pub rising-first : told (readOf (textOf (asciiBytes "2027-01 38" ∷ asciiBytes "2026-01 99" ∷ []))) ≡ 21 ∷ 2 ∷ 0 ∷ 0 ∷ []
-unfolding readOf readFrom linesOf onFirst textOf noneHeld faultOf withLine laterFault libraryRow secondsFrom wholeSeconds fixed reached
-    monthNumber answered refusedAt lineOf lineFrom rowOf rowBehind monthRow ntpRow rowWith expiryOf lastNumber numberThen ended leading
-    afterBlanks isBlank isDigit monthFrom monthAfter daysOf leapSize lengths
+pub rising-first : told (readOf (linesText (asciiBytes "2027-01 38" ∷ asciiBytes "2026-01 99" ∷ []))) ≡ 21 ∷ 2 ∷ 0 ∷ 0 ∷ []
+unfolding readOf readFrom linesOf onFirst linesText noneHeld lineFault withLine laterFault libraryRow secondsFrom wholeSeconds fixed reached
+    monthNumber answered refusedAt lineSays lineFrom rowOf rowBehind monthRow ntpRow rowWith expiryOf lastNumber numberThen ended firstDigits
+    behindBlanks lineBlank isDigit monthFrom monthAfter monthDays leapSize lengths
 rising-first = refl
 
 -- a row of the library's may stand behind a later one
-pub own-behind-later : told (readOf (textOf (asciiBytes "2027-01 38" ∷ asciiBytes "2017-01 37" ∷ []))) ≡ 0 ∷ 0 ∷ 1 ∷ 0 ∷ []
-unfolding readOf readFrom linesOf onFirst textOf noneHeld faultOf withLine laterFault libraryRow secondsFrom wholeSeconds fixed reached
-    monthNumber answered refusedAt lineOf lineFrom rowOf rowBehind monthRow ntpRow rowWith expiryOf lastNumber numberThen ended leading
-    afterBlanks isBlank isDigit monthFrom monthAfter daysOf leapSize lengths
+pub own-behind-later : told (readOf (linesText (asciiBytes "2027-01 38" ∷ asciiBytes "2017-01 37" ∷ []))) ≡ 0 ∷ 0 ∷ 1 ∷ 0 ∷ []
+unfolding readOf readFrom linesOf onFirst linesText noneHeld lineFault withLine laterFault libraryRow secondsFrom wholeSeconds fixed reached
+    monthNumber answered refusedAt lineSays lineFrom rowOf rowBehind monthRow ntpRow rowWith expiryOf lastNumber numberThen ended firstDigits
+    behindBlanks lineBlank isDigit monthFrom monthAfter monthDays leapSize lengths
 own-behind-later = refl
 
 -- the rows that are read, place by place
-pub two-rows : (readOf (textOf (asciiBytes "2027-01 38" ∷ asciiBytes "2030-07 37" ∷ [])) .table .months ≡ pos 24324 ∷ pos 24366 ∷ replicate 14 (pos 0))
-    × (readOf (textOf (asciiBytes "2027-01 38" ∷ asciiBytes "2030-07 37" ∷ [])) .table .seconds ≡ pos 38 ∷ pos 37 ∷ replicate 14 (pos 0))
-unfolding readOf readFrom linesOf onFirst textOf noneHeld faultOf withLine laterFault libraryRow secondsFrom wholeSeconds fixed reached monthNumber
-    answered refusedAt lineOf lineFrom rowOf rowBehind monthRow ntpRow rowWith expiryOf lastNumber numberThen ended leading afterBlanks
-    isBlank isDigit monthFrom monthAfter daysOf leapSize lengths
+pub two-rows : (readOf (linesText (asciiBytes "2027-01 38" ∷ asciiBytes "2030-07 37" ∷ [])) .table .months ≡ pos 24324 ∷ pos 24366 ∷ replicate 14 (pos 0))
+    × (readOf (linesText (asciiBytes "2027-01 38" ∷ asciiBytes "2030-07 37" ∷ [])) .table .seconds ≡ pos 38 ∷ pos 37 ∷ replicate 14 (pos 0))
+unfolding readOf readFrom linesOf onFirst linesText noneHeld lineFault withLine laterFault libraryRow secondsFrom wholeSeconds fixed reached monthNumber
+    answered refusedAt lineSays lineFrom rowOf rowBehind monthRow ntpRow rowWith expiryOf lastNumber numberThen ended firstDigits behindBlanks
+    lineBlank isDigit monthFrom monthAfter monthDays leapSize lengths
 two-rows = (refl, refl)
 
 -- ---- what the library has: each row of the table from 1972 on, and no other month up to the last

@@ -11,18 +11,18 @@ use lib.Dec.{ltb}
 use borrow.Author.Tests.{eq-eqb, ne-eqb, ltb-true, ltb-false}
 use Rattle.leap_lists.specs.declared.held.Held.{Held}
 use Rattle.leap_lists.specs.declared.lines.Line.{Line}
-use Rattle.leap_lists.specs.lines.Lines.{lineOf}
-use Rattle.leap_lists.specs.Held.{noneHeld, faultOf, withLine}
+use Rattle.leap_lists.specs.lines.Lines.{lineSays}
+use Rattle.leap_lists.specs.Held.{noneHeld, lineFault, withLine}
 use Rattle.leap_lists.specs.Texts.{linesOf, firstLine, Behind}
 use Rattle.leap_lists.specs.Reading.{answered, refusedAt, readFrom, readOf}
 use Rattle.leap_lists.proofs.Texts.{first-part, lines-first}
 
 module _ (h : Held) (n : ℕ) (l : List ℕ) (ls : List (List ℕ)) where
-  pub fault-there : (k : ℕ) → (k ≡ 0 → ⊥) → k ≡ faultOf h (lineOf l) → readFrom h n (l ∷ ls) ≡ refusedAt k (n + 1)
+  pub fault-there : (k : ℕ) → (k ≡ 0 → ⊥) → k ≡ lineFault h (lineSays l) → readFrom h n (l ∷ ls) ≡ refusedAt k (n + 1)
   unfolding readFrom
-  fault-there k z e = let no : faultOf h (lineOf l) ≡ 0 → ⊥ = λ g. z (e ∙ g) in rw (ne-eqb _ _ no, e)
+  fault-there k z e = let no : lineFault h (lineSays l) ≡ 0 → ⊥ = λ g. z (e ∙ g) in rw (ne-eqb _ _ no, e)
 
-  pub no-fault : faultOf h (lineOf l) ≡ 0 → readFrom h n (l ∷ ls) ≡ readFrom (withLine h (lineOf l)) (n + 1) ls
+  pub no-fault : lineFault h (lineSays l) ≡ 0 → readFrom h n (l ∷ ls) ≡ readFrom (withLine h (lineSays l)) (n + 1) ls
   unfolding readFrom
   no-fault e = rw (eq-eqb _ _ e)
 

@@ -21,8 +21,8 @@ use Rattle.leap_lists.specs.declared.ListAnswer.{ListAnswer}
 use Rattle.leap_lists.specs.declared.held.Held.{Held}
 use Rattle.leap_lists.specs.declared.lines.Line.{Line}
 use Rattle.leap_lists.specs.declared.lines.Line.the-variants as K
-use Rattle.leap_lists.specs.lines.Lines.{lineOf}
-use Rattle.leap_lists.specs.Held.{noneHeld, libraryRow, laterFault, faultOf, withRow, withLine}
+use Rattle.leap_lists.specs.lines.Lines.{lineSays}
+use Rattle.leap_lists.specs.Held.{noneHeld, libraryRow, laterFault, lineFault, withRow, withLine}
 use Rattle.leap_lists.specs.Texts.{linesOf}
 use Rattle.leap_lists.specs.Reading.{answered, refusedAt, readFrom, readOf}
 
@@ -126,8 +126,8 @@ good-more h m s g f =
         ) (one-step (h .second) s (f .one-second))
 
 -- ---- a line that is not refused
-pub good-line : (h : Held) (l : Line) → Good h → faultOf h l ≡ 0 → Good (withLine h l)
-unfolding withLine faultOf
+pub good-line : (h : Held) (l : Line) → Good h → lineFault h l ≡ 0 → Good (withLine h l)
+unfolding withLine lineFault
 good-line h K.Blank g e = g
 good-line h (K.Row m s) g e = either (ltb lastMonth m) e
   where
@@ -170,16 +170,16 @@ lines-taken : (h : Held) (n : ℕ) (ls : List (List ℕ)) → Good h → readFro
 unfolding readFrom answered
 lines-taken h n [] g e = good-taken h g
 lines-taken h n (l ∷ ls) g e =
-    either (eqb (faultOf h (lineOf l)) 0) refl (λ k. lines-taken (withLine h (lineOf l)) (n + 1) ls (good-line h (lineOf l) g k)) e
+    either (eqb (lineFault h (lineSays l)) 0) refl (λ k. lines-taken (withLine h (lineSays l)) (n + 1) ls (good-line h (lineSays l) g k)) e
   where
     on : ListAnswer
-    on = readFrom (withLine h (lineOf l)) (n + 1) ls
+    on = readFrom (withLine h (lineSays l)) (n + 1) ls
 
     off : ListAnswer
-    off = refusedAt (faultOf h (lineOf l)) (n + 1)
+    off = refusedAt (lineFault h (lineSays l)) (n + 1)
 
-    either : (b : Bool) → eqb (faultOf h (lineOf l)) 0 ≡ b
-        → (faultOf h (lineOf l) ≡ 0 → on .number ≡ 0 → tableOf (on .table) ≡ answer (rowsOf (on .table)))
+    either : (b : Bool) → eqb (lineFault h (lineSays l)) 0 ≡ b
+        → (lineFault h (lineSays l) ≡ 0 → on .number ≡ 0 → tableOf (on .table) ≡ answer (rowsOf (on .table)))
         → cond b on off .number ≡ 0 → tableOf (cond b on off .table) ≡ answer (rowsOf (cond b on off .table))
     either true p next q = next (eqb-true _ _ p) q
     either false p next q = absurd (eqb-false _ _ p (refused-number _ _ q))

@@ -8,13 +8,13 @@ use lib.ListN.{length, getD}
 use Rattle.numerals.specs.digits.Decimal.{number, AllDigits, Digits}
 use Rattle.leap_lists.specs.declared.lines.Line.{Line}
 use Rattle.leap_lists.specs.declared.lines.Line.the-variants as K
-use Rattle.leap_lists.specs.lines.Scan.{isBlank}
+use Rattle.leap_lists.specs.lines.Scan.{lineBlank}
 use Rattle.leap_lists.specs.lines.Months.{firstMonth, allMonths, daysFrom}
 
 -- each byte is a blank's
-unfoldable pub AllBlank : Bool → List ℕ → Type 0
-AllBlank returns [] = Unit
-AllBlank returns (c ∷ cs) = (isBlank returns c ≡ true) × AllBlank returns cs
+unfoldable pub OnlyBlanks : Bool → List ℕ → Type 0
+OnlyBlanks returns [] = Unit
+OnlyBlanks returns (c ∷ cs) = (lineBlank returns c ≡ true) × OnlyBlanks returns cs
 
 -- nothing, or a # and anything
 pub data Comment : List ℕ → Type 0 where
@@ -22,24 +22,24 @@ pub data Comment : List ℕ → Type 0 where
   some : (cs : List ℕ) → Comment (35 ∷ cs)
 
 -- the end of a line that has a number: spaces or tabs, one or more; at most `most` digits; blanks and a comment
-pub record Ending (most : ℕ) (digits : List ℕ) (s : List ℕ) : Type 0 where
+pub record LineEnd (most : ℕ) (digits : List ℕ) (s : List ℕ) : Type 0 where
   pub gap : List ℕ
   pub after : List ℕ
   pub comment : List ℕ
   pub is : s ≡ gap ++ (digits ++ (after ++ comment))
-  pub gap-blank : AllBlank false gap
+  pub gap-blank : OnlyBlanks false gap
   pub gap-some : 1 ≤ length gap
   pub all-digits : AllDigits digits
   pub some : 1 ≤ length digits
   pub few : length digits ≤ most
-  pub after-blank : AllBlank true after
+  pub after-blank : OnlyBlanks true after
   pub a-comment : Comment comment
 
 -- the line t says l. NTP seconds are the midnight that begins month k after January 1900
 pub data Says : List ℕ → Line → Type 0 where
-  nothing : (b c : List ℕ) → AllBlank true b → Comment c → (getD c 1 0 ≡ 64 → ⊥) → Says (b ++ c) K.Blank
-  month : (b y m e f : List ℕ) → AllBlank true b → Digits 4 y → Digits 2 m → 1 ≤ number m → number m ≤ 12 → Ending 9 f e
+  nothing : (b c : List ℕ) → OnlyBlanks true b → Comment c → (getD c 1 0 ≡ 64 → ⊥) → Says (b ++ c) K.Blank
+  month : (b y m e f : List ℕ) → OnlyBlanks true b → Digits 4 y → Digits 2 m → 1 ≤ number m → number m ≤ 12 → LineEnd 9 f e
       → Says (b ++ (y ++ (45 ∷ (m ++ e)))) (K.Row (12 * number y + number m - 1) (number f))
-  ntp : (b d e f : List ℕ) (k : ℕ) → AllBlank true b → AllDigits d → 1 ≤ length d → length d ≤ 12 → k < allMonths → number d ≡ 86400 * daysFrom firstMonth k
-      → Ending 9 f e → Says (b ++ (d ++ e)) (K.Row (firstMonth + k) (number f))
-  expiry : (b e f : List ℕ) → AllBlank true b → Ending 12 f e → Says (b ++ (35 ∷ (64 ∷ e))) (K.Expiry (number f / 86400 + 15020))
+  ntp : (b d e f : List ℕ) (k : ℕ) → OnlyBlanks true b → AllDigits d → 1 ≤ length d → length d ≤ 12 → k < allMonths → number d ≡ 86400 * daysFrom firstMonth k
+      → LineEnd 9 f e → Says (b ++ (d ++ e)) (K.Row (firstMonth + k) (number f))
+  expiry : (b e f : List ℕ) → OnlyBlanks true b → LineEnd 12 f e → Says (b ++ (35 ∷ (64 ∷ e))) (K.Expiry (number f / 86400 + 15020))

@@ -38,11 +38,11 @@ noneHeld =
 unfoldable pub laterFault : Held → ℕ → ℕ → ℕ
 laterFault h m s = cond (leb 16 (h .size)) 20 (cond (leb m (h .month)) 21 (cond (oneApart (h .second) s) 0 22))
 
-unfoldable pub faultOf : Held → Line → ℕ
-faultOf h K.Blank = 0
-faultOf h (K.Row m s) = cond (ltb lastMonth m) (laterFault h m s) (cond (libraryRow m s) 0 22)
-faultOf h (K.Expiry d) = 0
-faultOf h K.Outside = 15
+unfoldable pub lineFault : Held → Line → ℕ
+lineFault h K.Blank = 0
+lineFault h (K.Row m s) = cond (ltb lastMonth m) (laterFault h m s) (cond (libraryRow m s) 0 22)
+lineFault h (K.Expiry d) = 0
+lineFault h K.Outside = 15
 
 abbrev pub withRow : Held → ℕ → ℕ → Held
 withRow h m s = record {

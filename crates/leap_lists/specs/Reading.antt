@@ -9,8 +9,8 @@ use lib.ListN.{replicate}
 use Rattle.leap_table.specs.rows.Announced.{announcedTable}
 use Rattle.leap_lists.specs.declared.ListAnswer.{ListAnswer}
 use Rattle.leap_lists.specs.declared.held.Held.{Held}
-use Rattle.leap_lists.specs.lines.Lines.{lineOf}
-use Rattle.leap_lists.specs.Held.{noneHeld, faultOf, withLine}
+use Rattle.leap_lists.specs.lines.Lines.{lineSays}
+use Rattle.leap_lists.specs.Held.{noneHeld, lineFault, withLine}
 use Rattle.leap_lists.specs.Texts.{linesOf}
 
 -- sixteen places of which none is read
@@ -27,7 +27,7 @@ refusedAt number line = record { number = number; line = line; «known_until» =
 unfoldable pub readFrom : Held → ℕ → List (List ℕ) → ListAnswer
 readFrom h line [] = answered h
 readFrom h line (l ∷ ls) =
-    cond (eqb (faultOf h (lineOf l)) 0) (readFrom (withLine h (lineOf l)) (line + 1) ls) (refusedAt (faultOf h (lineOf l)) (line + 1))
+    cond (eqb (lineFault h (lineSays l)) 0) (readFrom (withLine h (lineSays l)) (line + 1) ls) (refusedAt (lineFault h (lineSays l)) (line + 1))
 
 unfoldable pub readOf : List ℕ → ListAnswer
 readOf text = readFrom noneHeld 0 (linesOf text)

@@ -23,6 +23,6 @@ unfoldable pub expiryLine : ℕ → List ℕ
 expiryLine day = 35 ∷ (64 ∷ (9 ∷ digitsOf (86400 * (day - 15020))))
 
 -- each line with a newline behind it
-unfoldable pub textOf : List (List ℕ) → List ℕ
-textOf [] = []
-textOf (l ∷ ls) = l ++ (10 ∷ textOf ls)
+unfoldable pub linesText : List (List ℕ) → List ℕ
+linesText [] = []
+linesText (l ∷ ls) = l ++ (10 ∷ linesText ls)

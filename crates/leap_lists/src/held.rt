@@ -3,7 +3,7 @@ ghost use mathlib.Core.Path.{_≡_};
 ghost use Prim.Native.Nat.{_<_, _≤_};
 ghost use Rattle.leap_table.specs.rows.Table.{lastMonth, lastSeconds};
 ghost use Rattle.leap_table.specs.rows.Announced.{oneApart};
-ghost use Rattle.leap_lists.specs.Held.{secondsFrom, libraryRow, noneHeld, laterFault, faultOf, withRow, withLine, InRange};
+ghost use Rattle.leap_lists.specs.Held.{secondsFrom, libraryRow, noneHeld, laterFault, lineFault, withRow, withLine, InRange};
 use crate::lines::Line;
 
 // What is read so far: as many announced rows as `size`, their month starts and their seconds; the month and the seconds of the last row, of the library's last
@@ -89,7 +89,7 @@ fn later_fault(held: Held, month: u32, seconds: u32) -> u32
 
 fn row_fault(held: Held, month: u32, seconds: u32) -> u32
     requires { ⌜ (held .second < 2147483648) × (seconds < 2147483648) ⌝ }
-    ensures { λ r. ⌜ r ≡ faultOf held (Line.Row month seconds) ⌝ }
+    ensures { λ r. ⌜ r ≡ lineFault held (Line.Row month seconds) ⌝ }
 {
     if last_month() < month {
         return later_fault(held, month, seconds);
@@ -103,7 +103,7 @@ fn row_fault(held: Held, month: u32, seconds: u32) -> u32
 // The number by which a line is refused, 0 if it is not.
 pub(crate) fn fault(held: Held, line: Line) -> u32
     requires { ⌜ (held .second < 2147483648) × InRange line ⌝ }
-    ensures { λ r. ⌜ r ≡ faultOf held line ⌝ }
+    ensures { λ r. ⌜ r ≡ lineFault held line ⌝ }
 {
     match line {
         Line::Blank => 0,
@@ -149,7 +149,7 @@ fn with_expiry(held: Held, day: u32) -> Held
 }
 
 fn with_any_row(held: Held, month: u32, seconds: u32) -> Held
-    requires { ⌜ (faultOf held (Line.Row month seconds) ≡ 0) × (month < 2147483648) × (seconds < 2147483648) ⌝ }
+    requires { ⌜ (lineFault held (Line.Row month seconds) ≡ 0) × (month < 2147483648) × (seconds < 2147483648) ⌝ }
     ensures { λ r. ⌜ r ≡ withLine held (Line.Row month seconds) ⌝ }
 {
     if last_month() < month {
@@ -160,7 +160,7 @@ fn with_any_row(held: Held, month: u32, seconds: u32) -> Held
 
 // What is held with a line that is not refused.
 pub(crate) fn with_line(held: Held, line: Line) -> Held
-    requires { ⌜ (faultOf held line ≡ 0) × InRange line ⌝ }
+    requires { ⌜ (lineFault held line ≡ 0) × InRange line ⌝ }
     ensures { λ r. ⌜ r ≡ withLine held line ⌝ }
 {
     match line {

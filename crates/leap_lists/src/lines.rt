@@ -4,9 +4,9 @@ ghost use mathlib.Core.Bool.{Bool};
 ghost use Prim.Native.Nat.{_+_, _≤_, _<_};
 ghost use lib.ListN.{length, drop, getD};
 ghost use Rattle.numerals.specs.digits.Decimal.{isDigit};
-ghost use Rattle.leap_lists.specs.lines.Scan.{isBlank, afterBlanks, ended, DigitsAt, lastNumber};
+ghost use Rattle.leap_lists.specs.lines.Scan.{lineBlank, behindBlanks, ended, DigitsAt, lastNumber};
 ghost use Rattle.leap_lists.specs.lines.Months.{monthFrom};
-ghost use Rattle.leap_lists.specs.lines.Lines.{rowWith, monthRow, ntpRow, rowOf, expiryOf, lineOf};
+ghost use Rattle.leap_lists.specs.lines.Lines.{rowWith, monthRow, ntpRow, rowOf, expiryOf, lineSays};
 ghost use Rattle.leap_lists.specs.Held.{InRange};
 
 // January of 1900, and the month after the last that four digits of a year can say.
@@ -41,7 +41,7 @@ pub(crate) struct Run {
 
 // A space or a tab; at the start and at the end of a line also a carriage return.
 fn blank(c: u8, returns: bool) -> bool
-    ensures { λ r. ⌜ r ≡ isBlank returns c ⌝ }
+    ensures { λ r. ⌜ r ≡ lineBlank returns c ⌝ }
 {
     if c == 32 {
         return true;
@@ -58,7 +58,7 @@ fn blank(c: u8, returns: bool) -> bool
 // The index of the first byte from `at` on that is no blank.
 fn blanks_end(line: &[u8], at: usize, returns: bool) -> usize
     requires { ⌜ at ≤ length (now line) ⌝ }
-    ensures { λ r. ⌜ (drop r (now (line .entry)) ≡ afterBlanks returns (drop at (now (line .entry)))) × (r ≤ length (now (line .entry))) ⌝ }
+    ensures { λ r. ⌜ (drop r (now (line .entry)) ≡ behindBlanks returns (drop at (now (line .entry)))) × (r ≤ length (now (line .entry))) ⌝ }
 {
     let mut i = at;
     while i < line.len() {
@@ -112,7 +112,7 @@ fn digits(line: &[u8], at: usize, most: usize) -> Run
 // Nothing but blanks and a comment from `at` on.
 fn at_end(line: &[u8], at: usize) -> bool
     requires { ⌜ at ≤ length (now line) ⌝ }
-    ensures { λ r. ⌜ r ≡ ended (afterBlanks (Bool.true) (drop at (now (line .entry)))) ⌝ }
+    ensures { λ r. ⌜ r ≡ ended (behindBlanks (Bool.true) (drop at (now (line .entry)))) ⌝ }
 {
     let end = blanks_end(line, at, true);
     if end == line.len() {
@@ -238,7 +238,7 @@ fn expiry_at(line: &[u8], at: usize) -> Line
 
 // What a line says.
 pub(crate) fn read_line(line: &[u8]) -> Line
-    ensures { λ r. ⌜ (r ≡ lineOf (now (line .entry))) × InRange r ⌝ }
+    ensures { λ r. ⌜ (r ≡ lineSays (now (line .entry))) × InRange r ⌝ }
 {
     let at = blanks_end(line, 0, true);
     if at == line.len() {

@@ -17,7 +17,7 @@ use Rattle.leap_table.proofs.rows.TablesTaken.{none-rows}
 use Rattle.leap_lists.specs.declared.held.Held.{Held}
 use Rattle.leap_lists.specs.declared.lines.Line.{Line}
 use Rattle.leap_lists.specs.declared.lines.Line.the-variants as K
-use Rattle.leap_lists.specs.Held.{secondsFrom, libraryRow, laterFault, faultOf, withRow, withLine, InRange, noneHeld}
+use Rattle.leap_lists.specs.Held.{secondsFrom, libraryRow, laterFault, lineFault, withRow, withLine, InRange, noneHeld}
 
 -- by a table that lends no rows
 pub own-seconds : (t : AnnouncedRows) (m : ℕ) → tableOf t ≡ answer fixed → wholeSeconds (rowsOf t) (pos (m / 12)) (m % 12 + 1) ≡ secondsFrom m
@@ -67,15 +67,15 @@ module _ (h : Held) (m s : ℕ) where
   unfolding laterFault
   by-step b a l e = rw (lt-leb _ _ a, lt-leb _ _ l, e)
 
-  pub as-later : (r : ℕ) → lastMonth < m → r ≡ laterFault h m s → r ≡ faultOf h (K.Row m s)
-  unfolding faultOf
+  pub as-later : (r : ℕ) → lastMonth < m → r ≡ laterFault h m s → r ≡ lineFault h (K.Row m s)
+  unfolding lineFault
   as-later r l e = rw (lt-ltb _ _ l) e
 
-  pub as-own : (b : Bool) → m ≤ lastMonth → libraryRow m s ≡ b → cond b 0 22 ≡ faultOf h (K.Row m s)
-  unfolding faultOf
+  pub as-own : (b : Bool) → m ≤ lastMonth → libraryRow m s ≡ b → cond b 0 22 ≡ lineFault h (K.Row m s)
+  unfolding lineFault
   as-own b l e = rw (le-ltb _ _ l, e)
 
-  pub room : lastMonth < m → faultOf h (K.Row m s) ≡ 0 → h .size < 16
+  pub room : lastMonth < m → lineFault h (K.Row m s) ≡ 0 → h .size < 16
   room l e = either (leb 16 (h .size)) refl
     where
       either : (b : Bool) → leb 16 (h .size) ≡ b → h .size < 16

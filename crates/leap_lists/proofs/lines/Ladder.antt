@@ -15,9 +15,9 @@ use Rattle.leap_lists.specs.declared.lines.Last.the-variants as L
 use Rattle.leap_lists.specs.declared.lines.Line.{Line}
 use Rattle.leap_lists.specs.declared.lines.Line.the-variants as K
 use Rattle.leap_lists.specs.declared.lines.Run.{Run}
-use Rattle.leap_lists.specs.lines.Scan.{isBlank, afterBlanks, leading, ended, numberThen, lastNumber, DigitsAt}
+use Rattle.leap_lists.specs.lines.Scan.{lineBlank, behindBlanks, firstDigits, ended, numberThen, lastNumber, DigitsAt}
 use Rattle.leap_lists.specs.lines.Months.{monthFrom}
-use Rattle.leap_lists.specs.lines.Lines.{rowBy, rowWith, monthRow, rowFrom, ntpRow, rowBehind, rowOf, expiryBy, expiryOf, lineFrom, lineOf}
+use Rattle.leap_lists.specs.lines.Lines.{rowBy, rowWith, monthRow, rowFrom, ntpRow, rowBehind, rowOf, expiryBy, expiryOf, lineFrom, lineSays}
 use Rattle.leap_lists.proofs.lines.Runs.{byte-first, all-leading, leading-small}
 use Rattle.numerals.proofs.digits.Decimal.{number-below}
 
@@ -38,36 +38,36 @@ then-none : (d rest : List ℕ) → length d ≡ 0 → numberThen d rest ≡ L.N
 unfolding numberThen
 then-none d rest e = rw e
 
-then-not-ended : (d rest : List ℕ) → ended (afterBlanks true rest) ≡ false → numberThen d rest ≡ L.Nothing
+then-not-ended : (d rest : List ℕ) → ended (behindBlanks true rest) ≡ false → numberThen d rest ≡ L.Nothing
 unfolding numberThen
 then-not-ended d rest e = rw e (simp and-false)
 
-then-some : (d rest : List ℕ) → 0 < length d → ended (afterBlanks true rest) ≡ true → numberThen d rest ≡ L.Number (number d)
+then-some : (d rest : List ℕ) → 0 < length d → ended (behindBlanks true rest) ≡ true → numberThen d rest ≡ L.Number (number d)
 unfolding numberThen
 then-some d rest h e = rw (lt-ltb _ _ h, e)
 
 module _ (most at : ℕ) (t : List ℕ) where
-  pub last-none : isBlank false (getD t at 0) ≡ false → L.Nothing ≡ lastNumber most (drop at t)
+  pub last-none : lineBlank false (getD t at 0) ≡ false → L.Nothing ≡ lastNumber most (drop at t)
   unfolding lastNumber
   last-none e = rw (byte-here t at, e)
 
-  module _ (from : ℕ) (r : Run) (b : isBlank false (getD t at 0) ≡ true) (f : drop from t ≡ afterBlanks false (drop at t)) (k : DigitsAt most from t r) where
-    last-is : lastNumber most (drop at t) ≡ numberThen (leading most (drop from t)) (drop (r .end) t)
+  module _ (from : ℕ) (r : Run) (b : lineBlank false (getD t at 0) ≡ true) (f : drop from t ≡ behindBlanks false (drop at t)) (k : DigitsAt most from t r) where
+    last-is : lastNumber most (drop at t) ≡ numberThen (firstDigits most (drop from t)) (drop (r .end) t)
     unfolding lastNumber
     last-is =
-        let d = leading most (drop from t) in
+        let d = firstDigits most (drop from t) in
         let e : drop (length d) (drop from t) ≡ drop (r .end) t = drop-drop (length d) from t ∙ ap (λ (n : ℕ). drop n t) (sym (k .end)) in
         rw (byte-here t at, b, ← f, e)
 
     pub last-empty : r .end ≡ from → L.Nothing ≡ lastNumber most (drop at t)
     last-empty e = sym (last-is ∙ then-none _ _ (omega (arith, k .end)))
 
-    pub last-not-ended : ended (afterBlanks true (drop (r .end) t)) ≡ false → L.Nothing ≡ lastNumber most (drop at t)
+    pub last-not-ended : ended (behindBlanks true (drop (r .end) t)) ≡ false → L.Nothing ≡ lastNumber most (drop at t)
     last-not-ended e = sym (last-is ∙ then-not-ended _ _ e)
 
-    pub last-some : (r .end ≡ from → ⊥) → ended (afterBlanks true (drop (r .end) t)) ≡ true → L.Number (r .value) ≡ lastNumber most (drop at t)
+    pub last-some : (r .end ≡ from → ⊥) → ended (behindBlanks true (drop (r .end) t)) ≡ true → L.Number (r .value) ≡ lastNumber most (drop at t)
     last-some n e =
-        let some : 0 < length (leading most (drop from t)) = positive _ (λ z. n (omega (arith, k .end))) in
+        let some : 0 < length (firstDigits most (drop from t)) = positive _ (λ z. n (omega (arith, k .end))) in
         ap L.Number (k .value) ∙ sym (last-is ∙ then-some _ _ some e)
       where
         positive : (x : ℕ) → (x ≡ 0 → ⊥) → 0 < x
@@ -76,13 +76,13 @@ module _ (most at : ℕ) (t : List ℕ) where
 
 pub last-small : (most : ℕ) (s : List ℕ) (n : ℕ) → lastNumber most s ≡ L.Number n → n < 10 ^ most
 unfolding lastNumber numberThen
-last-small most s n e = either (isBlank false (getD s 0 0)) (ltb 0 (length d) && ended (afterBlanks true (drop (length d) g))) e
+last-small most s n e = either (lineBlank false (getD s 0 0)) (ltb 0 (length d) && ended (behindBlanks true (drop (length d) g))) e
   where
     g : List ℕ
-    g = afterBlanks false s
+    g = behindBlanks false s
 
     d : List ℕ
-    d = leading most g
+    d = firstDigits most g
 
     either : (a b : Bool) → cond a (cond b (L.Number (number d)) L.Nothing) L.Nothing ≡ L.Number n → n < 10 ^ most
     either true true p = let i : number d ≡ n = cc in subst (λ (k : ℕ). k < 10 ^ most) i (leading-small most g)
@@ -112,22 +112,22 @@ module _ (year places at : ℕ) (t : List ℕ) where
     pub other-month : (r .end - at ≡ 2 → ⊥) → K.Outside ≡ monthRow year places (drop at t)
     unfolding monthRow
     other-month h =
-        let no : length (leading 2 (drop at t)) ≡ 2 → ⊥ = λ e. h (omega (arith, k .end)) in
+        let no : length (firstDigits 2 (drop at t)) ≡ 2 → ⊥ = λ e. h (omega (arith, k .end)) in
         rw (ne-eqb _ _ no) (simp and-false)
 
     pub month-low : r .value < 1 → K.Outside ≡ monthRow year places (drop at t)
     unfolding monthRow
-    month-low h = let g : number (leading 2 (drop at t)) < 1 = omega (arith, k .value) in rw (lt-leb _ _ g) (simp and-false)
+    month-low h = let g : number (firstDigits 2 (drop at t)) < 1 = omega (arith, k .value) in rw (lt-leb _ _ g) (simp and-false)
 
     pub month-high : 12 < r .value → K.Outside ≡ monthRow year places (drop at t)
     unfolding monthRow
-    month-high h = let g : 12 < number (leading 2 (drop at t)) = omega (arith, k .value) in rw (lt-leb _ _ g) (simp and-false)
+    month-high h = let g : 12 < number (firstDigits 2 (drop at t)) = omega (arith, k .value) in rw (lt-leb _ _ g) (simp and-false)
 
     pub month-is : places ≡ 4 → r .end - at ≡ 2 → 1 ≤ r .value → r .value ≤ 12
         → rowWith (12 * year + r .value - 1) (drop (r .end) t) ≡ monthRow year places (drop at t)
     unfolding monthRow
     month-is p e a b =
-        let d = leading 2 (drop at t) in
+        let d = firstDigits 2 (drop at t) in
         let two : length d ≡ 2 = omega (arith, k .end) in
         let low : 1 ≤ number d = omega (arith, k .value) in
         let high : number d ≤ 12 = omega (arith, k .value) in
@@ -163,48 +163,48 @@ module _ (ntp places : ℕ) (s : List ℕ) where
 
 -- ---- a row by the byte behind its first digits
 module _ (at : ℕ) (t : List ℕ) (r : Run) (k : DigitsAt 12 at t r) where
-  row-behind : rowBehind (leading 12 (drop at t)) (drop (r .end) t) ≡ rowOf (drop at t)
+  row-behind : rowBehind (firstDigits 12 (drop at t)) (drop (r .end) t) ≡ rowOf (drop at t)
   unfolding rowOf
   row-behind =
-      let d = leading 12 (drop at t) in
+      let d = firstDigits 12 (drop at t) in
       ap (rowBehind d) (sym (drop-drop (length d) at t ∙ ap (λ (n : ℕ). drop n t) (sym (k .end))))
 
-  pub places-are : r .end - at ≡ length (leading 12 (drop at t))
+  pub places-are : r .end - at ≡ length (firstDigits 12 (drop at t))
   places-are = omega (arith, k .end)
 
   pub hyphen : (l : Line) → getD t (r .end) 0 ≡ 45 → l ≡ monthRow (r .value) (r .end - at) (drop (r .end + 1) t) → l ≡ rowOf (drop at t)
   unfolding rowBehind
   hyphen l e g =
       let d : drop 1 (drop (r .end) t) ≡ drop (r .end + 1) t = drop-drop 1 (r .end) t in
-      let h : rowBehind (leading 12 (drop at t)) (drop (r .end) t) ≡ monthRow (number (leading 12 (drop at t))) (length (leading 12 (drop at t)))
+      let h : rowBehind (firstDigits 12 (drop at t)) (drop (r .end) t) ≡ monthRow (number (firstDigits 12 (drop at t))) (length (firstDigits 12 (drop at t)))
       (drop (r .end + 1) t) = rw (byte-here t (r .end), eq-eqb _ _ e, d) in
       g ∙ (λ i. monthRow (k .value i) (places-are i) (drop (r .end + 1) t)) ∙ sym h ∙ row-behind
 
   pub no-hyphen : (l : Line) → (getD t (r .end) 0 ≡ 45 → ⊥) → l ≡ ntpRow (r .value) (r .end - at) (drop (r .end) t) → l ≡ rowOf (drop at t)
   unfolding rowBehind
   no-hyphen l e g =
-      let h : rowBehind (leading 12 (drop at t)) (drop (r .end) t) ≡ ntpRow (number (leading 12 (drop at t))) (length (leading 12 (drop at t)))
+      let h : rowBehind (firstDigits 12 (drop at t)) (drop (r .end) t) ≡ ntpRow (number (firstDigits 12 (drop at t))) (length (firstDigits 12 (drop at t)))
       (drop (r .end) t) = rw (byte-here t (r .end), ne-eqb _ _ e) in
       g ∙ (λ i. ntpRow (k .value i) (places-are i) (drop (r .end) t)) ∙ sym h ∙ row-behind
 
   pub four-digits : r .end - at ≡ 4 → r .value < 10000
   four-digits e =
-      let d = leading 12 (drop at t) in
+      let d = firstDigits 12 (drop at t) in
       let four : length d ≡ 4 = sym places-are ∙ e in
       let small : number d < 10 ^ length d = number-below d (all-leading 12 (drop at t)) in
       omega (arith, k .value, rw four at small)
 
 -- ---- a line
-module _ (t : List ℕ) (at : ℕ) (f : drop at t ≡ afterBlanks true t) where
-  from-here : lineFrom (drop at t) ≡ lineOf t
-  unfolding lineOf
+module _ (t : List ℕ) (at : ℕ) (f : drop at t ≡ behindBlanks true t) where
+  from-here : lineFrom (drop at t) ≡ lineSays t
+  unfolding lineSays
   from-here = ap lineFrom f
 
   none : length t ≤ at → lineFrom (drop at t) ≡ K.Blank
   unfolding lineFrom ended
   none h = rw (drop-of-length-le t h)
 
-  pub nothing-there : length t ≤ at → K.Blank ≡ lineOf t
+  pub nothing-there : length t ≤ at → K.Blank ≡ lineSays t
   nothing-there h = sym (sym from-here ∙ none h)
 
   module _ (h : at < length t) where
@@ -212,18 +212,18 @@ module _ (t : List ℕ) (at : ℕ) (f : drop at t ≡ afterBlanks true t) where
     unfolding lineFrom
     by-row g = rw g
 
-    pub a-row : (l : Line) → (getD t at 0 ≡ 35 → ⊥) → l ≡ rowOf (drop at t) → l ≡ lineOf t
+    pub a-row : (l : Line) → (getD t at 0 ≡ 35 → ⊥) → l ≡ rowOf (drop at t) → l ≡ lineSays t
     a-row l n e = e ∙ sym (by-row (ended-byte t at h ∙ ne-eqb _ _ n)) ∙ from-here
 
     module _ (e : getD t at 0 ≡ 35) where
       marked : ended (drop at t) ≡ true
       marked = ended-byte t at h ∙ eq-eqb _ _ e
 
-      pub a-comment : (getD t (at + 1) 0 ≡ 64 → ⊥) → K.Blank ≡ lineOf t
+      pub a-comment : (getD t (at + 1) 0 ≡ 64 → ⊥) → K.Blank ≡ lineSays t
       unfolding lineFrom
       a-comment n = sym (sym from-here ∙ (rw (marked, getD-drop at t 1 0, ne-eqb _ _ n)))
 
-      pub an-expiry : (l : Line) → getD t (at + 1) 0 ≡ 64 → l ≡ expiryOf (drop (at + 2) t) → l ≡ lineOf t
+      pub an-expiry : (l : Line) → getD t (at + 1) 0 ≡ 64 → l ≡ expiryOf (drop (at + 2) t) → l ≡ lineSays t
       unfolding lineFrom
       an-expiry l n g =
           let d : drop 2 (drop at t) ≡ drop (at + 2) t = drop-drop 2 at t in

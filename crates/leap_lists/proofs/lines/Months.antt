@@ -7,10 +7,10 @@ use lib.Dec.{eqb, ltb}
 use lib.IntN.{pos}
 use borrow.Author.Tests.{eq-eqb, ne-eqb, lt-ltb, le-ltb}
 use Rattle.calendar.specs.Calendar.{daysInMonth}
-use Rattle.leap_lists.specs.lines.Months.{daysOf, monthAfter, monthFrom, allMonths, firstMonth}
+use Rattle.leap_lists.specs.lines.Months.{monthDays, monthAfter, monthFrom, allMonths, firstMonth}
 
-pub days-are : (m : ℕ) → daysInMonth (pos (m / 12)) (pos (m % 12 + 1)) ≡ daysOf m
-unfolding daysInMonth daysOf
+pub days-are : (m : ℕ) → daysInMonth (pos (m / 12)) (pos (m % 12 + 1)) ≡ monthDays m
+unfolding daysInMonth monthDays
 days-are m = refl
 
 module _ (k m day : ℕ) where
@@ -18,11 +18,11 @@ module _ (k m day : ℕ) where
   unfolding monthAfter
   here e = rw (eq-eqb _ _ e)
 
-  pub within : (day ≡ 0 → ⊥) → day < daysOf m → monthAfter (suc k) m day ≡ 0
+  pub within : (day ≡ 0 → ⊥) → day < monthDays m → monthAfter (suc k) m day ≡ 0
   unfolding monthAfter
   within e h = rw (ne-eqb _ _ e, lt-ltb _ _ h)
 
-  pub onward : (day ≡ 0 → ⊥) → daysOf m ≤ day → monthAfter (suc k) m day ≡ monthAfter k (m + 1) (day - daysOf m)
+  pub onward : (day ≡ 0 → ⊥) → monthDays m ≤ day → monthAfter (suc k) m day ≡ monthAfter k (m + 1) (day - monthDays m)
   unfolding monthAfter
   onward e h = rw (ne-eqb _ _ e, le-ltb _ _ h)
 

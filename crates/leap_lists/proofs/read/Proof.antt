@@ -5,8 +5,8 @@ use Prim.Native.Nat.{_+_, _-_, _<_, _≤_}
 use mathlib.Core.Path.{_≡_, refl, sym, ap, subst, _∙_}
 use lib.ListN.{length, take, drop}
 use Rattle.leap_lists.specs.declared.held.Held.{Held}
-use Rattle.leap_lists.specs.lines.Lines.{lineOf}
-use Rattle.leap_lists.specs.Held.{noneHeld, faultOf, withLine, InRange}
+use Rattle.leap_lists.specs.lines.Lines.{lineSays}
+use Rattle.leap_lists.specs.Held.{noneHeld, lineFault, withLine, InRange}
 use Rattle.leap_lists.specs.Texts.{linesOf}
 use Rattle.leap_lists.specs.Reading.{answered, refusedAt, readFrom, readOf}
 use Rattle.leap_lists.proofs.held.Tests.{small-second, small-start}
@@ -37,7 +37,7 @@ returns c =
     let l = e .before .before in
     let t = l .before .before .before .args .text .now in
     let h : l .loop .at < length t = omega arith in
-    let k = f .fault .ensures ∙ ap (faultOf (l .loop .held)) (f .before .read-line .ensures .0) in
+    let k = f .fault .ensures ∙ ap (lineFault (l .loop .held)) (f .before .read-line .ensures .0) in
     c .refused .ensures
     ∙ sym (ap (readFrom (l .loop .held) (l .loop .line)) (lines-on t (l .loop .at) (e .line-end .result) h (e .line-end .ensures .0) (e .line-end .result + 1) refl)
     ∙ fault-there (l .loop .held) (l .loop .line) _ _ (f .fault .result) (c .before .if1 .taken) k)
@@ -66,7 +66,7 @@ loop-again c =
     let t = l .before .before .before .args .text .now in
     let h : l .loop .at < length t = omega arith in
     let k = f .before .read-line .ensures .0 in
-    let fault = ap (faultOf (l .loop .held)) (sym k) ∙ sym (f .fault .ensures) ∙ w .before .if1 .left in
+    let fault = ap (lineFault (l .loop .held)) (sym k) ∙ sym (f .fault .ensures) ∙ w .before .if1 .left in
     let next = w .with-line .ensures ∙ ap (withLine (l .loop .held)) k in (
       c .behind .ensures .within,
       omega (arith, onward c, l .loop .inv .1),

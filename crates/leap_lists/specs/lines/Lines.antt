@@ -11,7 +11,7 @@ use Rattle.leap_lists.specs.declared.lines.Last.{Last}
 use Rattle.leap_lists.specs.declared.lines.Last.the-variants as L
 use Rattle.leap_lists.specs.declared.lines.Line.{Line}
 use Rattle.leap_lists.specs.declared.lines.Line.the-variants as K
-use Rattle.leap_lists.specs.lines.Scan.{afterBlanks, leading, ended, lastNumber}
+use Rattle.leap_lists.specs.lines.Scan.{behindBlanks, firstDigits, ended, lastNumber}
 use Rattle.leap_lists.specs.lines.Months.{monthFrom}
 
 -- the row of month m with the number that ends the line
@@ -25,7 +25,7 @@ rowWith m s = rowBy m (lastNumber 9 s)
 -- YYYY-MM: the year of 4 digits before the hyphen, and the month of 2 digits at the start of s
 unfoldable pub monthRow : ℕ → ℕ → List ℕ → Line
 monthRow year places s =
-    let d = leading 2 s in
+    let d = firstDigits 2 s in
     cond (eqb places 4 && (eqb (length d) 2 && (leb 1 (number d) && leb (number d) 12)))
     (rowWith (12 * year + number d - 1) (drop (length d) s))
     K.Outside
@@ -44,7 +44,7 @@ unfoldable pub rowBehind : List ℕ → List ℕ → Line
 rowBehind d s = cond (eqb (getD s 0 0) 45) (monthRow (number d) (length d) (drop 1 s)) (ntpRow (number d) (length d) s)
 
 unfoldable pub rowOf : List ℕ → Line
-rowOf s = let d = leading 12 s in rowBehind d (drop (length d) s)
+rowOf s = let d = firstDigits 12 s in rowBehind d (drop (length d) s)
 
 -- the day of NTP seconds as a Modified Julian Date: 1900-01-01 is 15020
 abbrev pub expiryBy : Last → Line
@@ -58,5 +58,5 @@ expiryOf s = expiryBy (lastNumber 12 s)
 unfoldable pub lineFrom : List ℕ → Line
 lineFrom s = cond (ended s) (cond (eqb (getD s 1 0) 64) (expiryOf (drop 2 s)) K.Blank) (rowOf s)
 
-unfoldable pub lineOf : List ℕ → Line
-lineOf s = lineFrom (afterBlanks true s)
+unfoldable pub lineSays : List ℕ → Line
+lineSays s = lineFrom (behindBlanks true s)

@@ -14,13 +14,13 @@ abbrev pub allMonths : ℕ
 allMonths = 97200
 
 -- the days of a month by its number
-unfoldable pub daysOf : ℕ → ℕ
-daysOf m = monthLength (pos (m / 12)) (m % 12 + 1)
+unfoldable pub monthDays : ℕ → ℕ
+monthDays m = monthLength (pos (m / 12)) (m % 12 + 1)
 
 -- the month whose first day is `day` days after that of month m, among `most` months; 0 where there is none
 unfoldable pub monthAfter : ℕ → ℕ → ℕ → ℕ
 monthAfter zero m day = 0
-monthAfter (suc most) m day = cond (eqb day 0) m (cond (ltb day (daysOf m)) 0 (monthAfter most (m + 1) (day - daysOf m)))
+monthAfter (suc most) m day = cond (eqb day 0) m (cond (ltb day (monthDays m)) 0 (monthAfter most (m + 1) (day - monthDays m)))
 
 unfoldable pub monthFrom : ℕ → ℕ
 monthFrom day = monthAfter allMonths firstMonth day
@@ -28,4 +28,4 @@ monthFrom day = monthAfter allMonths firstMonth day
 -- the days of the k months from month m on; no contract cites it
 unfoldable pub daysFrom : ℕ → ℕ → ℕ
 daysFrom m zero = 0
-daysFrom m (suc k) = daysOf m + daysFrom (m + 1) k
+daysFrom m (suc k) = monthDays m + daysFrom (m + 1) k

@@ -13,19 +13,19 @@ use Rattle.leap_lists.specs.declared.lines.Last.the-variants as L
 use Rattle.leap_lists.specs.declared.lines.Run.{Run}
 
 -- a space, a tab, and with `returns` a carriage return
-unfoldable pub isBlank : Bool → ℕ → Bool
-isBlank returns c = eqb c 32 || (eqb c 9 || (returns && eqb c 13))
+unfoldable pub lineBlank : Bool → ℕ → Bool
+lineBlank returns c = eqb c 32 || (eqb c 9 || (returns && eqb c 13))
 
 -- what is left behind the blanks in front
-unfoldable pub afterBlanks : Bool → List ℕ → List ℕ
-afterBlanks returns [] = []
-afterBlanks returns (c ∷ cs) = cond (isBlank returns c) (afterBlanks returns cs) (c ∷ cs)
+unfoldable pub behindBlanks : Bool → List ℕ → List ℕ
+behindBlanks returns [] = []
+behindBlanks returns (c ∷ cs) = cond (lineBlank returns c) (behindBlanks returns cs) (c ∷ cs)
 
 -- the digits in front, `most` of them at most
-unfoldable pub leading : ℕ → List ℕ → List ℕ
-leading zero s = []
-leading (suc k) [] = []
-leading (suc k) (c ∷ cs) = cond (isDigit c) (c ∷ leading k cs) []
+unfoldable pub firstDigits : ℕ → List ℕ → List ℕ
+firstDigits zero s = []
+firstDigits (suc k) [] = []
+firstDigits (suc k) (c ∷ cs) = cond (isDigit c) (c ∷ firstDigits k cs) []
 
 -- nothing is left, or a comment
 unfoldable pub ended : List ℕ → Bool
@@ -34,16 +34,16 @@ ended (c ∷ cs) = eqb c 35
 
 -- the number that digits say, where there are some and the line ends behind them
 unfoldable pub numberThen : List ℕ → List ℕ → Last
-numberThen digits rest = cond (ltb 0 (length digits) && ended (afterBlanks true rest)) (L.Number (number digits)) L.Nothing
+numberThen digits rest = cond (ltb 0 (length digits) && ended (behindBlanks true rest)) (L.Number (number digits)) L.Nothing
 
 -- a blank or more, a number of at most `most` digits, and the end of the line
 unfoldable pub lastNumber : ℕ → List ℕ → Last
 lastNumber most s =
-    let d = leading most (afterBlanks false s) in
-    cond (isBlank false (getD s 0 0)) (numberThen d (drop (length d) (afterBlanks false s))) L.Nothing
+    let d = firstDigits most (behindBlanks false s) in
+    cond (lineBlank false (getD s 0 0)) (numberThen d (drop (length d) (behindBlanks false s))) L.Nothing
 
 -- r tells of the digits in front of what t has from `at` on
 pub record DigitsAt (most at : ℕ) (t : List ℕ) (r : Run) : Type 0 where
-  pub value : r .value ≡ number (leading most (drop at t))
-  pub end : r .end ≡ at + length (leading most (drop at t))
+  pub value : r .value ≡ number (firstDigits most (drop at t))
+  pub end : r .end ≡ at + length (firstDigits most (drop at t))
   pub within : r .end ≤ length t

@@ -1,7 +1,7 @@
 -- `leap_lists::held::with_line` meets its contract. Assumes nothing.
 use borrow.Author.Needs.{needs}
 use mathlib.Core.Path.{_≡_, sym, ap, subst, _∙_}
-use Rattle.leap_lists.specs.Held.{faultOf, withLine, InRange}
+use Rattle.leap_lists.specs.Held.{lineFault, withLine, InRange}
 use Rattle.leap_lists.proofs.held.with_line.Statement.{statement}
 use Rattle.leap_lists.proofs.held.with_line.Tie as tie
 
@@ -10,7 +10,7 @@ with-any-row-requires c κs =
     let s = c .before .before .before in
     let e = c .before .line .given .1 in
     let g = subst InRange e (s .pre .1) in
-    (sym (ap (faultOf (s .args .held)) e) ∙ s .pre .0, g .0, g .1)
+    (sym (ap (lineFault (s .args .held)) e) ∙ s .pre .0, g .0, g .1)
 
 returns : tie.Need-returns
 unfolding withLine

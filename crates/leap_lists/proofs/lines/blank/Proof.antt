@@ -1,23 +1,23 @@
 -- `leap_lists::lines::blank` meets its contract. Assumes nothing.
 use borrow.Author.Tests.{eq-eqb, ne-eqb}
-use Rattle.leap_lists.specs.lines.Scan.{isBlank}
+use Rattle.leap_lists.specs.lines.Scan.{lineBlank}
 use Rattle.leap_lists.proofs.lines.blank.Statement.{statement}
 use Rattle.leap_lists.proofs.lines.blank.Tie as tie
 
 returns : tie.Need-returns
-unfolding isBlank
+unfolding lineBlank
 returns c = rw (eq-eqb _ _ (c .if1 .taken))
 
 returns-2 : tie.Need-returns-2
-unfolding isBlank
+unfolding lineBlank
 returns-2 c = rw (ne-eqb _ _ (c .before .if1 .left), eq-eqb _ _ (c .if2 .taken))
 
 returns-3 : tie.Need-returns-3
-unfolding isBlank
+unfolding lineBlank
 returns-3 c = rw (ne-eqb _ _ (c .before .before .if1 .left), ne-eqb _ _ (c .before .if2 .left), c .if3 .taken)
 
 returns-4 : tie.Need-returns-4
-unfolding isBlank
+unfolding lineBlank
 returns-4 c = rw (ne-eqb _ _ (c .before .before .if1 .left), ne-eqb _ _ (c .before .if2 .left), c .if3 .left)
 
 pub blank-spec : {M : Type 1} → statement M

@@ -1,6 +1,6 @@
 -- `leap_lists::lines::blanks_end` meets its contract. Assumes nothing.
 use Rattle.leap_lists.proofs.lines.Runs.{blank-skipped, blanks-stop, blanks-out}
-use Rattle.leap_lists.specs.lines.Scan.{afterBlanks}
+use Rattle.leap_lists.specs.lines.Scan.{behindBlanks}
 use borrow.Author.Tests.{not-true, not-false}
 use lib.ListN.{length, drop}
 use native.Mathlib.Omega.{arith}
@@ -11,7 +11,7 @@ use Rattle.leap_lists.proofs.lines.blanks_end.Statement.{statement}
 use Rattle.leap_lists.proofs.lines.blanks_end.Tie as tie
 
 abbrev Inv-loop : tie.InvT-loop
-Inv-loop line at returns i₀ i = (i ≤ length line) × (afterBlanks returns (drop i line) ≡ afterBlanks returns (drop at line))
+Inv-loop line at returns i₀ i = (i ≤ length line) × (behindBlanks returns (drop i line) ≡ behindBlanks returns (drop at line))
 
 abbrev μ-loop : tie.MeasureT-loop
 μ-loop line at returns i₀ i = length line - i

@@ -5,7 +5,7 @@ use mathlib.Core.Path.{_≡_, sym, ap, _∙_}
 use mathlib.Core.Bool.{true, false}
 use lib.ListN.{getD}
 use borrow.Author.Tests.{not-true, not-false}
-use Rattle.leap_lists.specs.lines.Scan.{isBlank}
+use Rattle.leap_lists.specs.lines.Scan.{lineBlank}
 use Rattle.leap_lists.proofs.lines.Ladder.{last-none, last-empty, last-not-ended, last-some}
 use Rattle.leap_lists.proofs.lines.last_number.Statement.{statement}
 use Rattle.leap_lists.proofs.lines.last_number.Tie as tie
@@ -15,12 +15,12 @@ returns c =
     let b = c .before in
     let y = b .before in
     let a = y .before .before .args in
-    last-none (a .most) (a .at) (a .line .now) (ap (isBlank false) (sym (y .byte-at .ensures)) ∙ sym (b .blank .ensures) ∙ not-true _ (c .if1 .taken))
+    last-none (a .most) (a .at) (a .line .now) (ap (lineBlank false) (sym (y .byte-at .ensures)) ∙ sym (b .blank .ensures) ∙ not-true _ (c .if1 .taken))
 
 -- a blank is there
 module _ (c : tie.Else1) where
-  blank-there : let y = c .before .before in let a = y .before .before .args in isBlank false (getD (a .line .now) (a .at) 0) ≡ true
-  blank-there = ap (isBlank false) (sym (c .before .before .byte-at .ensures)) ∙ sym (c .before .blank .ensures) ∙ not-false _ (c .if1 .left)
+  blank-there : let y = c .before .before in let a = y .before .before .args in lineBlank false (getD (a .line .now) (a .at) 0) ≡ true
+  blank-there = ap (lineBlank false) (sym (c .before .before .byte-at .ensures)) ∙ sym (c .before .blank .ensures) ∙ not-false _ (c .if1 .left)
 
 returns-2 : tie.Need-returns-2
 returns-2 c =

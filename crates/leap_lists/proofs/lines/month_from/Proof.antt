@@ -7,7 +7,7 @@ use lib.IntN.{pos}
 use mir.Syntax.{w32}
 use mir.Facts.{toZ-pos}
 use Rattle.calendar.specs.Calendar.{daysInMonth}
-use Rattle.leap_lists.specs.lines.Months.{daysOf, monthAfter, monthFrom}
+use Rattle.leap_lists.specs.lines.Months.{monthDays, monthAfter, monthFrom}
 use Rattle.leap_lists.proofs.lines.Months.{days-are, here, within, onward, spent, one-less, from-start}
 use Rattle.leap_lists.proofs.lines.month_from.Statement.{statement}
 use Rattle.leap_lists.proofs.lines.month_from.Tie as tie
@@ -30,7 +30,7 @@ returns c =
     let l = c .before .before in
     (sym (here _ (l .loop .month) (l .loop .left) (c .if1 .taken)) ∙ opened (l .loop .month) (l .loop .left) _ (omega arith) (l .loop .inv .2), omega arith)
 
-days-given : (c : tie.After-days-in-month Inv-loop μ-loop) → let l = c .before .before .before in c .days-in-month .result ≡ daysOf (l .loop .month)
+days-given : (c : tie.After-days-in-month Inv-loop μ-loop) → let l = c .before .before .before in c .days-in-month .result ≡ monthDays (l .loop .month)
 days-given c =
     let m = c .before .before .before .loop .month in
     let top : m ≤ 120000 = omega arith in
@@ -42,7 +42,7 @@ returns-2 c =
     let d = c .before in
     let l = d .before .before .before in
     let e = days-given d in
-    let less : l .loop .left < daysOf (l .loop .month) = omega (arith, e, c .if2 .taken) in (
+    let less : l .loop .left < monthDays (l .loop .month) = omega (arith, e, c .if2 .taken) in (
       sym (within _ (l .loop .month) (l .loop .left) (d .before .if1 .left) less) ∙ opened (l .loop .month) (l .loop .left) _ (omega arith) (l .loop .inv .2),
       omega arith,
     )
@@ -52,7 +52,7 @@ loop-again c =
     let d = c .before in
     let l = d .before .before .before in
     let e = days-given d in
-    let more : daysOf (l .loop .month) ≤ l .loop .left = omega (arith, e, c .if2 .left) in (
+    let more : monthDays (l .loop .month) ≤ l .loop .left = omega (arith, e, c .if2 .left) in (
       omega arith,
       omega arith,
       ap (λ n. monthAfter (120000 - (l .loop .month + 1)) (l .loop .month + 1) (l .loop .left - n)) e
