@@ -256,6 +256,27 @@ static const uint8_t ct_no_rows[CT_TABLE_BYTES] = {0};
 /* The number of rows of a table, the library's own among them: 42 to 58. Refuses 14; 20; 21; 22. */
 int64_t ct_check_table(const uint8_t *table, size_t table_len);
 
+/* The table of a text's rows, CT_TABLE_BYTES bytes into table, and the day until which it is known, 4 bytes
+   into known: the Modified Julian Date of the text's expiry, of several the last, 0 where it tells none. The
+   number of rows that are lent, 0 to 16; ct_check_table takes every such table.
+   A line of the text is one of four. Empty, or a comment, which a # begins. A month and TAI-UTC from its
+   first day on, as `2027-01 38`: 4 digits, a hyphen, 2 digits, spaces or tabs, 1 to 9 digits. The same as the
+   IERS's file leap-seconds.list has it: the NTP seconds (since 1900-01-01, 86,400 a day, 1 to 12 digits) of
+   the midnight that begins a month. Or an expiry: `#@`, spaces or tabs, NTP seconds. Spaces, tabs and
+   carriage returns may stand before and behind each, and a comment behind it. A newline ends a line.
+   A row that is not later than the library's last must be one that the library has; the later ones are lent.
+   Refuses the first line at fault, which ct_table_fault tells: 15 outside these; 22 for a row not later than
+   January 2017 that is not the library's, and so for every row before 1972; of a later one 20 where 16 stand
+   before it, 21 where it is not later than the one before it, 22 where it is not one second more or less than
+   that. Then 11. `2027-01 38` and a second line `2027-01 40` are 21, and with no byte for table too; `2028-1 39`
+   before them is 15. */
+#define CT_KNOWN_BYTES 4
+int64_t ct_read_table(const uint8_t *text, size_t text_len, uint8_t *table, size_t table_len,
+                      uint8_t *known, size_t known_len);
+
+/* The line of a text that ct_read_table refuses, counted from 1; 0 for a text that is read. */
+int64_t ct_table_fault(const uint8_t *text, size_t text_len);
+
 /* ---- TAI-UTC: "the table" in front of the refusals is 14; 20; 21; 22, as above. A rule says which row
    of the table an offset was read from: its kind in 4 bytes, CT_RULE_ABSENT before 1960, CT_RULE_DRIFTING
    or CT_RULE_WHOLE, and its row in 4, counted from 0, of an absent rule -1. The rows 0 to 13 drift, 41 is

@@ -61,6 +61,8 @@ calls! {
     ) -> i64;
 
     fn ct_check_table(table: &[u8]) -> i64;
+    fn ct_read_table(text: &[u8], table: &mut [u8], known: &mut [u8]) -> i64;
+    fn ct_table_fault(text: &[u8]) -> i64;
     fn ct_get_tai_utc_offset(
         year: i32, month: i32, day: i32, fraction: f64, table: &[u8], out: &mut [u8]
     ) -> i64;

@@ -2,7 +2,7 @@
 
 use crate::answers::judged;
 use crate::ffi;
-use crate::refusal::TimeResult;
+use crate::refusal::{Refusal, TimeResult};
 use crate::scales::common::validate_calendar_date;
 use std::fmt;
 
@@ -62,6 +62,25 @@ impl Table {
         let mut table = Self::NONE;
         table.0.copy_from_slice(bytes);
         Ok(table)
+    }
+
+    /// The table of a text's rows, and the Modified Julian Date until which it is known, 0 where the text tells none:
+    /// lines as `2027-01 38`, or those of the IERS's leap-seconds.list. Refuses the first line at fault by its number,
+    /// which comes with the line, counted from 1: 15 outside the form; 22 a row unlike the library's; 20; 21; 22.
+    ///
+    /// ```
+    /// use celestial_time_proved::Table;
+    /// let (table, known) = Table::read(b"#@ 4007750400\n2027-01 38\n").unwrap(); // made up
+    /// assert_eq!((table.rows(), known), (43, 61406));
+    /// assert_eq!(Table::read(b"2017-01 37\n2027-1 38\n").unwrap_err().0, 2);
+    /// ```
+    pub fn read(text: &[u8]) -> Result<(Self, u32), (u64, Refusal)> {
+        let mut table = Self::NONE;
+        let mut known = [0; 4];
+        match judged(ffi::ct_read_table(text, &mut table.0, &mut known)) {
+            Ok(_) => Ok((table, u32::from_le_bytes(known))),
+            Err(refusal) => Err((judged(ffi::ct_table_fault(text)).unwrap_or_default(), refusal)),
+        }
     }
 
     /// How many rows there are with the library's own: 42 to 58.

@@ -244,6 +244,46 @@ static void many(void)
     GIVES(seconds_by(UP, CT_RULE_WHOLE, FIXED_ROWS), ct_get_tai_utc_offset, 178956970, 8, 1, 0.0, LENT);
 }
 
+/* ---- a table that is read from a text */
+
+static void reads(const char *rows_text, int64_t answer, int64_t line, uint32_t day)
+{
+    uint8_t read[CT_TABLE_BYTES + 1], known[CT_KNOWN_BYTES + 1], before[CT_TABLE_BYTES + 1];
+    const uint8_t *bytes = (const uint8_t *)rows_text;
+    size_t length = strlen(rows_text), i;
+    int64_t told;
+    memset(before, 0xaa, sizeof before);
+    memcpy(read, before, sizeof read);
+    memcpy(known, before, sizeof known);
+    told = ct_read_table(bytes, length, read, sizeof read, known, sizeof known);
+    check(told == answer, "ct_read_table of %s is %d", rows_text, (int)told);
+    check(ct_table_fault(bytes, length) == line, "ct_table_fault of %s is not %d", rows_text, (int)line);
+    check(read[CT_TABLE_BYTES] == 0xaa && known[CT_KNOWN_BYTES] == 0xaa, "bytes past the table of %s", rows_text);
+    if (answer < 0) check(!memcmp(read, before, sizeof read) && !memcmp(known, before, sizeof known), "a refused text writes: %s", rows_text);
+    else {
+        check(ct_check_table(read, CT_TABLE_BYTES) == FIXED_ROWS + answer, "the table of %s", rows_text);
+        for (i = 0; i < 4; i++) check(known[i] == (day >> 8 * i & 255), "the expiry of %s", rows_text);
+        check(ct_read_table(bytes, length, read, CT_TABLE_BYTES - 1, known, sizeof known) == -11, "135 bytes for %s", rows_text);
+        check(ct_read_table(bytes, length, read, sizeof read, known, 3) == -11, "3 bytes for the expiry of %s", rows_text);
+    }
+}
+
+static void tables_from_texts(void)
+{
+    reads("", 0, 0, 0);
+    reads("# a comment\n\n\t\r\n", 0, 0, 0);
+    reads("1972-01 10\n2272060800\t10 # 1 Jan 1972\n", 0, 0, 0);
+    reads("#@\t3991420800\r\n2050-01 38", 1, 0, 61217);
+    reads("2050-01 38\n2060-01 37\n1972-07 11\n", 2, 0, 0);
+    reads("2050-01 38\n2050-01 40\n", -21, 2, 0);
+    reads("\n2050-01 39\n2040-01 40\n", -22, 2, 0);
+    reads("1972-01 11\n", -22, 1, 0);
+    reads("1971-12 10\n", -22, 1, 0);
+    reads("2050-01 38\n2028-1 39\n2050-01 40\n", -15, 2, 0);
+    reads("2272060801 10", -15, 1, 0);
+    reads("#@", -15, 1, 0);
+}
+
 static void table_calls(void)
 {
     with_a_leap_second();
@@ -254,5 +294,6 @@ static void table_calls(void)
     spare_places();
     listing_calls();
     many();
+    tables_from_texts();
     IS(FIXED_ROWS, ct_check_table(NO_ROWS));
 }

@@ -13,3 +13,4 @@ pub mod Places
 pub mod Runs
 pub mod RunTexts
 pub mod laws
+pub mod Lists

@@ -4,6 +4,7 @@ pub mod calendar_calls;
 pub mod date_calls;
 pub mod gps_week_calls;
 pub mod line_up_calls;
+pub mod list_calls;
 pub mod offset_calls;
 pub mod order_calls;
 pub mod reader_calls;
