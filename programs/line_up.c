@@ -7,7 +7,8 @@
    Each FILE is a recorder's run: stamp blocks one after the other. At least one run is named, each
    at most once; the listing does not depend on the order of the words. `table` names leap rows that
    were announced after the library was built, a line for each: the month from which on it holds and
-   TAI-UTC in seconds, as `2027-01 38`; empty lines and what follows a # are left out.
+   TAI-UTC in seconds, as `2027-01 38`; or the IERS's file leap-seconds.list. Rows that the library has
+   must be equal, and the later ones are lent.
 
    The listing goes to standard output:
 
@@ -61,7 +62,7 @@
 enum { DONE = 0, REFUSED = 1, FAILED = 2 };
 enum { RUNS = 3, MOST_STAMPS = 4000, BLOCK_BYTES = 8 + 16 * MOST_STAMPS };
 enum { PAGE = 4096, TEXT_BYTES = 27, LINE_BYTES = 96 }; /* stamps that get their texts at once, bytes of a text, of a line */
-enum { LEFT_OUT = 17, MOST_ROWS = 16, TABLE_LINE = 200, OUT_BYTES = 1 << 20 };
+enum { LEFT_OUT = 17, OUT_BYTES = 1 << 20 };
 enum { THE_END = -1001, UNREADABLE = -1002 };           /* of a file, in the place of a block's answer */
 
 struct run {
@@ -109,7 +110,7 @@ static const char usage[] =
     "line_up [--reasons] [gps=FILE] [tai=FILE] [utc=FILE] [table=FILE]\n"
     "  Lines up the stamps of up to three recorders by their TAI, and lists them with their UTC.\n"
     "  gps, tai, utc: a recorder's run, stamp blocks one after the other; at least one\n"
-    "  table: announced leap rows, a line for each, as 2027-01 38\n"
+    "  table: announced leap rows, a line for each, as 2027-01 38, or the IERS's leap-seconds.list\n"
     "  --reasons: behind the number of a refused stamp, the reason in a sentence\n"
     "line_up --help, line_up --version\n"
     "Exit status: 0 done, 1 a block or the table is refused, 2 not readable or writable, or other words\n";
@@ -146,80 +147,51 @@ static int read_words(int count, char **words, struct run *runs, const char **ta
     return FAILED;
 }
 
-/* ---- The table: lines as `2027-01 38` */
+/* ---- The table: a text of leap rows, which the library reads */
 
-/* A number of `least` to `most` digits at *text, which goes on behind it; -1 where there is none. */
-static int32_t digits(const char **text, int least, int most)
+/* All bytes of a file, which the caller frees; NULL where there is too little memory. */
+static uint8_t *whole_file(FILE *file, size_t *length)
 {
-    int32_t n = 0;
-    int count = 0;
-    for (; count < most && **text >= '0' && **text <= '9'; count++) n = 10 * n + (*(*text)++ - '0');
-    return count < least ? -1 : n;
-}
-
-/* 1 and a row, 0 for a line without one, -1 for one that is not understood. */
-static int read_row(const char *text, int32_t *month_start, int32_t *seconds)
-{
-    int32_t year, month;
-    text += strspn(text, " \t\r\n");
-    if (!*text || *text == '#') return 0;
-    if ((year = digits(&text, 4, 4)) < 0 || *text++ != '-' || (month = digits(&text, 2, 2)) < 1 || month > 12) return -1;
-    if (!strspn(text, " \t")) return -1;
-    text += strspn(text, " \t");
-    if ((*seconds = digits(&text, 1, 9)) < 0) return -1;
-    text += strspn(text, " \t\r\n");
-    *month_start = 12 * year + month - 1;
-    return *text && *text != '#' ? -1 : 1;
-}
-
-/* The next line of a file, without its end: 1, or 0 where there is none, or -1 where it has a byte 0 or is too long. */
-static int read_line(FILE *file, char text[TABLE_LINE])
-{
-    size_t length = 0;
-    int c = getc(file);
-    if (c == EOF) return 0;
-    for (; c != EOF && c != '\n'; c = getc(file)) {
-        if (!c || length == TABLE_LINE - 1) return -1;
-        text[length++] = (char)c;
+    size_t room = 1 << 16;
+    uint8_t *bytes = malloc(room), *more;
+    for (*length = 0; bytes; room *= 2) {
+        *length += fread(bytes + *length, 1, room - *length, file);
+        if (*length < room) break;
+        if (!(more = realloc(bytes, 2 * room))) free(bytes);
+        bytes = more;
     }
-    text[length] = 0;
-    return 1;
+    return bytes;
 }
 
-/* The rows of a file, at most one more than a table has; -1 where it can't be read or is not understood. */
-static int read_rows(FILE *file, const char *path, int32_t *months, int32_t *seconds)
+/* What is wrong with a refused text: its line, the number and the library's sentence. */
+static int refuse_table(const char *path, const uint8_t *text, size_t length, int number)
 {
-    char text[TABLE_LINE];
-    int rows = 0, line = 0, found = 0;
-    while (rows <= MOST_ROWS && (found = read_line(file, text)) != 0) {
-        line++;
-        if (found > 0) found = read_row(text, &months[rows], &seconds[rows]);
-        if (found < 0) break;
-        rows += found;
-    }
-    if (ferror(file)) failed(path, strerror(errno));
-    else if (found < 0) fprintf(stderr, "line_up: %s: line %d is no month and seconds\n", path, line);
-    return ferror(file) || found < 0 ? -1 : rows;
+    char sentence[CT_SENTENCE_BYTES];
+    int64_t bytes = ct_reason((uint32_t)number, (uint8_t *)sentence, sizeof sentence);
+    fprintf(stderr, "line_up: %s: line %lld: table refused %d: %.*s\n", path, (long long)ct_table_fault(text, length), number,
+            bytes < 0 ? 0 : (int)bytes, sentence);
+    return REFUSED;
 }
 
-/* The table of a file's rows, or of none without a file, as the library takes it. The library judges it. */
+/* The table of a file's rows, or of none without a file, as the library reads it. */
 static int read_table(const char *path, uint8_t table[CT_TABLE_BYTES])
 {
-    int32_t months[MOST_ROWS + 1], seconds[MOST_ROWS + 1];
-    int rows = 0;
+    uint8_t known[CT_KNOWN_BYTES], *text;
+    size_t length;
     int64_t answer;
+    int status, unread;
     FILE *file = path ? fopen(path, "r") : NULL;
-    if (path && !file) return failed(path, strerror(errno));
-    if (file) {
-        rows = read_rows(file, path, months, seconds);
-        fclose(file);
-        if (rows < 0) return FAILED;
-    }
-    ct_table(months, seconds, (uint32_t)rows, table);
-    answer = ct_check_table(table, CT_TABLE_BYTES);
-    if (answer >= 0) return DONE;
-    fprintf(stderr, "line_up: %s: table refused %d\n", path, (int)-answer);
-    return REFUSED;
+    memcpy(table, ct_no_rows, CT_TABLE_BYTES);
+    if (!path) return DONE;
+    if (!file) return failed(path, strerror(errno));
+    text = whole_file(file, &length);
+    unread = ferror(file) ? errno : 0;
+    fclose(file);
+    if (!text) return failed(path, "too little memory");
+    answer = unread ? 0 : ct_read_table(text, length, table, CT_TABLE_BYTES, known, sizeof known);
+    status = unread ? failed(path, strerror(unread)) : answer < 0 ? refuse_table(path, text, length, (int)-answer) : DONE;
+    free(text);
+    return status;
 }
 
 /* ---- Runs */

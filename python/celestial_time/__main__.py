@@ -52,7 +52,7 @@ def _source(name: str) -> Source:
 
 
 def _table(files: dict[str, str]) -> Table | None:
-    return Table.from_file(files["table"]) if "table" in files else None
+    return Table.read(files["table"]) if "table" in files else None
 
 
 def _list(words: list[str]) -> int:

@@ -25,6 +25,8 @@ _CALLS: dict[str, tuple[Any, ...]] = {
     "ct_convert_run": (_U32, _U32, *_SLICE * 6),
     "ct_formula_run": (_U32, _U32, *_SLICE * 6),
     "ct_texts_of_run": (_U32, *_SLICE * 6),
+    "ct_read_table": _SLICE * 3,
+    "ct_table_fault": _SLICE,
     "ct_offsets_at_0h": _SLICE * 3,
     "ct_line_up": (*_SLICE * 3, _U64, _U64, *_SLICE * 3),
     "ct_place_ticks": _SLICE * 4,

@@ -1,8 +1,8 @@
 """Announced leap rows, lent to the calls that read TAI-UTC."""
 from __future__ import annotations
 
+import ctypes
 import os
-import re
 import struct
 from operator import index
 from typing import Iterable, Iterator
@@ -13,7 +13,6 @@ from ._library import TABLE_BYTES, function
 from .refusals import Refused
 
 _MOST = 16
-_ROW = re.compile(r"([0-9]{4})-(0[1-9]|1[0-2])[ \t]+([0-9]{1,9})")
 
 
 class Table:
@@ -32,7 +31,7 @@ class Table:
     celestial_time.refusals.Refused: Table: refused 21...
     """
 
-    __slots__ = ("_bytes", "_kept", "_rows")
+    __slots__ = ("_bytes", "_kept", "_known", "_rows")
 
     def __init__(self, rows: Iterable[tuple[int, int, int]] = ()) -> None:
         self._rows = tuple((index(year), index(month), index(seconds)) for year, month, seconds in rows)
@@ -47,6 +46,7 @@ class Table:
             )
         except struct.error:
             raise OverflowError("a year or a number of seconds does not fit 32 bits") from None
+        self._known = 0
         self._keep()
 
     def _keep(self) -> None:
@@ -70,26 +70,40 @@ class Table:
         return cls((read[2 + i] // 12, read[2 + i] % 12 + 1, read[18 + i]) for i in range(read[0]))
 
     @classmethod
-    def from_file(cls, path: str | os.PathLike[str]) -> "Table":
-        """The table of a text file, a line for each row: the month from which on it holds, and TAI-UTC, as `2027-01 38`. What follows a # is left out.
+    def read(cls, path: str | os.PathLike[str]) -> "Table":
+        """The table of a text file: lines of a month and TAI-UTC from then on, as `2027-01 38`, or the IERS's file leap-seconds.list.
+
+        Rows that the library has must be equal, and the later ones are lent. A refusal names the line at fault.
 
         >>> import pathlib, tempfile
         >>> with tempfile.TemporaryDirectory() as folder:
         ...     file = pathlib.Path(folder, 'rows')
-        ...     _ = file.write_text('2027-01 38   # made up')
-        ...     Table.from_file(file)
-        Table([(2027, 1, 38)])
+        ...     _ = file.write_text('#@ 4007750400\\n2017-01 37\\n2027-01 38   # made up')
+        ...     table = Table.read(file)
+        >>> table, table.known_until
+        (Table([(2027, 1, 38)]), 61406)
         """
-        rows = []
-        with open(path, encoding="ascii", errors="replace") as file:
-            for number, line in enumerate(file, 1):
-                row = line.split("#")[0].strip(" \t\r\n")
-                read = _ROW.fullmatch(row)
-                if row and not read:
-                    raise ValueError(f"{os.fspath(path)}: line {number} is no month and seconds")
-                if read:
-                    rows.append((int(read[1]), int(read[2]), int(read[3])))
-        return cls(rows)
+        with open(path, "rb") as file:
+            text = file.read()
+        table, known = ctypes.create_string_buffer(TABLE_BYTES), ctypes.create_string_buffer(4)
+        code = function("ct_read_table")(text, len(text), table, TABLE_BYTES, known, 4)
+        if code < 0:
+            raise Refused(-code, f"{os.fspath(path)}: line {function('ct_table_fault')(text, len(text))}")
+        made = cls.from_bytes(table.raw)
+        made._known = int.from_bytes(known.raw, "little")
+        return made
+
+    # the name of the first versions
+    from_file = read
+
+    @property
+    def known_until(self) -> int:
+        """The Modified Julian Date until which a table that was read from a text is known, by its expiry; 0 where none is told.
+
+        >>> Table().known_until
+        0
+        """
+        return self._known
 
     @property
     def rows(self) -> tuple[tuple[int, int, int], ...]:
