@@ -151,6 +151,11 @@ def _byte_strings(texts: ArrayLike) -> NDArray[Any]:
     given = as_array("texts", texts)
     if given.dtype.kind == "O" and given.shape:
         return _of_objects(given)
+    if given.dtype.kind == "U" and given.size and given.dtype.itemsize:
+        # ASCII all at once, byte by code point.
+        codes = np.ascontiguousarray(given, given.dtype.newbyteorder("=")).view("u4")
+        if codes.max() < 128:
+            return codes.astype("u1").view(f"S{given.dtype.itemsize // 4}").reshape(given.shape)
     if given.dtype.kind == "U":
         # A lone half of a pair is bytes as any other: the library refuses the text that has it, and no more. Of no texts numpy forgets the shape.
         given = np.asarray(np.char.encode(given, "utf-8", "surrogatepass")).reshape(given.shape)
