@@ -13,37 +13,39 @@ use Rattle.julian.specs.declared.JulianDate.{JulianDate}
 use Rattle.since_launch.specs.declared.Place.{Place}
 use Rattle.since_launch.specs.declared.RunMillis.the-variants as Answer
 use Rattle.since_launch.specs.Millis.{placeAt}
-use Rattle.since_launch.specs.Run.{stampMillis, runOutcome, runCall, runWritten, lengthsRefusal, millisBy, millisFrom, millisOfRun}
-use Rattle.since_launch.specs.Asked.{RoomForRun, RunPut}
+use Rattle.since_launch.specs.Run.{stampMillis, millisRefused, runMillisOutcome, millisCall, millisWritten, runLengthsRefusal}
+use Rattle.since_launch.specs.Run.{millisBy, millisFrom, millisOfRun}
+use Rattle.since_launch.specs.Asked.{RoomForRun, MillisRunPut}
+use Rattle.since_launch.proofs.Puts.{at-most}
 
 -- ---- the refusals, by the outcomes of the tests
 module _ (size1 size2 room1 room2 : ℕ) where
-  pub broken-first : (size1 % 8 ≡ 0 → ⊥) → 14 ≡ lengthsRefusal size1 size2 room1 room2
-  unfolding lengthsRefusal
+  pub broken-first : (size1 % 8 ≡ 0 → ⊥) → 14 ≡ runLengthsRefusal size1 size2 room1 room2
+  unfolding runLengthsRefusal
   broken-first c = rw (ne-eqb (size1 % 8) 0 c)
 
   module _ (c : size1 % 8 ≡ 0) where
-    pub broken-second : (size2 % 8 ≡ 0 → ⊥) → 14 ≡ lengthsRefusal size1 size2 room1 room2
-    unfolding lengthsRefusal
+    pub broken-second : (size2 % 8 ≡ 0 → ⊥) → 14 ≡ runLengthsRefusal size1 size2 room1 room2
+    unfolding runLengthsRefusal
     broken-second d = rw (eq-eqb (size1 % 8) 0 c, ne-eqb (size2 % 8) 0 d)
 
     module _ (d : size2 % 8 ≡ 0) where
-      pub sizes-differ : (size1 ≡ size2 → ⊥) → 12 ≡ lengthsRefusal size1 size2 room1 room2
-      unfolding lengthsRefusal
+      pub sizes-differ : (size1 ≡ size2 → ⊥) → 12 ≡ runLengthsRefusal size1 size2 room1 room2
+      unfolding runLengthsRefusal
       sizes-differ e = rw (eq-eqb (size1 % 8) 0 c, eq-eqb (size2 % 8) 0 d, ne-eqb size1 size2 e)
 
       module _ (e : size1 ≡ size2) where
-        pub few-places : room1 < size1 → 11 ≡ lengthsRefusal size1 size2 room1 room2
-        unfolding lengthsRefusal
+        pub few-places : room1 < size1 → 11 ≡ runLengthsRefusal size1 size2 room1 room2
+        unfolding runLengthsRefusal
         few-places f = rw (eq-eqb (size1 % 8) 0 c, eq-eqb (size2 % 8) 0 d, eq-eqb size1 size2 e, lt-leb size1 room1 f)
 
         module _ (f : size1 ≤ room1) where
-          pub few-numbers : room2 < size1 / 8 → 11 ≡ lengthsRefusal size1 size2 room1 room2
-          unfolding lengthsRefusal
+          pub few-numbers : room2 < size1 / 8 → 11 ≡ runLengthsRefusal size1 size2 room1 room2
+          unfolding runLengthsRefusal
           few-numbers g = rw (eq-eqb (size1 % 8) 0 c, eq-eqb (size2 % 8) 0 d, eq-eqb size1 size2 e, le-leb size1 room1 f, lt-leb (size1 / 8) room2 g)
 
-          pub none-refused : size1 / 8 ≤ room2 → 0 ≡ lengthsRefusal size1 size2 room1 room2
-          unfolding lengthsRefusal
+          pub none-refused : size1 / 8 ≤ room2 → 0 ≡ runLengthsRefusal size1 size2 room1 room2
+          unfolding runLengthsRefusal
           none-refused g = rw (eq-eqb (size1 % 8) 0 c, eq-eqb (size2 % 8) 0 d, eq-eqb size1 size2 e, le-leb size1 room1 f, le-leb (size1 / 8) room2 g)
 
 -- ---- what no refusal says
@@ -70,14 +72,15 @@ module _ (size1 size2 room1 room2 : ℕ) where
   fitting-by true false b4 b5 b6 p2 p3 p4 p5 p6 z = let w : ⊥ = omega arith in absurd w
   fitting-by false b3 b4 b5 b6 p2 p3 p4 p5 p6 z = let w : ⊥ = omega arith in absurd w
 
-  pub fitting : lengthsRefusal size1 size2 room1 room2 ≡ 0 → Fitting size1 size2 room1 room2
-  unfolding lengthsRefusal
+  pub fitting : runLengthsRefusal size1 size2 room1 room2 ≡ 0 → Fitting size1 size2 room1 room2
+  unfolding runLengthsRefusal
   fitting z = fitting-by (eqb (size1 % 8) 0) (eqb (size2 % 8) 0) (eqb size1 size2) (leb size1 room1) (leb (size1 / 8) room2) refl refl refl refl refl z
 
 -- ---- the call from a launch whose place is known
-module _ (launch : Place) (js ks out numbers : List ℕ) (number : ℕ) (en : number ≡ lengthsRefusal (length js) (length ks) (length out) (length numbers)) where
-  pub run-refused : (number ≡ 0 → ⊥) → runCall (runOutcome (Answer.Refused number)) out numbers ≡ millisBy launch js ks out numbers
-  unfolding millisBy runOutcome
+module _ (launch : Place) (js ks out numbers : List ℕ) (number : ℕ)
+    (en : number ≡ runLengthsRefusal (length js) (length ks) (length out) (length numbers)) where
+  pub run-refused : (number ≡ 0 → ⊥) → millisCall (runMillisOutcome (Answer.Refused number)) out numbers ≡ millisBy launch js ks out numbers
+  unfolding millisBy runMillisOutcome
   run-refused h = rw (← en, ne-eqb number 0 h)
 
   module _ (z : number ≡ 0) where
@@ -91,17 +94,33 @@ module _ (launch : Place) (js ks out numbers : List ℕ) (number : ℕ) (en : nu
       bytes = fits .bytes;
     }
 
-    pub run-ends : (r : ℕ) (out' numbers' : List ℕ) → RunPut (stampMillis launch js ks) (length js / 8) out numbers r out' numbers'
-        → runCall (runOutcome (Answer.Written r)) out' numbers' ≡ millisBy launch js ks out numbers
-    unfolding millisBy runOutcome runWritten
+    pub run-ends : (r : ℕ) (out' numbers' : List ℕ) → MillisRunPut (stampMillis launch js ks) (length js / 8) out numbers r out' numbers'
+        → millisCall (runMillisOutcome (Answer.Written r)) out' numbers' ≡ millisBy launch js ks out numbers
+    unfolding millisBy runMillisOutcome millisWritten
     run-ends r out' numbers' p = rw (← en, eq-eqb number 0 z, p .count, p .first, p .second)
 
 -- ---- the call
 module _ (from : JulianDate) (js ks out numbers : List ℕ) where
-  pub launch-out : (k : ℕ) → placeAt from ≡ refusal k → runCall (runOutcome (Answer.Refused k)) out numbers ≡ millisOfRun from js ks out numbers
-  unfolding millisOfRun millisFrom runOutcome
+  pub launch-out : (k : ℕ) → placeAt from ≡ refusal k → millisCall (runMillisOutcome (Answer.Refused k)) out numbers ≡ millisOfRun from js ks out numbers
+  unfolding millisOfRun millisFrom runMillisOutcome
   launch-out k e = rw e
 
   pub launch-in : (p : Place) → placeAt from ≡ answer p → millisBy p js ks out numbers ≡ millisOfRun from js ks out numbers
   unfolding millisOfRun millisFrom
   launch-in p e = rw e
+
+  -- at most all stamps are refused
+  pub run-count : (k : ℕ) → answer k ≡ millisOfRun from js ks out numbers .answer → k ≤ length js / 8
+  unfolding millisOfRun millisFrom millisBy millisWritten
+  run-count k e = go (placeAt from) e
+    where
+      by : (p : Place) (b : Bool) → answer k ≡ cond b (millisWritten (stampMillis p js ks) (length js / 8) out numbers)
+          (millisCall (refusal (runLengthsRefusal (length js) (length ks) (length out) (length numbers))) out numbers) .answer → k ≤ length js / 8
+      by p true q =
+          let same : k ≡ millisRefused (stampMillis p js ks) (length js / 8) = cc q in
+          omega (arith, same, at-most (stampMillis p js ks) (length js / 8))
+      by p false q = let z : _≡_ {A = ℕ} 0 1 = cc q in let w : ⊥ = omega arith in absurd w
+
+      go : (o : Outcome Place) → answer k ≡ millisFrom o js ks out numbers .answer → k ≤ length js / 8
+      go (answer p) q = by p (eqb (runLengthsRefusal (length js) (length ks) (length out) (length numbers)) 0) q
+      go (refusal j) q = let z : _≡_ {A = ℕ} 0 1 = cc q in let w : ⊥ = omega arith in absurd w

@@ -25,8 +25,8 @@ use Rattle.julian.proofs.day_number.FractionSign.{fraction-unsigned}
 use Rattle.time_of_day.specs.TimeShown.{fromZero}
 use Rattle.time_of_day.proofs.EvenFloat.{from-plus}
 use Rattle.since_launch.specs.declared.Place.{Place}
-use Rattle.since_launch.specs.Millis.{placeOf, placeIn, placeAt, unitsOf, countOf, sinceLaunch, millisBetween}
-use Rattle.since_launch.specs.Asked.{Placed}
+use Rattle.since_launch.specs.Millis.{placeOf, placeIn, placeAt, unitsOf, countOf, sinceLaunch, millisFromTo}
+use Rattle.since_launch.specs.Asked.{PlaceWithin}
 use Rattle.since_launch.proofs.Units.{units-in-day}
 
 -- the days since day -68570
@@ -46,7 +46,7 @@ module _ (x y : Float) (f : T (fits binary64 x)) (g : T (fits binary64 y)) (n : 
   unfolding dayOf
   fraction-held = subst (λ (m : DayNumber). T (fits binary64 (m .fraction))) (answer-is x y n e .1) (fraction-unsigned x y .fit)
 
-  pub placed : Placed (placeOf n)
+  pub placed : PlaceWithin (placeOf n)
   unfolding placeOf
   placed = record {
     days = omega (arith, days-are (n .day) (day-range x y f g n e), day-range x y f g n e .top);
@@ -99,8 +99,8 @@ neither : (a b : Bool) → b ≡ false → a && b ≡ false
 neither true b e = e
 neither false b e = refl
 
-pub stamp-not-finite : (from to : JulianDate) (k : ℕ) → finiteJd to ≡ refusal k → refusal k ≡ millisBetween from to
-unfolding millisBetween
+pub stamp-not-finite : (from to : JulianDate) (k : ℕ) → finiteJd to ≡ refusal k → refusal k ≡ millisFromTo from to
+unfolding millisFromTo
 stamp-not-finite from to k e =
     let f = not-finite-is to k e in
     ap refusal (f .1) ∙ rw (neither (finiteParts from) (finiteParts to) (f .0))
@@ -109,8 +109,8 @@ pub place-finite : (d : JulianDate) → finiteParts d ≡ true → placeAt d ≡
 unfolding placeAt finiteJd onward
 place-finite d f = rw f
 
-pub launch-refused : (from to e : JulianDate) (k : ℕ) → finiteJd to ≡ answer e → placeAt from ≡ refusal k → refusal k ≡ millisBetween from to
-unfolding millisBetween placeAt finiteJd onward
+pub launch-refused : (from to e : JulianDate) (k : ℕ) → finiteJd to ≡ answer e → placeAt from ≡ refusal k → refusal k ≡ millisFromTo from to
+unfolding millisFromTo placeAt finiteJd onward
 launch-refused from to e k h g = go (finiteParts from) refl g
   where
     go : (b : Bool) → finiteParts from ≡ b → onward (cond b (answer from) (refusal 9)) placeIn ≡ refusal k
@@ -118,8 +118,8 @@ launch-refused from to e k h g = go (finiteParts from) refl g
     go true f i = rw (finite-is to e h .0, i)
     go false f i = let z : k ≡ 9 = cc in ap refusal z
 
-pub from-launch : (from to e : JulianDate) (p : Place) → finiteJd to ≡ answer e → placeAt from ≡ answer p → sinceLaunch p e ≡ millisBetween from to
-unfolding millisBetween placeAt finiteJd onward sinceLaunch
+pub from-launch : (from to e : JulianDate) (p : Place) → finiteJd to ≡ answer e → placeAt from ≡ answer p → sinceLaunch p e ≡ millisFromTo from to
+unfolding millisFromTo placeAt finiteJd onward sinceLaunch
 from-launch from to e p h g = go (finiteParts from) refl g
   where
     go : (b : Bool) → finiteParts from ≡ b → onward (cond b (answer from) (refusal 9)) placeIn ≡ answer p

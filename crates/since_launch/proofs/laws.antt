@@ -1,5 +1,5 @@
--- What the milliseconds mean. Decided: a count is the nearest, and 18 exactly outside the range. OnGrid: the theorems on the grid.
-pub mod Decided
+-- What the milliseconds mean. MillisDecided: a count is the nearest, and 18 exactly outside the range. OnGrid: the theorems on the grid.
+pub mod MillisDecided
 pub mod OnGrid
 -- Anywhere: how near they are off the grid. Refusing: which number is given exactly when.
 pub mod Anywhere

@@ -7,15 +7,15 @@ use Rattle.refusals.specs.Outcome.{Outcome}
 use Rattle.since_launch.specs.declared.Place.{Place}
 use Rattle.since_launch.specs.declared.PlaceAnswer.{PlaceAnswer}
 use Rattle.since_launch.specs.declared.PlaceAnswer.the-variants.{At, Refused}
-use Rattle.since_launch.specs.Run.{refusalByte, withMillis, withAll, withNumbers, refusedAmong}
+use Rattle.since_launch.specs.Run.{millisNumberByte, withMillis, withAll, withMillisNumbers, millisRefused}
 
 -- a place that a date can have: day 1000000000 is the last, and no fraction has more units than a day
-pub record Placed (p : Place) : Type 0 where
+pub record PlaceWithin (p : Place) : Type 0 where
   pub days : p .days ≤ 1000068570
   pub units : p .units ≤ 4503599627370496
 
 unfoldable pub AllPlaced : PlaceAnswer → Type 0
-AllPlaced (At p) = Placed p
+AllPlaced (At p) = PlaceWithin p
 AllPlaced (Refused k) = Unit {0}
 
 -- n stamps are there, and places for them
@@ -26,11 +26,11 @@ pub record RoomForRun (n : ℕ) (js out numbers : List ℕ) : Type 0 where
 
 -- the milliseconds o of stamp i are put: r is its number
 pub record MillisPut (o : Outcome ℕ) (i : ℕ) (out : List ℕ) (r : ℕ) (out' : List ℕ) : Type 0 where
-  pub number : r ≡ refusalByte o
+  pub number : r ≡ millisNumberByte o
   pub bytes : out' ≡ withMillis o i out
 
 -- the milliseconds f 0, f 1, .. of n stamps are put, r of them refused
-pub record RunPut (f : ℕ → Outcome ℕ) (n : ℕ) (out numbers : List ℕ) (r : ℕ) (out' numbers' : List ℕ) : Type 0 where
-  pub count : r ≡ refusedAmong f n
+pub record MillisRunPut (f : ℕ → Outcome ℕ) (n : ℕ) (out numbers : List ℕ) (r : ℕ) (out' numbers' : List ℕ) : Type 0 where
+  pub count : r ≡ millisRefused f n
   pub first : out' ≡ withAll f n out
-  pub second : numbers' ≡ withNumbers f n numbers
+  pub second : numbers' ≡ withMillisNumbers f n numbers

@@ -64,8 +64,8 @@ unfoldable pub sinceLaunch : Place → JulianDate → Outcome ℕ
 sinceLaunch p d = onward (placeAt d) (λ q. countOf (unitsOf p) (unitsOf q))
 
 -- from one date to another: 9 for either, then 6 for either, then 18
-unfoldable pub millisBetween : JulianDate → JulianDate → Outcome ℕ
-millisBetween from to =
+unfoldable pub millisFromTo : JulianDate → JulianDate → Outcome ℕ
+millisFromTo from to =
     cond (finiteParts from && finiteParts to)
     (onward (placeIn from) (λ p. onward (placeIn to) (λ q. countOf (unitsOf p) (unitsOf q))))
     (refusal 9)

@@ -8,9 +8,9 @@ ghost use Rattle.time_of_day.specs.HalfEven.{gridUnits};
 ghost use Rattle.julian.specs.JulianDate.{julian};
 ghost use Rattle.julian.specs.day_number.Ranges.{InDays};
 ghost use Rattle.since_launch.specs.Millis.{placeOutcome, millisOutcome, placeOf, placeIn, placeAt, unitsOf, nearestCount, countOf};
-ghost use Rattle.since_launch.specs.Millis.{sinceLaunch, millisBetween};
-ghost use Rattle.since_launch.specs.Run.{runOutcome, runCall, lengthsRefusal, stampMillis, millisBy, millisOfRun};
-ghost use Rattle.since_launch.specs.Asked.{Placed, AllPlaced, RoomForRun, MillisPut, RunPut};
+ghost use Rattle.since_launch.specs.Millis.{sinceLaunch, millisFromTo};
+ghost use Rattle.since_launch.specs.Run.{runMillisOutcome, millisCall, runLengthsRefusal, stampMillis, millisBy, millisOfRun};
+ghost use Rattle.since_launch.specs.Asked.{PlaceWithin, AllPlaced, RoomForRun, MillisPut, MillisRunPut};
 use julian::JulianAnswer;
 use julian::JulianDate;
 
@@ -115,7 +115,7 @@ fn nearest_count(units: u64) -> u64
 
 // The milliseconds from one place to another. Two days are added, so that no number is below 0, and taken off again.
 fn count_of(from: Place, to: Place) -> MillisAnswer
-    requires { ⌜ Placed from × Placed to ⌝ }
+    requires { ⌜ PlaceWithin from × PlaceWithin to ⌝ }
     ensures { λ r. ⌜ millisOutcome r ≡ countOf (unitsOf from) (unitsOf to) ⌝ }
 {
     if to.days + 1 < from.days {
@@ -138,7 +138,7 @@ fn count_of(from: Place, to: Place) -> MillisAnswer
 
 // The milliseconds from a launch whose place is known.
 fn since(launch: Place, to: JulianDate) -> MillisAnswer
-    requires { ⌜ Placed launch ⌝ }
+    requires { ⌜ PlaceWithin launch ⌝ }
     ensures { λ r. ⌜ millisOutcome r ≡ sinceLaunch launch to ⌝ }
 {
     match place_at(to) {
@@ -150,7 +150,7 @@ fn since(launch: Place, to: JulianDate) -> MillisAnswer
 // The whole milliseconds from one date to another of the same uniform scale, to the nearest, a half going up. Refusals in order: 9 a part of either that is not
 // finite, 6 a rounded sum of either out of the range, 18 a result that is not 0 to 2^40 - 1.
 pub fn milliseconds(from: JulianDate, to: JulianDate) -> MillisAnswer
-    ensures { λ r. ⌜ millisOutcome r ≡ millisBetween from to ⌝ }
+    ensures { λ r. ⌜ millisOutcome r ≡ millisFromTo from to ⌝ }
 {
     match julian::finite_jd(to) {
         JulianAnswer::Refused(number) => MillisAnswer::Refused(number),
@@ -163,7 +163,7 @@ pub fn milliseconds(from: JulianDate, to: JulianDate) -> MillisAnswer
 
 // Writes the milliseconds of the stamp at place i, and says its number.
 fn put_stamp(launch: Place, jd1s: &[u8], jd2s: &[u8], i: usize, out: &mut [u8]) -> u8
-    requires { ⌜ Placed launch × (8 * i + 8 ≤ length (now out)) ⌝ }
+    requires { ⌜ PlaceWithin launch × (8 * i + 8 ≤ length (now out)) ⌝ }
     ensures { λ r. ⌜ MillisPut (stampMillis launch (now (jd1s .entry)) (now (jd2s .entry)) i) i (now (out .entry)) r (now (out .exit)) ⌝ }
 {
     match since(launch, julian::stamp_lists::stamp_of(jd1s, jd2s, i)) {
@@ -190,8 +190,8 @@ fn put_all(
     out: &mut [u8],
     numbers: &mut [u8],
 ) -> usize
-    requires { ⌜ Placed launch × RoomForRun n (now jd1s) (now out) (now numbers) ⌝ }
-    ensures { λ r. ⌜ RunPut (stampMillis launch (now (jd1s .entry)) (now (jd2s .entry))) n (now (out .entry)) (now (numbers .entry)) r (now (out .exit))
+    requires { ⌜ PlaceWithin launch × RoomForRun n (now jd1s) (now out) (now numbers) ⌝ }
+    ensures { λ r. ⌜ MillisRunPut (stampMillis launch (now (jd1s .entry)) (now (jd2s .entry))) n (now (out .entry)) (now (numbers .entry)) r (now (out .exit))
         (now (numbers .exit)) ⌝ }
 {
     let mut refused = 0;
@@ -207,7 +207,7 @@ fn put_all(
 
 // The refusal of the lengths, or 0.
 fn lengths_refusal(size1: usize, size2: usize, room1: usize, room2: usize) -> u32
-    ensures { λ r. ⌜ r ≡ lengthsRefusal size1 size2 room1 room2 ⌝ }
+    ensures { λ r. ⌜ r ≡ runLengthsRefusal size1 size2 room1 room2 ⌝ }
 {
     if size1 % 8 != 0 {
         return refusals::LENGTH_WRONG;
@@ -235,8 +235,8 @@ fn run_from(
     out: &mut [u8],
     numbers: &mut [u8],
 ) -> RunMillis
-    requires { ⌜ Placed launch ⌝ }
-    ensures { λ r. ⌜ runCall (runOutcome r) (now (out .exit)) (now (numbers .exit)) ≡ millisBy launch (now (jd1s .entry)) (now (jd2s .entry))
+    requires { ⌜ PlaceWithin launch ⌝ }
+    ensures { λ r. ⌜ millisCall (runMillisOutcome r) (now (out .exit)) (now (numbers .exit)) ≡ millisBy launch (now (jd1s .entry)) (now (jd2s .entry))
         (now (out .entry)) (now (numbers .entry)) ⌝ }
 {
     let number = lengths_refusal(jd1s.len(), jd2s.len(), out.len(), numbers.len());
@@ -258,7 +258,7 @@ pub fn milliseconds_of_run(
     out: &mut [u8],
     numbers: &mut [u8],
 ) -> RunMillis
-    ensures { λ r. ⌜ runCall (runOutcome r) (now (out .exit)) (now (numbers .exit)) ≡ millisOfRun from (now (jd1s .entry)) (now (jd2s .entry))
+    ensures { λ r. ⌜ millisCall (runMillisOutcome r) (now (out .exit)) (now (numbers .exit)) ≡ millisOfRun from (now (jd1s .entry)) (now (jd2s .entry))
         (now (out .entry)) (now (numbers .entry)) ⌝ }
 {
     match place_at(from) {

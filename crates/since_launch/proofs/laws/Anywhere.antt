@@ -24,12 +24,12 @@ use Rattle.time_of_day.specs.TimeShown.{fromZero}
 use Rattle.time_of_day.specs.HalfEven.{gridUnits}
 use Rattle.time_of_day.proofs.Fractions.{one-val}
 use Rattle.since_launch.specs.declared.Place.{Place}
-use Rattle.since_launch.specs.Millis.{placeOf, placeIn, unitsOf, countOf, millisBetween}
-use Rattle.since_launch.specs.laws.Nearest.{Nearest}
+use Rattle.since_launch.specs.Millis.{placeOf, placeIn, unitsOf, countOf, millisFromTo}
+use Rattle.since_launch.specs.laws.NearestMillis.{NearestMillis}
 use Rattle.since_launch.specs.laws.NearSums.{NearMillis}
 use Rattle.since_launch.proofs.Units.{units-floor}
 use Rattle.since_launch.proofs.Places.{days-are, fraction-held}
-use Rattle.since_launch.proofs.laws.Decided.{count-decided, answered-nearest}
+use Rattle.since_launch.proofs.laws.MillisDecided.{count-decided, answered-nearest}
 
 -- p units are within 2 above and 3 below the exact sum and 68570.5 days
 pub record PlaceNear (P N p : ℕ) : Type 0 where
@@ -99,9 +99,10 @@ pub record Answered (from to : JulianDate) (r : ℕ) : Type 0 where
   pub given' : dayNumberAndFraction (to .jd1) (to .jd2) ≡ answer n'
   pub count : countOf (unitsOf (placeOf n)) (unitsOf (placeOf n')) ≡ answer r
 
-pub answered-by : (from to : JulianDate) (r : ℕ) → millisBetween from to ≡ answer r → Answered from to r
-unfolding millisBetween placeIn onward
-answered-by from to r e = go (finiteParts from && finiteParts to) (dayNumberAndFraction (from .jd1) (from .jd2)) (dayNumberAndFraction (to .jd1) (to .jd2)) refl refl e
+pub answered-by : (from to : JulianDate) (r : ℕ) → millisFromTo from to ≡ answer r → Answered from to r
+unfolding millisFromTo placeIn onward
+answered-by from to r e =
+    go (finiteParts from && finiteParts to) (dayNumberAndFraction (from .jd1) (from .jd2)) (dayNumberAndFraction (to .jd1) (to .jd2)) refl refl e
   where
     go : (b : Bool) (o o' : Outcome DayNumber) → dayNumberAndFraction (from .jd1) (from .jd2) ≡ o → dayNumberAndFraction (to .jd1) (to .jd2) ≡ o'
         → cond b (onward (onward o (λ n. answer (placeOf n))) (λ p. onward (onward o' (λ n. answer (placeOf n))) (λ q. countOf (unitsOf p) (unitsOf q))))
@@ -110,6 +111,12 @@ answered-by from to r e = go (finiteParts from && finiteParts to) (dayNumberAndF
     go true (refusal k) o' f g h = let z : _≡_ {A = ℕ} 0 1 = cc in absurd (omega arith)
     go true (answer n) (refusal k) f g h = let z : _≡_ {A = ℕ} 0 1 = cc in absurd (omega arith)
     go true (answer n) (answer n') f g h = record { n = n; n' = n'; given = f; given' = g; count = h }
+
+-- an answer is below 2 ^ 40
+pub answer-small : (from to : JulianDate) (r : ℕ) → millisFromTo from to ≡ answer r → r < 2 ^ 40
+answer-small from to r e =
+    let g = answered-by from to r e in
+    answered-nearest (count-decided (unitsOf (placeOf (g .n))) (unitsOf (placeOf (g .n')))) (g .count) .1
 
 -- ---- times L
 lin : (x y z : ℕ) → (8796093022208 * x + 168750 * y + z) * L ≡ 8796093022208 * (x * L) + 168750 * (y * L) + z * L
@@ -122,7 +129,7 @@ pub scale : (x y z x' y' z' : ℕ) → 8796093022208 * x + 168750 * y + z ≤ 87
 scale x y z x' y' z' h = omega (arith, lin x y z, lin x' y' z', mul-le-mul-right L h)
 
 -- the places of two dates and the number nearest
-pub near-by-places : (P N P' N' p q r : ℕ) → PlaceNear P N p → PlaceNear P' N' q → Nearest q p r → NearMillis P N P' N' r
+pub near-by-places : (P N P' N' p q r : ℕ) → PlaceNear P N p → PlaceNear P' N' q → NearestMillis q p r → NearMillis P N P' N' r
 near-by-places P N P' N' p q r a b n =
     record {
       over = above (r * L) (p * L) (q * L) (scale r p 0 0 q 4398046511104 (omega (arith, n .over))) (a .under) (b .over);
@@ -143,7 +150,7 @@ near-by-places P N P' N' p q r a b n =
 
 -- (b) within 0.5 ms and 96 ps
 pub anywhere-near : (from to : JulianDate) (P N P' N' : ℕ) → SmallParts from → SmallParts to → Worth from P N L → Worth to P' N' L → (r : ℕ)
-    → millisBetween from to ≡ answer r → NearMillis P N P' N' r
+    → millisFromTo from to ≡ answer r → NearMillis P N P' N' r
 anywhere-near from to P N P' N' s s' w w' r e =
     let g = answered-by from to r e in
     near-by-places P N P' N' (unitsOf (placeOf (g .n))) (unitsOf (placeOf (g .n'))) r (place-near from P N s w (g .n) (g .given))

@@ -14,8 +14,8 @@ use Rattle.julian.specs.Finite.{finiteJd}
 use Rattle.time_of_day.specs.TimeShown.{fromZero}
 use Rattle.time_of_day.specs.HalfEven.{gridUnits}
 use Rattle.since_launch.specs.declared.Place.{Place}
-use Rattle.since_launch.specs.Millis.{placeOf, placeIn, placeAt, inRange, countOf, sinceLaunch, millisBetween}
-use Rattle.since_launch.specs.Run.{stampMillis, refusalByte, withMillis, withAll, withNumbers, refusedAmong, runCall, runWritten}
+use Rattle.since_launch.specs.Millis.{placeOf, placeIn, placeAt, inRange, countOf, sinceLaunch, millisFromTo}
+use Rattle.since_launch.specs.Run.{stampMillis, millisNumberByte, withMillis, withAll, withMillisNumbers, millisRefused, millisCall, millisWritten}
 
 -- ---- by units of 2 ^ -52 day
 
@@ -40,24 +40,24 @@ last-and-past = (refl, refl)
 -- ---- by dates
 
 abbrev at : ℕ → ℕ → ℕ → ℕ → Outcome ℕ
-at a b c d = millisBetween (julian (ofBits binary64 a) (ofBits binary64 b)) (julian (ofBits binary64 c) (ofBits binary64 d))
+at a b c d = millisFromTo (julian (ofBits binary64 a) (ofBits binary64 b)) (julian (ofBits binary64 c) (ofBits binary64 d))
 
 -- from (2444244.5, 0.0) to (2444244.5, 27 / 86400000): 27, though jd2 was rounded and its units are cut down, so that the exact product is below 27
 pub own-27 : at 0x4142_a5ea_4000_0000 0 0x4142_a5ea_4000_0000 0x3e94_f8b5_88e3_68f1 ≡ answer 27
-unfolding millisBetween placeIn placeOf onward countOf inRange gridUnits fromZero toSigned mul round dayNumberAndFraction ofBits lt add sub div neg
+unfolding millisFromTo placeIn placeOf onward countOf inRange gridUnits fromZero toSigned mul round dayNumberAndFraction ofBits lt add sub div neg
 own-27 = refl
 
 -- from (2451545.0, 0.0) to (2451545.25, 0.0), and to (2451545.0, 0.25), six hours; and the way back
 pub six-hours : (at 0x4142_b42c_8000_0000 0 0x4142_b42c_a000_0000 0 ≡ answer 21600000)
     × (at 0x4142_b42c_8000_0000 0 0x4142_b42c_8000_0000 0x3fd0_0000_0000_0000 ≡ answer 21600000)
     × (at 0x4142_b42c_a000_0000 0 0x4142_b42c_8000_0000 0 ≡ refusal 18)
-unfolding millisBetween placeIn placeOf onward countOf inRange gridUnits fromZero toSigned mul round dayNumberAndFraction ofBits lt add sub div neg
+unfolding millisFromTo placeIn placeOf onward countOf inRange gridUnits fromZero toSigned mul round dayNumberAndFraction ofBits lt add sub div neg
 six-hours = (refl, refl, refl)
 
 -- the order of the refusals: a NaN in the stamp before a launch out of the range; the launch, or the stamp, out of the range before 18
 pub in-this-order : (at 0x41e6_5a0b_c000_0000 0 0x7ff8_0000_0000_0000 0 ≡ refusal 9) × (at 0x7ff0_0000_0000_0000 0 0x41e6_5a0b_c000_0000 0 ≡ refusal 9)
     × (at 0x41e6_5a0b_c000_0000 0 0x4142_b42c_8000_0000 0 ≡ refusal 6) × (at 0x4142_b42c_8000_0000 0 0x41e6_5a0b_c000_0000 0 ≡ refusal 6)
-unfolding millisBetween placeIn placeOf onward countOf inRange gridUnits fromZero toSigned mul round dayNumberAndFraction ofBits lt add sub div neg
+unfolding millisFromTo placeIn placeOf onward countOf inRange gridUnits fromZero toSigned mul round dayNumberAndFraction ofBits lt add sub div neg
 in-this-order = (refl, refl, refl, refl)
 
 -- ---- a run
@@ -75,7 +75,9 @@ three zero = answer 258
 three (suc zero) = refusal 9
 three (suc (suc k)) = answer 1
 
-pub three-stamps : runWritten three 3 (7 ∷ 7 ∷ 7 ∷ 7 ∷ 7 ∷ 7 ∷ 7 ∷ 7 ∷ 8 ∷ 8 ∷ 8 ∷ 8 ∷ 8 ∷ 8 ∷ 8 ∷ 8 ∷ 9 ∷ 9 ∷ 9 ∷ 9 ∷ 9 ∷ 9 ∷ 9 ∷ 9 ∷ 5 ∷ []) (4 ∷ 4 ∷ 4 ∷ 4 ∷ [])
-    ≡ runCall (answer 1) (2 ∷ 1 ∷ 0 ∷ 0 ∷ 0 ∷ 0 ∷ 0 ∷ 0 ∷ 8 ∷ 8 ∷ 8 ∷ 8 ∷ 8 ∷ 8 ∷ 8 ∷ 8 ∷ 1 ∷ 0 ∷ 0 ∷ 0 ∷ 0 ∷ 0 ∷ 0 ∷ 0 ∷ 5 ∷ []) (0 ∷ 9 ∷ 0 ∷ 4 ∷ [])
-unfolding runWritten withAll withMillis withNumbers refusalByte refusedAmong
+pub three-stamps : millisWritten three 3
+    (7 ∷ 7 ∷ 7 ∷ 7 ∷ 7 ∷ 7 ∷ 7 ∷ 7 ∷ 8 ∷ 8 ∷ 8 ∷ 8 ∷ 8 ∷ 8 ∷ 8 ∷ 8 ∷ 9 ∷ 9 ∷ 9 ∷ 9 ∷ 9 ∷ 9 ∷ 9 ∷ 9 ∷ 5 ∷ [])
+    (4 ∷ 4 ∷ 4 ∷ 4 ∷ [])
+    ≡ millisCall (answer 1) (2 ∷ 1 ∷ 0 ∷ 0 ∷ 0 ∷ 0 ∷ 0 ∷ 0 ∷ 8 ∷ 8 ∷ 8 ∷ 8 ∷ 8 ∷ 8 ∷ 8 ∷ 8 ∷ 1 ∷ 0 ∷ 0 ∷ 0 ∷ 0 ∷ 0 ∷ 0 ∷ 0 ∷ 5 ∷ []) (0 ∷ 9 ∷ 0 ∷ 4 ∷ [])
+unfolding millisWritten withAll withMillis withMillisNumbers millisNumberByte millisRefused
 three-stamps = refl

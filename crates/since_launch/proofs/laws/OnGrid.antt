@@ -22,10 +22,10 @@ use Rattle.time_of_day.specs.TimeShown.{fromZero}
 use Rattle.time_of_day.specs.HalfEven.{gridUnits}
 use Rattle.time_of_day.proofs.EvenExact.{units-are}
 use Rattle.since_launch.specs.declared.Place.{Place}
-use Rattle.since_launch.specs.Millis.{placeOf, placeIn, unitsOf, countOf, millisBetween}
-use Rattle.since_launch.specs.laws.Nearest.{Nearest, Decided}
+use Rattle.since_launch.specs.Millis.{placeOf, placeIn, unitsOf, countOf, millisFromTo}
+use Rattle.since_launch.specs.laws.NearestMillis.{NearestMillis, MillisDecided}
 use Rattle.since_launch.proofs.Places.{days-are}
-use Rattle.since_launch.proofs.laws.Decided.{count-decided, decided-move, answered-nearest}
+use Rattle.since_launch.proofs.laws.MillisDecided.{count-decided, decided-move, answered-nearest}
 
 -- a date on the grid, in document 01's range
 pub record GridDate (d : JulianDate) : Type 0 where
@@ -70,18 +70,18 @@ module _ (d : JulianDate) (g : GridDate d) where
 
 -- by the places of two dates that have one
 pub by-places : (from to : JulianDate) (p q : Place) → finiteParts from ≡ true → finiteParts to ≡ true → placeIn from ≡ answer p → placeIn to ≡ answer q
-    → millisBetween from to ≡ countOf (unitsOf p) (unitsOf q)
-unfolding millisBetween onward
+    → millisFromTo from to ≡ countOf (unitsOf p) (unitsOf q)
+unfolding millisFromTo onward
 by-places from to p q f g e h = rw (f, g, e, h)
 
 module _ (from to : JulianDate) (a : GridDate from) (b : GridDate to) where
-  counted : millisBetween from to ≡ countOf (unitsOf (placeOf (exactDayNumber (sumOf a)))) (unitsOf (placeOf (exactDayNumber (sumOf b))))
+  counted : millisFromTo from to ≡ countOf (unitsOf (placeOf (exactDayNumber (sumOf a)))) (unitsOf (placeOf (exactDayNumber (sumOf b))))
   counted = by-places from to _ _ (finite-grid from a) (finite-grid to b) (place-given from a) (place-given to b)
 
   -- (a) the number nearest to 84375 (to - from) / 2 ^ 42, a half going up; 18 exactly where that is not 0 to 2 ^ 40 - 1
-  pub on-grid-nearest : Decided (plusZ (sumOf b) + minusZ (sumOf a)) (minusZ (sumOf b) + plusZ (sumOf a)) (millisBetween from to)
+  pub on-grid-nearest : MillisDecided (plusZ (sumOf b) + minusZ (sumOf a)) (minusZ (sumOf b) + plusZ (sumOf a)) (millisFromTo from to)
   on-grid-nearest =
-      subst (Decided (plusZ (sumOf b) + minusZ (sumOf a)) (minusZ (sumOf b) + plusZ (sumOf a))) (sym counted)
+      subst (MillisDecided (plusZ (sumOf b) + minusZ (sumOf a)) (minusZ (sumOf b) + plusZ (sumOf a))) (sym counted)
       (decided-move (plain _ _ (plusZ (sumOf a)) (minusZ (sumOf a)) (plusZ (sumOf b)) (minusZ (sumOf b)) (place-exact from a) (place-exact to b))
       (count-decided (unitsOf (placeOf (exactDayNumber (sumOf a)))) (unitsOf (placeOf (exactDayNumber (sumOf b))))))
     where
@@ -91,7 +91,7 @@ module _ (from to : JulianDate) (a : GridDate from) (b : GridDate to) where
 
 -- (e) of two dates on the grid, the later one never has fewer milliseconds
 pub never-backwards : (from to to' : JulianDate) (a : GridDate from) (b : GridDate to) (c : GridDate to') (r s : ℕ)
-    → plusZ (sumOf b) + minusZ (sumOf c) ≤ minusZ (sumOf b) + plusZ (sumOf c) → millisBetween from to ≡ answer r → millisBetween from to' ≡ answer s → r ≤ s
+    → plusZ (sumOf b) + minusZ (sumOf c) ≤ minusZ (sumOf b) + plusZ (sumOf c) → millisFromTo from to ≡ answer r → millisFromTo from to' ≡ answer s → r ≤ s
 never-backwards from to to' a b c r s h e f =
     let n = answered-nearest (on-grid-nearest from to a b) e .0 in
     let m = answered-nearest (on-grid-nearest from to' a c) f .0 in

@@ -7,11 +7,11 @@ use Rattle.refusals.specs.Outcome.{Outcome, answer, refusal}
 use Rattle.rounding.specs.Value.{L}
 use Rattle.rounding.proofs.Value.{L-pos}
 use Rattle.since_launch.specs.Millis.{countOf}
-use Rattle.since_launch.specs.laws.Nearest.{Nearest, Decided}
-use Rattle.since_launch.specs.laws.Nearest as D
+use Rattle.since_launch.specs.laws.NearestMillis.{NearestMillis, MillisDecided}
+use Rattle.since_launch.specs.laws.NearestMillis as D
 use Rattle.since_launch.specs.laws.NearSums.{NearMillis}
 use Rattle.since_launch.specs.laws.OwnMillis.{Own, since, before, past}
-use Rattle.since_launch.proofs.laws.Decided.{count-decided}
+use Rattle.since_launch.proofs.laws.MillisDecided.{count-decided}
 use Rattle.since_launch.proofs.laws.Anywhere.{PlaceNear, scale, near-by-places}
 
 -- a date worth (P - N) / L days is within 1/1000 ms of T milliseconds since midnight of day 0, both sides times 1000 L
@@ -26,23 +26,28 @@ module _ (P N P' N' p q T T' : ℕ) (a : PlaceNear P N p) (b : PlaceNear P' N' q
 
   -- fewer than one more
   high : (r : ℕ) → NearMillis P N P' N' r → r + T < T' + 1
-  high r n = lt-of-mul-lt-mul-right L (go (r * L) (T * L) (T' * L) _ _ (two r T) (two T' 1 ∙ ap (λ (x : ℕ). T' * L + x) (one-mul L)) (n .over) (t .over) (t' .under) (t' .over) (t .under))
+  high r n = lt-of-mul-lt-mul-right L (go (r * L) (T * L) (T' * L) _ _ (two r T) (two T' 1 ∙ ap (λ (x : ℕ). T' * L + x) (one-mul L)) (n .over) (t .over)
+      (t' .under) (t' .over) (t .under))
     where
       go : (R u v x y : ℕ) → x ≡ R + u → y ≡ v + L → 2 ^ 43 * (R + 86400000 * (N' + P)) ≤ 2 ^ 43 * (86400000 * (P' + N)) + (2 ^ 42 + 10 * 84375) * L
           → 1000 * (86400000 * P + 43200000 * L) ≤ 1000 * (86400000 * N + u) + L → 1000 * (86400000 * N' + v) ≤ 1000 * (86400000 * P' + 43200000 * L) + L
-          → 1000 * (86400000 * P' + 43200000 * L) ≤ 1000 * (86400000 * N' + v) + L → 1000 * (86400000 * N + u) ≤ 1000 * (86400000 * P + 43200000 * L) + L → x < y
+          → 1000 * (86400000 * P' + 43200000 * L) ≤ 1000 * (86400000 * N' + v) + L → 1000 * (86400000 * N + u) ≤ 1000 * (86400000 * P + 43200000 * L) + L
+          → x < y
       go R u v x y e f o c d g h = omega (arith, L-pos)
 
   low : (r : ℕ) → NearMillis P N P' N' r → T' < r + T + 1
-  low r n = lt-of-mul-lt-mul-right L (go (r * L) (T * L) (T' * L) _ (two (r + T) 1 ∙ (λ k. two r T k + one-mul L k)) (n .under) (t .under) (t' .over) (t' .under) (t .over))
+  low r n = lt-of-mul-lt-mul-right L (go (r * L) (T * L) (T' * L) _ (two (r + T) 1 ∙ (λ k. two r T k + one-mul L k)) (n .under) (t .under) (t' .over)
+      (t' .under) (t .over))
     where
       go : (R u v y : ℕ) → y ≡ R + u + L → 2 ^ 43 * (86400000 * (P' + N)) ≤ 2 ^ 43 * (R + 86400000 * (N' + P)) + (2 ^ 42 + 10 * 84375) * L
           → 1000 * (86400000 * N + u) ≤ 1000 * (86400000 * P + 43200000 * L) + L → 1000 * (86400000 * P' + 43200000 * L) ≤ 1000 * (86400000 * N' + v) + L
-          → 1000 * (86400000 * N' + v) ≤ 1000 * (86400000 * P' + 43200000 * L) + L → 1000 * (86400000 * P + 43200000 * L) ≤ 1000 * (86400000 * N + u) + L → v < y
+          → 1000 * (86400000 * N' + v) ≤ 1000 * (86400000 * P' + 43200000 * L) + L → 1000 * (86400000 * P + 43200000 * L) ≤ 1000 * (86400000 * N + u) + L
+          → v < y
       go R u v y f o c d g h = omega (arith, L-pos)
 
   early : 2 * 84375 * q + 2 ^ 42 < 2 * 84375 * p → T' < T
-  early h = lt-of-mul-lt-mul-right L (go (p * L) (q * L) (T * L) (T' * L) (scale 0 q 4398046511104 0 p 0 (omega arith)) (a .over) (b .under) (t .over) (t' .under) (t .under) (t' .over))
+  early h = lt-of-mul-lt-mul-right L (go (p * L) (q * L) (T * L) (T' * L) (scale 0 q 4398046511104 0 p 0 (omega arith)) (a .over) (b .under) (t .over)
+      (t' .under) (t .under) (t' .over))
     where
       go : (x y u v : ℕ) → 8796093022208 * (0 * L) + 168750 * y + 4398046511104 * L ≤ 8796093022208 * (0 * L) + 168750 * x + 0 * L
           → x + 4503599627370496 * N ≤ 4503599627370496 * P + (68570 * 4503599627370496 + 2251799813685248) * L + 2 * L
@@ -68,7 +73,7 @@ module _ (P N P' N' p q T T' : ℕ) (a : PlaceNear P N p) (b : PlaceNear P' N' q
   pub own-count : Own T T' (countOf p q)
   own-count = go (countOf p q) (count-decided p q)
     where
-      go : (o : Outcome ℕ) → Decided q p o → Own T T' o
+      go : (o : Outcome ℕ) → MillisDecided q p o → Own T T' o
       go _ (D.within r h n) =
           let k = near-by-places P N P' N' p q r a b n in
           let x = high r k in

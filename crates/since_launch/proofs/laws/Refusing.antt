@@ -19,37 +19,37 @@ use Rattle.julian.specs.day_number.Answer.{dayNumberAndFraction}
 use Rattle.julian.proofs.day_number.Answer.{answered, refused}
 use Rattle.julian.specs.Finite.{finiteParts}
 use Rattle.since_launch.specs.declared.Place.{Place}
-use Rattle.since_launch.specs.Millis.{placeOf, placeIn, unitsOf, countOf, millisBetween}
-use Rattle.since_launch.specs.laws.Nearest.{Decided, within, before, past}
-use Rattle.since_launch.specs.laws.Refusals.{InOrder, not-finite, no-day, counted, OneNotFinite}
-use Rattle.since_launch.proofs.laws.Decided.{count-decided}
+use Rattle.since_launch.specs.Millis.{placeOf, placeIn, unitsOf, countOf, millisFromTo}
+use Rattle.since_launch.specs.laws.NearestMillis.{MillisDecided, within, before, past}
+use Rattle.since_launch.specs.laws.Refusals.{MillisInOrder, not-finite, no-day, counted, OneNotFinite}
+use Rattle.since_launch.proofs.laws.MillisDecided.{count-decided}
 
 pub place-is : (d : JulianDate) (b : Bool) → accepted (d .jd1) (d .jd2) ≡ b → placeIn d ≡ cond b (answer (placeOf (dayOf (d .jd1) (d .jd2)))) (refusal 6)
 unfolding placeIn onward
 place-is d true e = rw (answered (d .jd1) (d .jd2) e)
 place-is d false e = rw (refused (d .jd1) (d .jd2) e)
 
-pub in-order : (from to : JulianDate) → InOrder from to (millisBetween from to)
-unfolding millisBetween onward
+pub in-order : (from to : JulianDate) → MillisInOrder from to (millisFromTo from to)
+unfolding millisFromTo onward
 in-order from to = go (finiteParts from && finiteParts to) (accepted (from .jd1) (from .jd2)) (accepted (to .jd1) (to .jd2)) refl refl refl
   where
     go : (b x y : Bool) → finiteParts from && finiteParts to ≡ b → accepted (from .jd1) (from .jd2) ≡ x → accepted (to .jd1) (to .jd2) ≡ y
-        → InOrder from to (cond b (onward (placeIn from) (λ p. onward (placeIn to) (λ q. countOf (unitsOf p) (unitsOf q)))) (refusal 9))
+        → MillisInOrder from to (cond b (onward (placeIn from) (λ p. onward (placeIn to) (λ q. countOf (unitsOf p) (unitsOf q)))) (refusal 9))
     go false x y f e h = not-finite f
     go true false y f e h = rw (place-is from false e) (no-day f (rw e))
     go true true false f e h = rw (place-is from true e, place-is to false h) (no-day f (rw (e, h)))
     go true true true f e h = rw (place-is from true e, place-is to true h) (counted _ f (rw (e, h)) (count-decided _ _))
 
 -- only 9, 6 and 18 occur
-pub numbers-given : (from to : JulianDate) (k : ℕ) → millisBetween from to ≡ refusal k → (k ≡ 9) ⊎ ((k ≡ 6) ⊎ (k ≡ 18))
-numbers-given from to k e = go (millisBetween from to) (in-order from to) e
+pub numbers-given : (from to : JulianDate) (k : ℕ) → millisFromTo from to ≡ refusal k → (k ≡ 9) ⊎ ((k ≡ 6) ⊎ (k ≡ 18))
+numbers-given from to k e = go (millisFromTo from to) (in-order from to) e
   where
-    by : {U W : ℕ} (o : Outcome ℕ) → Decided U W o → o ≡ refusal k → k ≡ 18
+    by : {U W : ℕ} (o : Outcome ℕ) → MillisDecided U W o → o ≡ refusal k → k ≡ 18
     by _ (within r h n) q = let z : _≡_ {A = ℕ} 0 1 = cc in absurd (omega arith)
     by _ (before h) q = cc
     by _ (past h) q = cc
 
-    go : (o : Outcome ℕ) → InOrder from to o → o ≡ refusal k → (k ≡ 9) ⊎ ((k ≡ 6) ⊎ (k ≡ 18))
+    go : (o : Outcome ℕ) → MillisInOrder from to o → o ≡ refusal k → (k ≡ 9) ⊎ ((k ≡ 6) ⊎ (k ≡ 18))
     go _ (not-finite f) q = inl (cc)
     go _ (no-day f a) q = inr (inl (cc))
     go _ (counted o f a c) q = inr (inr (by o c q))
@@ -74,8 +74,8 @@ module _ (a b c d : ℕ) where
   none true false y z (inr (inr e)) = refl
   none false x y z (inr (inr e)) = refl
 
-  pub not-finite-is-9 : OneNotFinite a b c d → millisBetween from to ≡ refusal 9
-  unfolding millisBetween
+  pub not-finite-is-9 : OneNotFinite a b c d → millisFromTo from to ≡ refusal 9
+  unfolding millisFromTo
   not-finite-is-9 h = rw (none (finite (ofBits binary64 a)) (finite (ofBits binary64 b)) (finite (ofBits binary64 c)) (finite (ofBits binary64 d)) (fields h))
     where
       fields : OneNotFinite a b c d → ((finite (ofBits binary64 a) ≡ false) ⊎ (finite (ofBits binary64 b) ≡ false))
@@ -98,8 +98,8 @@ module _ (a b c d : ℕ) where
       go true q h = eqb-true (exponentField n) 2047 q
       go false q h = let z : _≡_ {A = ℕ} 0 1 = cc in absurd (omega arith)
 
-  pub nine-not-finite : millisBetween from to ≡ refusal 9 → OneNotFinite a b c d
-  nine-not-finite e = go (millisBetween from to) (in-order from to) e
+  pub nine-not-finite : millisFromTo from to ≡ refusal 9 → OneNotFinite a b c d
+  nine-not-finite e = go (millisFromTo from to) (in-order from to) e
     where
       fields : ((finite (ofBits binary64 a) ≡ false) ⊎ (finite (ofBits binary64 b) ≡ false))
           ⊎ ((finite (ofBits binary64 c) ≡ false) ⊎ (finite (ofBits binary64 d) ≡ false)) → OneNotFinite a b c d
@@ -108,12 +108,12 @@ module _ (a b c d : ℕ) where
       fields (inr (inl e)) = inr (inl (field-of c e))
       fields (inr (inr e)) = inr (inr (field-of d e))
 
-      by : {U W : ℕ} (o : Outcome ℕ) → Decided U W o → o ≡ refusal 9 → OneNotFinite a b c d
+      by : {U W : ℕ} (o : Outcome ℕ) → MillisDecided U W o → o ≡ refusal 9 → OneNotFinite a b c d
       by _ (within r h n) q = let z : _≡_ {A = ℕ} 0 1 = cc in absurd (omega arith)
       by _ (before h) q = let z : _≡_ {A = ℕ} 18 9 = cc in absurd (omega arith)
       by _ (past h) q = let z : _≡_ {A = ℕ} 18 9 = cc in absurd (omega arith)
 
-      go : (o : Outcome ℕ) → InOrder from to o → o ≡ refusal 9 → OneNotFinite a b c d
+      go : (o : Outcome ℕ) → MillisInOrder from to o → o ≡ refusal 9 → OneNotFinite a b c d
       go _ (not-finite f) q =
           fields (one-of (finite (ofBits binary64 a)) (finite (ofBits binary64 b)) (finite (ofBits binary64 c)) (finite (ofBits binary64 d)) f)
       go _ (no-day f g) q = let z : _≡_ {A = ℕ} 6 9 = cc in absurd (omega arith)

@@ -11,8 +11,8 @@ use lib.ListN.{length, getD, set, length-set}
 use lib.Seq.{sets, getD-set-same, getD-set-other}
 use Rattle.refusals.specs.Outcome.{Outcome, answer, refusal}
 use Rattle.numerals.specs.little_endian.LittleEndian.{eightBytes}
-use Rattle.since_launch.specs.Run.{refusalByte, withMillis, withAll, withNumbers, refusedAmong}
-use Rattle.since_launch.specs.laws.RunDone.{notZeroIn}
+use Rattle.since_launch.specs.Run.{millisNumberByte, withMillis, withAll, withMillisNumbers, millisRefused}
+use Rattle.since_launch.specs.laws.RunDone.{millisNotZero}
 use Rattle.since_launch.proofs.Puts.{all-kept, numbers-kept}
 
 -- ---- bytes set one after the other from index i on
@@ -71,24 +71,24 @@ module _ (f : ℕ → Outcome ℕ) (l : List ℕ) where
 
 -- ---- the numbers
 module _ (f : ℕ → Outcome ℕ) (l : List ℕ) where
-  pub numbers-beyond : (n j : ℕ) → n ≤ j → getD (withNumbers f n l) j 0 ≡ getD l j 0
-  unfolding withNumbers
+  pub numbers-beyond : (n j : ℕ) → n ≤ j → getD (withMillisNumbers f n l) j 0 ≡ getD l j 0
+  unfolding withMillisNumbers
   numbers-beyond zero j h = refl
-  numbers-beyond (suc n) j h = getD-set-other (withNumbers f n l) n j (refusalByte (f n)) 0 (λ e. let w : ⊥ = omega arith in w)
+  numbers-beyond (suc n) j h = getD-set-other (withMillisNumbers f n l) n j (millisNumberByte (f n)) 0 (λ e. let w : ⊥ = omega arith in w)
       ∙ numbers-beyond n j (omega arith)
 
-  number-step : (n i : ℕ) → (i ≡ n) ⊎ (i < n) → suc n ≤ length l → (i < n → getD (withNumbers f n l) i 0 ≡ refusalByte (f i))
-      → getD (set (withNumbers f n l) n (refusalByte (f n))) i 0 ≡ refusalByte (f i)
-  number-step n i (inl q) room before = rw q (getD-set-same (withNumbers f n l) n (refusalByte (f n)) 0 (omega (arith, numbers-kept f n l)))
-  number-step n i (inr m) room before = getD-set-other (withNumbers f n l) n i (refusalByte (f n)) 0 (λ e. let w : ⊥ = omega arith in w) ∙ before m
+  number-step : (n i : ℕ) → (i ≡ n) ⊎ (i < n) → suc n ≤ length l → (i < n → getD (withMillisNumbers f n l) i 0 ≡ millisNumberByte (f i))
+      → getD (set (withMillisNumbers f n l) n (millisNumberByte (f n))) i 0 ≡ millisNumberByte (f i)
+  number-step n i (inl q) room before = rw q (getD-set-same (withMillisNumbers f n l) n (millisNumberByte (f n)) 0 (omega (arith, numbers-kept f n l)))
+  number-step n i (inr m) room before = getD-set-other (withMillisNumbers f n l) n i (millisNumberByte (f n)) 0 (λ e. let w : ⊥ = omega arith in w) ∙ before m
 
-  pub number-at : (n i : ℕ) → i < n → n ≤ length l → getD (withNumbers f n l) i 0 ≡ refusalByte (f i)
-  unfolding withNumbers
+  pub number-at : (n i : ℕ) → i < n → n ≤ length l → getD (withMillisNumbers f n l) i 0 ≡ millisNumberByte (f i)
+  unfolding withMillisNumbers
   number-at zero i h room = let w : ⊥ = omega arith in absurd w
   number-at (suc n) i h room = number-step n i (eq-or-lt-of-le (omega arith)) room (λ m. number-at n i m (omega arith))
 
   -- the count is of the numbers that are not 0
-  pub counted : (n m : ℕ) → m ≤ n → n ≤ length l → refusedAmong f m ≡ notZeroIn m (withNumbers f n l)
-  unfolding refusedAmong notZeroIn
+  pub counted : (n m : ℕ) → m ≤ n → n ≤ length l → millisRefused f m ≡ millisNotZero m (withMillisNumbers f n l)
+  unfolding millisRefused millisNotZero
   counted n zero h room = refl
   counted n (suc m) h room = λ k. counted n m (omega arith) room k + cond (eqb (sym (number-at n m (omega arith) room) k) 0) 0 1

@@ -16,7 +16,7 @@ use Rattle.julian.proofs.day_number.Units.{H, H-L}
 use Rattle.scales.specs.gps_weeks.WeekDate.{dayIn, weekDate}
 use Rattle.scales.proofs.gps_week_laws.RoundTrip as R
 use Rattle.since_launch.specs.declared.Place.{Place}
-use Rattle.since_launch.specs.Millis.{placeOf, placeIn, unitsOf, countOf, millisBetween}
+use Rattle.since_launch.specs.Millis.{placeOf, placeIn, unitsOf, countOf, millisFromTo}
 use Rattle.since_launch.specs.laws.OwnMillis.{weekMillis, Own}
 use Rattle.since_launch.proofs.laws.OnGrid.{by-places}
 use Rattle.since_launch.proofs.laws.Anywhere.{PlaceNear, place-near}
@@ -32,7 +32,7 @@ pub record MadeOf (d : JulianDate) (T : ℕ) : Type 0 where
   pub near : PlaceNear P N (unitsOf place)
   pub millis : MillisNear P N T
 
-pub made-own : {d d' : JulianDate} {T T' : ℕ} → MadeOf d T → MadeOf d' T' → Own T T' (millisBetween d d')
+pub made-own : {d d' : JulianDate} {T T' : ℕ} → MadeOf d T → MadeOf d' T' → Own T T' (millisFromTo d d')
 made-own {d} {d'} {T} {T'} a b =
     subst (Own T T') (sym (by-places d d' (a .place) (b .place) (a .finite) (b .finite) (a .found) (b .found)))
     (own-count (a .P) (a .N) (b .P) (b .N) (unitsOf (a .place)) (unitsOf (b .place)) T T' (a .near) (b .near) (a .millis) (b .millis))
@@ -74,5 +74,5 @@ week-made week ms d e =
 
 -- the request's theorem, in GPS
 pub own-millisecond : (week ms week' ms' : ℕ) (d d' : JulianDate) → weekDate week ms ≡ answer d → weekDate week' ms' ≡ answer d'
-    → Own (weekMillis week ms) (weekMillis week' ms') (millisBetween d d')
+    → Own (weekMillis week ms) (weekMillis week' ms') (millisFromTo d d')
 own-millisecond week ms week' ms' d d' e f = own-move 211182768000000 (made-own (week-made week ms d e) (week-made week' ms' d' f))

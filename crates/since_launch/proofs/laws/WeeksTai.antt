@@ -38,7 +38,7 @@ use Rattle.scales.specs.gps_weeks.WeekDate.{weekMidnight, partOfDay, dayIn, wee
 use Rattle.scales.proofs.laws.Meant.{Meant, worth-unique}
 use Rattle.scales.proofs.laws.Recorders.{gps-means}
 use Rattle.scales.proofs.gps_week_laws.RoundTrip as R
-use Rattle.since_launch.specs.Millis.{placeOf, millisBetween}
+use Rattle.since_launch.specs.Millis.{placeOf, millisFromTo}
 use Rattle.since_launch.specs.laws.OwnMillis.{weekMillis, Own}
 use Rattle.since_launch.proofs.laws.Anywhere.{place-near}
 use Rattle.since_launch.proofs.laws.OwnCounts.{MillisNear, own-move}
@@ -178,6 +178,6 @@ week-tai-made week ms d t e f =
 
 -- the request's theorem, through GPS to TAI
 pub own-millisecond-tai : (week ms week' ms' : ℕ) (d d' t t' : JulianDate) → weekDate week ms ≡ answer d → weekDate week' ms' ≡ answer d'
-    → answerOf gps-tai d ≡ answer t → answerOf gps-tai d' ≡ answer t' → Own (weekMillis week ms) (weekMillis week' ms') (millisBetween t t')
+    → answerOf gps-tai d ≡ answer t → answerOf gps-tai d' ≡ answer t' → Own (weekMillis week ms) (weekMillis week' ms') (millisFromTo t t')
 own-millisecond-tai week ms week' ms' d d' t t' e f g h =
     own-move 211182768019000 (made-own (week-tai-made week ms d t e g) (week-tai-made week' ms' d' t' f h))

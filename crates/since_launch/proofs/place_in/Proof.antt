@@ -5,7 +5,7 @@ use Rattle.floats.proofs.Laws.{yes}
 use Rattle.julian.specs.day_number.Answer.{dayOutcome}
 use Rattle.julian.proofs.day_number.Ranges.{day-range}
 use Rattle.since_launch.specs.Millis.{placeOutcome}
-use Rattle.since_launch.specs.Asked.{Placed, AllPlaced}
+use Rattle.since_launch.specs.Asked.{PlaceWithin, AllPlaced}
 use Rattle.since_launch.proofs.Places.{placed, place-no-day, place-found}
 use borrow.Author.Needs.{needs}
 use Rattle.since_launch.proofs.place_in.Statement.{statement}
@@ -33,7 +33,7 @@ returns-2 c =
     let s = n .before in
     let e = sym (n .day-number-and-fraction .ensures) ∙ ap dayOutcome (c .before .before .found .given .1) in (
       ap answer (c .place-of .ensures) ∙ place-found _ _ e,
-      subst Placed (sym (c .place-of .ensures)) (placed _ _ (yes (s .good .0 .1)) (yes (s .good .1 .0 .1)) _ e),
+      subst PlaceWithin (sym (c .place-of .ensures)) (placed _ _ (yes (s .good .0 .1)) (yes (s .good .1 .0 .1)) _ e),
     )
 
 pub place-in-spec : {M : Type 1} → statement M
