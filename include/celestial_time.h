@@ -61,8 +61,8 @@
      21  a row of a table of announced rows is not later than the one before it
      22  a row of a table of announced rows steps by something other than one second up or down
      23  the passes are unequal, too few or too many, or a number in them is too large
-     24  the passes do not rise strictly, both ticks and milliseconds
-     25  a tick is outside the passes
+     24  the passes do not rise strictly in both their lists
+     25  a tick or a reading is outside the passes
      26  the end of a standby is before its start
      27  a number of a bill is over its limit
      28  both lengths of line are 0

@@ -76,7 +76,7 @@ class Placed(NamedTuple):
         utc ['2017-01-01T00:00:04.000', '2017-01-01T00:00:11.000']
         metres [12.6, nan]
         number [0, 25]
-        reason ['', 'tick is outside the passes']
+        reason ['', 'tick or reading is outside the passes']
         wall [8.2, 8.1]
         """
         sizes = [len(tai.numbers) for tai in self.tai]
@@ -102,7 +102,7 @@ class Placed(NamedTuple):
         >>> print(b''.join(place_files(files, passes).csv()).decode(), end='')
         recorder,index,utc,metres,number,reason,wall
         utc,0,2017-01-01T00:00:04.000,12.600,0,,8.20
-        utc,1,2017-01-01T00:00:11.000,,25,tick is outside the passes,8.10
+        utc,1,2017-01-01T00:00:11.000,,25,tick or reading is outside the passes,8.10
         """
         carried = self.names(readings)
         yield next(csv_of(["recorder", "index", "utc", "metres", "number", "reason", *carried], [np.empty(0, "S1")]))

@@ -46,9 +46,9 @@ pub const TABLE_NOT_RISING: u32 = 21;
 pub const TABLE_STEP_WRONG: u32 = 22;
 // The passes are unequal, too few or too many, or a number in them is too large.
 pub const PASSES_NOT_USABLE: u32 = 23;
-// The passes do not rise strictly, both ticks and milliseconds.
+// The passes do not rise strictly in both their lists.
 pub const PASSES_NOT_RISING: u32 = 24;
-// A tick is outside the passes.
+// A tick or a reading is outside the passes.
 pub const TICK_OUTSIDE_PASSES: u32 = 25;
 // The end of a standby is before its start.
 pub const END_BEFORE_START: u32 = 26;

@@ -33,8 +33,8 @@ texts =
     asciiBytes "table row is not later than the one before it" ∷
     asciiBytes "table row does not step by one second" ∷
     asciiBytes "passes are unequal, too few, too many or too large" ∷
-    asciiBytes "passes do not rise in ticks and milliseconds" ∷
-    asciiBytes "tick is outside the passes" ∷
+    asciiBytes "passes do not rise in both lists" ∷
+    asciiBytes "tick or reading is outside the passes" ∷
     asciiBytes "end of the standby is before its start" ∷
     asciiBytes "number of the bill is over its limit" ∷
     asciiBytes "both lengths of line are 0" ∷
