@@ -81,9 +81,9 @@
 /* The version. A call that is taken away, or that answers otherwise or takes other arguments, raises
    MAJOR, which is in the name of the shared library; a new call raises MINOR. */
 #define CT_VERSION_MAJOR 2
-#define CT_VERSION_MINOR 0
+#define CT_VERSION_MINOR 1
 #define CT_VERSION_PATCH 0
-#define CT_VERSION "2.0.0"
+#define CT_VERSION "2.1.0"
 
 /* The refusals by name, as the list at the head has them. A call returns minus the number:
    n == -CT_REFUSED_NO_ROOM. */
@@ -529,6 +529,31 @@ int64_t ct_float_reason(uint32_t number, double x, uint8_t *out, size_t out_len)
 int64_t ct_count_reason(uint32_t number, uint32_t n, uint8_t *out, size_t out_len);
 int64_t ct_block_reason(uint32_t number, uint64_t length, uint32_t size, uint32_t second_size, uint8_t *out,
                         size_t out_len);
+
+/* ---- Milliseconds since launch: two dates of one uniform scale, TAI, GPS, TT, TCG, TCB or TDB, whose days
+   have 86,400 s; the scale is not told, and UTC and UT1 are none */
+
+/* The whole milliseconds from (from1, from2) to (jd1, jd2), to the nearest, a half going up. Of dates on the
+   grid (multiples of 2^-52 day under 2^52 days) it is decided on whole numbers, however they are divided; of
+   others with parts under 2^52 it is within 0.5 ms and 96 ps of the exact ones. Dates of ct_gps_from_week,
+   and the same through ct_gps_to_tai, give the difference of their milliseconds. Refuses 9 for a part of
+   either date that is not finite; then 6; then 18, where the milliseconds are not 0 to 2^40 - 1, some 34.8
+   years. From (2444244.5, 0.0) to (2444244.5, 0.5) are 43200000, back is 18, and to (3e9, NaN) 9; from
+   (3e9, 0.0) back is 6. */
+int64_t ct_milliseconds(double from1, double from2, double jd1, double jd2);
+
+/* The milliseconds from one launch to each stamp of a run, in one call. Stamp i is bytes 8 * i to 8 * i + 7 of
+   jd1 and of jd2. Its milliseconds go into the same bytes of millis, the lowest first, as ct_milliseconds has
+   them (ct_pattern_at reads them, and ct_place_ticks takes them as pass_millis); into numbers goes one byte a
+   stamp: 0, or 9, 6 or 18. A refused stamp's bytes of millis stay. Returns how many stamps are refused; what
+   lies behind the last stamp's places stays. Refuses 9, then 6, for the launch; 14 for a length of jd1 or jd2
+   that is no multiple of 8; 12 for jd1 and jd2 of different lengths; 11 for fewer bytes in millis than in jd1,
+   or fewer in numbers than stamps. A refused call writes nothing. With the launch (NaN, 3e9) and 7 bytes of
+   jd1 it is 9, with the launch (3e9, 0.0) 6, with (2444244.5, 0.0) 14, and with 8 bytes of jd1 and none of jd2
+   12. The buffers overlap no other. */
+int64_t ct_milliseconds_of_run(double from1, double from2, const uint8_t *jd1, size_t jd1_len,
+                               const uint8_t *jd2, size_t jd2_len, uint8_t *millis, size_t millis_len,
+                               uint8_t *numbers, size_t numbers_len);
 
 /* ---- Ticks and readings between marker passes: lists of 8 bytes a number, the lowest byte first */
 

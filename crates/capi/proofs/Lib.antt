@@ -11,6 +11,7 @@ pub mod Walks
 pub mod Ticks
 pub mod Places
 pub mod Runs
+pub mod Millis
 pub mod RunTexts
 pub mod laws
 pub mod Lists

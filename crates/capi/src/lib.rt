@@ -12,6 +12,7 @@ pub mod reason_calls;
 pub mod run_calls;
 pub mod same_stamp_calls;
 pub mod scale_calls;
+pub mod since_launch_calls;
 pub mod standby_calls;
 pub mod text_calls;
 pub mod text_run_calls;
