@@ -129,6 +129,10 @@ calls! {
     fn ct_count_reason(number: u32, n: u32, out: &mut [u8]) -> i64;
     fn ct_block_reason(number: u32, length: u64, size: u32, second_size: u32, out: &mut [u8]) -> i64;
 
+    fn ct_milliseconds(from1: f64, from2: f64, jd1: f64, jd2: f64) -> i64;
+    fn ct_milliseconds_of_run(
+        from1: f64, from2: f64, jd1: &[u8], jd2: &[u8], millis: &mut [u8], numbers: &mut [u8]
+    ) -> i64;
     fn ct_place_ticks(pass_ticks: &[u8], pass_millis: &[u8], ticks: &[u8], out: &mut [u8]) -> i64;
     fn ct_place_readings(
         pass_millis: &[u8], pass_places: &[u8], millis: &[u8], places: &mut [u8], numbers: &mut [u8]

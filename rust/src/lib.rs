@@ -31,6 +31,7 @@ pub mod parsing;
 pub mod refusal;
 pub mod runs;
 pub mod scales;
+pub mod since_launch;
 pub mod standby;
 pub mod table;
 pub mod ticks;

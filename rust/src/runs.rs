@@ -23,6 +23,11 @@ impl<'a, S: TimeScale> Stamps<'a, S> {
     pub fn new(jd1: &'a [f64], jd2: &'a [f64]) -> Self {
         Self { jd1, jd2, scale: PhantomData }
     }
+
+    /// The first parts and the second parts.
+    pub(crate) fn parts(&self) -> (&'a [f64], &'a [f64]) {
+        (self.jd1, self.jd2)
+    }
 }
 
 /// Where a run's answers go, dates of the scale `S`: that of stamp i into `jd1[i]` and `jd2[i]`, and into `numbers[i]` 0

@@ -13,6 +13,7 @@
 #include "text_run_calls.h"
 #include "standby_calls.h"
 #include "reason_calls.h"
+#include "since_launch_calls.h"
 #include "tick_calls.h"
 #include "walk_calls.h"
 
@@ -490,6 +491,7 @@ int main(void)
     read_numbers();
     read_answers();
     reason_calls();
+    since_launch_calls();
     tick_calls();
     reading_calls();
     table_calls();

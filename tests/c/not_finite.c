@@ -187,6 +187,27 @@ static void ask_texts_of_run(const uint8_t *jd1, const uint8_t *jd2, size_t stam
     }
 }
 
+/* And the milliseconds since a launch in one call: 9 and no byte for every stamp that is not finite; of each other the single call's, which may be before the
+   launch. A launch that is not finite refuses the call. */
+static void ask_milliseconds(const uint8_t *jd1, const uint8_t *jd2, size_t stamps, const uint8_t *dead)
+{
+    static uint8_t millis[MOST_BYTES], numbers[MOST_BYTES];
+    int64_t refused = 0, code;
+    int right = 1;
+    size_t j;
+    memset(millis, 0xa5, sizeof millis);
+    code = ct_milliseconds_of_run(2444244.5, 0.0, jd1, 8 * stamps, jd2, 8 * stamps, millis, sizeof millis, numbers, sizeof numbers);
+    for (j = 0; j < stamps; j++) {
+        int64_t one = ct_milliseconds(2444244.5, 0.0, ct_float_at(jd1 + 8 * j), ct_float_at(jd2 + 8 * j));
+        int64_t back = ct_milliseconds(ct_float_at(jd1 + 8 * j), ct_float_at(jd2 + 8 * j), 2444244.5, 0.0);
+        refused += one < 0;
+        if ((one == -9) != (dead[j] != 0) || (back == -9) != (dead[j] != 0) || numbers[j] != (one < 0 ? -one : 0)) right = 0;
+        if (ct_pattern_at(millis + 8 * j, 8) != (one < 0 ? 0xa5a5a5a5a5a5a5a5u : (uint64_t)one)) right = 0;
+        if (dead[j] && ct_milliseconds_of_run(ct_float_at(jd1 + 8 * j), ct_float_at(jd2 + 8 * j), jd1, 7, jd2, 0, millis, 0, numbers, 0) != -9) right = 0;
+    }
+    check(code == refused && right, "ct_milliseconds_of_run has other numbers, places or another count");
+}
+
 int main(int count, char **words)
 {
     static uint8_t block[MOST_BYTES], dead[MOST_BYTES];
@@ -210,6 +231,7 @@ int main(int count, char **words)
     ask_runs(jd1, jd2, (size_t)stamps, dead);
     ask_formula_runs(jd1, jd2, (size_t)stamps, dead);
     ask_texts_of_run(jd1, jd2, (size_t)stamps, dead);
+    ask_milliseconds(jd1, jd2, (size_t)stamps, dead);
     check(found == NOT_FINITE_STAMPS, "%ld stamps of the block are not finite", (long)found);
     check(by_text == NOT_FINITE_STAMPS, "the text call refuses %ld stamps", (long)by_text);
     printf("not finite: %ld; isnan in this build says %ld, the text call refuses %ld\n", (long)found, (long)by_isnan,

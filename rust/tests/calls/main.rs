@@ -8,6 +8,7 @@ mod offsets;
 mod refusals;
 mod runs;
 mod scales;
+mod since_launch;
 mod standby;
 mod tables;
 mod texts;
