@@ -63,3 +63,5 @@ pub mod Steps
 pub mod DayInRange
 -- Midnight: where the first part is a midnight, the second part's fraction is the sum.
 pub mod Midnight
+-- PartsOfDay: a midnight and a part from 0.0 to below 1.0 are that day and that fraction of it.
+pub mod PartsOfDay

@@ -4,6 +4,7 @@ pub mod Answer
 pub mod Sums
 -- The words of the theorems: no contract cites them.
 pub mod Ranges
+pub mod Midnights
 pub mod ExactDay
 pub mod NearDay
 pub mod MinusZero

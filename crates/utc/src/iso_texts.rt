@@ -50,12 +50,12 @@ const MIDNIGHT: TimeOfDay = TimeOfDay {
 };
 
 // What a text is written by: the calendar's day, the fraction of it, its leap and its rule; or the number of the refusal.
-enum DayAnswer {
+pub(crate) enum DayAnswer {
     Day(CalendarDate, f64, f64, Rule),
     Refused(u32),
 }
 
-fn with_leap<'a>(
+pub(crate) fn with_leap<'a>(
     date: CalendarDate,
     fraction: f64,
     size: usize,

@@ -8,11 +8,16 @@ ghost use lib.ListN.{length};
 ghost use Rattle.leap_table.specs.rows.Announced.{rowsIn, tableOf};
 ghost use Rattle.utc.specs.iso_texts.Named.{formNamed};
 ghost use Rattle.utc.specs.run_texts.RunTexts.{stampText, textsOutcome, textsCall, textsRefusal, textsBy, textsOfRun};
-ghost use Rattle.utc.specs.run_texts.Asked.{RoomForTexts, TextPlaced, TextsPlaced};
+ghost use Rattle.utc.specs.iso_texts.IsoText.{isoTextBy};
+ghost use Rattle.utc.specs.run_texts.Asked.{RoomForTexts, TextBeside, TextPlaced, TextsPlaced};
+ghost use Rattle.utc.specs.run_texts.Kept.{RightKept};
 use crate::iso_texts::NamedForm;
 use crate::iso_texts::TextByRule;
+use kept_day::KeptDay;
 use leap_table::rows::AnnouncedRows;
 use scales::UTC;
+
+mod kept_day;
 
 // How many stamps are refused, or the number of the refusal of the whole call.
 pub enum RunTextsAnswer {
@@ -26,32 +31,26 @@ struct Beside {
     number: u8,
 }
 
-// Writes the text of the stamp at place i.
-fn put_stamp<'a>(
+// What stands beside a stamp's text, and the day that is kept for the next stamp.
+struct StampDone {
+    beside: Beside,
+    kept: KeptDay,
+}
+
+// Writes the text of a stamp by the single call.
+fn put_single<'a>(
     textForm: NamedForm,
-    jd1s: &[u8],
-    jd2s: &[u8],
-    i: usize,
+    date: UTC,
     size: usize,
     months: &'a [i32; 16],
     seconds: &'a [i32; 16],
-    texts: &mut [u8],
+    out: &mut [u8],
 ) -> Beside
-    requires { ⌜ 27 * i + 27 ≤ length (now texts) ⌝ }
-    ensures { λ r. ⌜ TextPlaced (stampText (formNamed textForm) (rowsIn size (now (months .entry)) (now (seconds .entry))) (now (jd1s .entry))
-        (now (jd2s .entry)) i) i (now (texts .entry)) r (now (texts .exit)) ⌝ }
+    requires { ⌜ 27 ≤ length (now out) ⌝ }
+    ensures { λ r. ⌜ TextBeside (isoTextBy (formNamed textForm) (rowsIn size (now (months .entry)) (now (seconds .entry))) (date .0)) (now (out .entry)) r
+        (now (out .exit)) ⌝ }
 {
-    let at = 27 * i;
-    let end = at + 27;
-    let date = UTC(julian::stamp_lists::stamp_of(jd1s, jd2s, i));
-    match crate::iso_texts::to_text_by_arrays(
-        textForm,
-        date,
-        size,
-        months,
-        seconds,
-        &mut texts[at..end],
-    ) {
+    match crate::iso_texts::to_text_by_arrays(textForm, date, size, months, seconds, out) {
         TextByRule::Written(n, _) => Beside {
             length: (n % 256) as u8,
             number: 0,
@@ -61,6 +60,47 @@ fn put_stamp<'a>(
             number: (number % 256) as u8,
         },
     }
+}
+
+// Writes the text of the stamp at place i, by the day that is kept where it serves.
+fn put_stamp<'a>(
+    textForm: NamedForm,
+    jd1s: &[u8],
+    jd2s: &[u8],
+    i: usize,
+    kept: KeptDay,
+    size: usize,
+    months: &'a [i32; 16],
+    seconds: &'a [i32; 16],
+    texts: &mut [u8],
+) -> StampDone
+    requires { ⌜ (27 * i + 27 ≤ length (now texts)) × RightKept (rowsIn size (now months) (now seconds)) kept ⌝ }
+    ensures { λ r. ⌜ TextPlaced (stampText (formNamed textForm) (rowsIn size (now (months .entry)) (now (seconds .entry))) (now (jd1s .entry))
+        (now (jd2s .entry)) i) i (now (texts .entry)) (r .beside) (now (texts .exit))
+        × RightKept (rowsIn size (now (months .entry)) (now (seconds .entry))) (r .kept) ⌝ }
+{
+    let at = 27 * i;
+    let end = at + 27;
+    let jd = julian::stamp_lists::stamp_of(jd1s, jd2s, i);
+    let next = kept_day::next_day(jd.jd1, kept, size, months, seconds);
+    if kept_day::put_kept(textForm, jd, next, &mut texts[at..end]) {
+        return StampDone {
+            beside: Beside {
+                length: 23,
+                number: 0,
+            },
+            kept: next,
+        };
+    }
+    let beside = put_single(
+        textForm,
+        UTC(jd),
+        size,
+        months,
+        seconds,
+        &mut texts[at..end],
+    );
+    StampDone { beside, kept: next }
 }
 
 fn one_if_refused(number: u8) -> usize
@@ -88,9 +128,13 @@ fn put_all<'a>(
         (now (numbers .exit)) ⌝ }
 {
     let mut refused = 0;
+    let mut kept = kept_day::no_day();
     let mut i = 0;
     while i < n {
-        let beside = put_stamp(textForm, jd1s, jd2s, i, size, months, seconds, texts);
+        let done = put_stamp(textForm, jd1s, jd2s, i, kept, size, months, seconds, texts);
+        let beside = done.beside;
+        let next = done.kept;
+        kept = next;
         lengths[i] = beside.length;
         numbers[i] = beside.number;
         refused += one_if_refused(beside.number);

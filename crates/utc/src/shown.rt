@@ -4,16 +4,17 @@ ghost use mathlib.Core.Path.{_≡_};
 ghost use Prim.Native.Nat.{_≤_};
 ghost use Rattle.floats.specs.Whole.{away};
 ghost use Rattle.time_of_day.specs.Milliseconds.{wholeLeap, fractionSeconds, millisOf};
-ghost use Rattle.time_of_day.specs.TimeShown.{minuteOf, timeOf, dayEnd, shownOf};
+ghost use Rattle.time_of_day.specs.TimeShown.{minuteOf, timeOf, dayEnd, countBy, shownOf};
 
 mod half_even;
 
+pub(crate) use half_even::even_count;
 pub(crate) use half_even::time_shown_half_even;
 use time_of_day::TimeOfDay;
 use time_of_day::TimeShown;
 
 // The leap that counts for the day's length: only one of more than half a second in size.
-fn whole_leap(leap: f64) -> f64
+pub(crate) fn whole_leap(leap: f64) -> f64
     ensures { λ r. ⌜ r ≡ wholeLeap leap ⌝ }
 {
     if floats::fabs(leap) > 0.5 { leap } else { 0.0 }
@@ -33,8 +34,15 @@ fn milliseconds(fraction: f64, leap: f64) -> i64
     floats::saturating_i64(floats::round(1000.0 * seconds(fraction, leap)))
 }
 
+// The same as a count.
+pub(crate) fn millis_shown(fraction: f64, leap: f64) -> u64
+    ensures { λ r. ⌜ r ≡ countBy away fraction leap ⌝ }
+{
+    time_of_day::from_zero(milliseconds(fraction, leap))
+}
+
 // The milliseconds at which the next day begins. The Rust has no case for a leap below 0, which only announced rows give.
-fn day_end(leap: f64) -> u64
+pub(crate) fn day_end(leap: f64) -> u64
     ensures { λ r. ⌜ (r ≡ dayEnd leap) × (r ≤ 86401000) ⌝ }
 {
     if leap > 0.0 {
@@ -47,7 +55,7 @@ fn day_end(leap: f64) -> u64
 }
 
 // A leap second belongs to the day's last minute, which then runs to 61 s.
-fn minute_of_day(millis: u32) -> u32
+pub(crate) fn minute_of_day(millis: u32) -> u32
     ensures { λ r. ⌜ r ≡ minuteOf millis ⌝ }
 {
     let minute = millis / 60000;
@@ -72,7 +80,7 @@ pub(crate) fn time_shown(fraction: f64, leap: f64) -> TimeShown
     ensures { λ r. ⌜ r ≡ shownOf away fraction leap ⌝ }
 {
     let day_leap = whole_leap(leap);
-    let count = time_of_day::from_zero(milliseconds(fraction, day_leap));
+    let count = millis_shown(fraction, day_leap);
     if count < day_end(day_leap) {
         TimeShown::At(time_of(count as u32))
     } else {

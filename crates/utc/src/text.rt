@@ -1,6 +1,6 @@
 // The characters of a UTC text, put into a lent buffer. From the Rust's `iso_string`, with a byte slice in place of a string.
 mod expanded;
-mod year;
+pub(crate) mod year;
 
 use calendar::CalendarDate;
 pub use expanded::put_text_expanded;

@@ -37,7 +37,7 @@ use Rattle.julian.proofs.day_number.CarryTest.{carry-test}
 use Rattle.julian.proofs.day_number.Steps.{skip, borrowed, unborrowed, carry-none}
 
 -- ---- two floats of one value, neither of them -0.0, are the same
-same-value : (x y : Float) (p n q m : ℕ) → Unsigned x → Unsigned y → Val x p n L → Val y q m L → p + m ≡ q + n → x ≡ y
+pub same-value : (x y : Float) (p n q m : ℕ) → Unsigned x → Unsigned y → Val x p n L → Val y q m L → p + m ≡ q + n → x ≡ y
 same-value x y p n q m ux uy v w e = go (v .sign) (w .sign) (v .size) (w .size) (v .has) (w .has) (v .is) (w .is)
   where
     level : (s : Bool) (a b : ℕ) → Signed s a p n → Signed s b q m → b ≡ a
@@ -54,7 +54,7 @@ same-value x y p n q m ux uy v w e = go (v .sign) (w .sign) (v .size) (w .size) 
     go true false a b h k i j = let o : 0 < a = some-size x a L L-pos (ux .sign) h in let z : ⊥ = omega arith in absurd z
 
 -- ---- a sum that is the value of a float is exact
-held : {x z : Float} {p n P N : ℕ} → T (fits binary64 x) → Val x p n L → p + N ≡ n + P → Rounds binary64 z P N L → Val z P N L
+pub held : {x z : Float} {p n P N : ℕ} → T (fits binary64 x) → Val x p n L → p + N ≡ n + P → Rounds binary64 z P N L → Val z P N L
 held {x} {z} {p} {n} {P} {N} f v e r =
     let d : dist p n ≡ r .size = dist-shift p n P N e ∙ signed-dist (r .sign) (r .size) P N (r .is)
     in rounds-rep r (subst Rep d (val-rep f v)) (subst (λ (a : ℕ). a < 2 ^ 2098) d (val-small f v))
@@ -71,7 +71,7 @@ same-rounds x y P N p n h e r q = r .eq ∙ go (r .sign) (q .sign) (r .size) (q 
     go true t a b i j = let z : ⊥ = omega arith in absurd z
     go false true a b i j = let z : ⊥ = omega arith in absurd z
 
-nought-unsigned : Unsigned nought
+pub nought-unsigned : Unsigned nought
 unfolding fits minusZero
 nought-unsigned = record { fit = tt; sign = refl }
 
@@ -117,7 +117,7 @@ far : 32 * L < 2 ^ 2098
 unfolding L
 far = lit< tt
 
-one-fits : T (fits binary64 one)
+pub one-fits : T (fits binary64 one)
 unfolding fits
 one-fits = tt
 

@@ -1,25 +1,15 @@
--- The day of a midnight and of a part of its day. Assumes nothing.
+-- UTC to TAI and back by a day that is held, and the ways that take it. Assumes nothing.
 use mathlib.Core.Path.{_≡_, refl, sym, ap, subst, _∙_}
 use mathlib.Core.Bool.{true, false≢true}
 use mathlib.Core.List.{List}
 use lib.Dec.{T}
-use lib.IntN.{ℤ, pos, _+ℤ_, _-ℤ_, +ℤ-idr, +ℤ-negℤ-cancel}
-use lib.Ieee.{Float, binary64, fits, sub, lt, le, ofInt, toSigned}
-use mir.Syntax.{w64}
-use mir.Val.{toZ, ofZ}
+use lib.IntN.{pos, _-ℤ_}
+use lib.Ieee.{Float, binary64, fits, lt, le, ofInt}
 use Prim.Native.Nat.{ℕ}
 use Rattle.refusals.specs.Outcome.{answer}
-use Rattle.floats.specs.declared.NearestWhole.{NearestWhole}
-use Rattle.floats.specs.Whole.{nought, one, nearestInt}
-use Rattle.floats.specs.NearestWhole.{nearestWhole}
-use Rattle.julian.specs.declared.day_number.DayNumber.{DayNumber}
-use Rattle.julian.specs.day_number.DayNumber.{accepted, dayOf}
+use Rattle.floats.specs.Whole.{nought, one}
 use Rattle.julian.specs.day_number.Answer.{dayNumberAndFraction}
-use Rattle.julian.specs.day_number.Ranges.{InDays}
-use Rattle.julian.proofs.day_number.Answer.{answered}
-use Rattle.julian.proofs.day_number.Ranges.{day-read}
-use Rattle.julian.proofs.day_number.DayInRange.{gives}
-use Rattle.julian.proofs.day_number.Midnight.{Quick}
+use Rattle.julian.specs.day_number.Midnights.{dayFrom, Midnight}
 use Rattle.julian.specs.declared.JulianDate.{JulianDate}
 use Rattle.julian.specs.JulianDate.{julian}
 use Rattle.leap_table.specs.rows.Table.{Row}
@@ -35,44 +25,10 @@ use Rattle.utc_scales.proofs.Steps.{tai-of-day}
 use Rattle.runs.specs.declared.by_day.DayInHand.{DayInHand}
 use Rattle.runs.specs.declared.by_day.ByHand.{ByHand}
 use Rattle.runs.specs.declared.by_day.ByHand.the-variants as B
-use Rattle.runs.specs.by_day.Hand.{dayFrom, Midnight, HeldDay, handOf, taiPart, minusOne, servesNone, RightHand, RightTaiByHand, RightUtcByHand, RightWay}
+use Rattle.runs.specs.by_day.Hand.{HeldDay, handOf, taiPart, minusOne, servesNone, RightHand, RightTaiByHand, RightUtcByHand, RightWay}
 use Rattle.runs.specs.ways.Ways.{wayOf}
 use Rattle.runs.proofs.laws.EachWay.{each-way}
 use Rattle.runs.proofs.by_day.Floats.{first-larger}
-
-no-more : (z : ℤ) → z ≡ z +ℤ pos 0 +ℤ pos 0 +ℤ (pos 0 -ℤ pos 0)
-no-more z = sym (+ℤ-idr (z +ℤ pos 0 +ℤ pos 0) ∙ +ℤ-idr (z +ℤ pos 0) ∙ +ℤ-idr z)
-
-one-back : (z : ℤ) → z ≡ z +ℤ pos 1 +ℤ pos 0 +ℤ (pos 0 -ℤ pos 1)
-one-back z = sym (ap (λ (u : ℤ). u +ℤ (pos 0 -ℤ pos 1)) (+ℤ-idr (z +ℤ pos 1)) ∙ +ℤ-negℤ-cancel z (pos 1))
-
-module _ (x y : Float) (fx : T (fits binary64 x)) (fy : T (fits binary64 y)) (m : Midnight x) (acc : accepted x y ≡ true) (b : NearestWhole)
-    (eb : b ≡ nearestWhole y) (z : Float) where
-  abbrev n : ℤ
-  n = toSigned 63 (nearestInt x)
-
-  day : (down : ℕ) → Quick (sub binary64 x (nearestInt x)) (sub binary64 y (b .value)) z down
-      → n ≡ toZ w64 (ofZ w64 n) +ℤ toZ w64 (ofZ w64 (b .number)) +ℤ pos 0 +ℤ (pos 0 -ℤ pos down)
-      → dayNumberAndFraction x y ≡ answer (record { day = dayFrom x; fraction = z })
-  unfolding dayFrom nearestWhole
-  day down q e =
-      answered x y acc
-      ∙ ap answer (sym (gives x y fx fy acc (nearestWhole x) b refl eb _ (q .summed) _ (q .normal) n e)
-      ∙ ap (λ (u : ℤ). record { day = u; fraction = z }) (day-read n (m .in-days)))
-
-  pub same-number : Quick (sub binary64 x (nearestInt x)) (sub binary64 y (b .value)) z 0 → toZ w64 (ofZ w64 (b .number)) ≡ pos 0
-      → dayNumberAndFraction x y ≡ answer (record { day = dayFrom x; fraction = z })
-  unfolding dayFrom
-  same-number q e = day 0 q
-      (no-more n ∙ ap (λ (u : ℤ). u +ℤ pos 0 +ℤ pos 0 +ℤ (pos 0 -ℤ pos 0)) (sym (day-read n (m .in-days)))
-      ∙ ap (λ (u : ℤ). toZ w64 (ofZ w64 n) +ℤ u +ℤ pos 0 +ℤ (pos 0 -ℤ pos 0)) (sym e))
-
-  pub next-number : Quick (sub binary64 x (nearestInt x)) (sub binary64 y (b .value)) z 1 → toZ w64 (ofZ w64 (b .number)) ≡ pos 1
-      → dayNumberAndFraction x y ≡ answer (record { day = dayFrom x; fraction = z })
-  unfolding dayFrom
-  next-number q e = day 1 q
-      (one-back n ∙ ap (λ (u : ℤ). u +ℤ pos 1 +ℤ pos 0 +ℤ (pos 0 -ℤ pos 1)) (sym (day-read n (m .in-days)))
-      ∙ ap (λ (u : ℤ). toZ w64 (ofZ w64 n) +ℤ u +ℤ pos 0 +ℤ (pos 0 -ℤ pos 1)) (sym e))
 
 -- ---- UTC to TAI by a day that is held
 part-is : (m mjd : Float) (o : DayOffsets) (f : Float) → taiPart (handOf m mjd o) f ≡ taiFromMidnight m (julian mjdZeroPoint mjd) o f

@@ -5,18 +5,18 @@ use Prim.Native.Nat.{ℕ}
 use mathlib.Core.Path.{_≡_}
 use mathlib.Core.Bool.{true}
 use mathlib.Core.List.{List}
-use lib.IntN.{ℤ, pos, negsuc, _-ℤ_}
+use lib.IntN.{pos, _-ℤ_}
 use lib.Dec.{T}
-use lib.Ieee.{Float, fin, binary64, fits, add, sub, mul, div, eq, lt, le, ofInt, toSigned}
+use lib.Ieee.{Float, fin, binary64, fits, add, sub, mul, div, lt, le, ofInt}
 use Rattle.refusals.specs.Outcome.{answer}
 use Rattle.constants.specs.Constants.{secondsPerDay, mjdZeroPoint}
-use Rattle.floats.specs.Whole.{nought, one, nearestInt}
+use Rattle.floats.specs.Whole.{nought, one}
 use Rattle.calendar.specs.Gregorian.{gregorianDate}
 use Rattle.julian.specs.declared.JulianDate.{JulianDate}
 use Rattle.julian.specs.JulianDate.{julian}
 use Rattle.julian.specs.day_number.DayNumber.{accepted}
 use Rattle.julian.specs.day_number.Answer.{dayNumberAndFraction}
-use Rattle.julian.specs.day_number.Ranges.{InDays}
+use Rattle.julian.specs.day_number.Midnights.{dayFrom, Midnight}
 use Rattle.leap_table.specs.declared.offsets.DayOffsets.{DayOffsets}
 use Rattle.leap_table.specs.rows.Table.{Row}
 use Rattle.leap_table.specs.offsets.Leap.{driftRate, leapAmount}
@@ -31,17 +31,6 @@ use Rattle.utc_scales.specs.days.Dates.{offsetsOf}
 use Rattle.utc_scales.specs.days.LargerPart.{firstIsKept}
 use Rattle.utc_scales.specs.UtcTai.{utcToTai, refined, taiToUtc}
 use Rattle.runs.specs.ways.Ways.{wayOf}
-
--- the day that begins at a midnight
-unfoldable pub dayFrom : Float → ℤ
-dayFrom x = toSigned 63 (nearestInt x)
-
--- x is a midnight of a day from day 2 on: half a day before its nearest whole number
-pub record Midnight (x : Float) : Type 0 where
-  pub before-noon : eq (sub binary64 x (nearestInt x)) (fin true 1 (negsuc 0)) ≡ true
-  pub late : le one x ≡ true
-  pub held : T (fits binary64 x)
-  pub in-days : InDays (dayFrom x)
 
 -- what is kept of a day by its offsets
 unfoldable pub handOf : Float → Float → DayOffsets → DayInHand

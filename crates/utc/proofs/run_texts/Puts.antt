@@ -26,7 +26,7 @@ use Rattle.utc.specs.iso_texts.ByRule.{textByRule, textByRuleOutcome, wr
 use Rattle.utc.specs.iso_texts.Named.{formNamed}
 use Rattle.utc.specs.declared.run_texts.Beside.{Beside}
 use Rattle.utc.specs.run_texts.RunTexts.{stampText, lengthByte, refusalByte, withText, withTexts, withBytes, textsRefused}
-use Rattle.utc.specs.run_texts.Asked.{TextPlaced, TextsPlaced}
+use Rattle.utc.specs.run_texts.Asked.{TextBeside, TextPlaced, TextsPlaced}
 use Rattle.utc.proofs.iso_texts.TextRules.{text-forgets}
 use Rattle.utc.proofs.laws.NamedTexts.{named-text-few}
 
@@ -69,6 +69,13 @@ module _ (l t : List ℕ) (at : ℕ) (h : at + 27 ≤ length l) (few : length t 
 pub part-as-it-was : (l : List ℕ) (at : ℕ) → putMid at 27 l (midOf at 27 l) ≡ l
 part-as-it-was l at = ap (λ (x : List ℕ). take at l ++ x) (take-append-drop 27 (drop at l)) ∙ take-append-drop at l
 
+pub part-unchanged : (l : List ℕ) (at k : ℕ) (out : List ℕ) → k ≡ 27 → out ≡ midOf at k l → putMid at k l out ≡ l
+part-unchanged l at k out ek e =
+    ap (putMid at k l) e ∙ ap (λ (x : ℕ). putMid at x l (midOf at x l)) ek ∙ part-as-it-was l at
+
+pub part-room : (l : List ℕ) (at k : ℕ) → k ≡ 27 → at + 27 ≤ length l → 27 ≤ length (midOf at k l)
+part-room l at k ek h = subst (λ (x : ℕ). 27 ≤ length (midOf at x l)) (sym ek) (omega (arith, length-take-le 27 (drop at l) (omega (arith, length-drop at l))))
+
 -- ---- one stamp: what stands beside its text, by what the text call answers
 unfoldable pub besideOf : TextByRule → Beside
 besideOf (Written n rule) = record { length = n % 256; number = 0 }
@@ -92,29 +99,28 @@ beside-written (Written m rule′) n rule h e =
     let small : m % 256 ≡ n = omega arith in
     ap (λ (x : ℕ). record { length = x; number = 0 }) small
 
--- the call writes into the part of stamp i; o is its text with the rule of its day
-module _ (l : List ℕ) (i : ℕ) (h : 27 * i + 27 ≤ length l) where
-  pub text-placed : (o : Outcome (List ℕ × Rule)) (r : TextByRule) (out : List ℕ) → ((t : List ℕ) → forget o ≡ answer t → length t ≤ 27)
-      → TextRuleCall o (midOf (27 * i) 27 l) r out → TextPlaced (forget o) i l (besideOf r) (putMid (27 * i) 27 l out)
-  unfolding writtenByRule withRule textWritten bufferHolds forget onward lengthByte refusalByte withText
-  text-placed (refusal k) r out few p =
-      let e = beside-refused r k (p .says) in
-      record {
-        length = ap (λ (b : Beside). b .length) e;
-        number = ap (λ (b : Beside). b .number) e;
-        text = ap (putMid (27 * i) 27 l) (p .holds) ∙ part-as-it-was l (27 * i);
-      }
-  text-placed (answer u) r out few p =
-      let most : length (u .0) ≤ 27 = few (u .0) refl in
-      let room : length (u .0) ≤ length (midOf (27 * i) 27 l) = omega (arith, part-length l (u .0) (27 * i) h most) in
-      let says : textByRuleOutcome r ≡ answer (length (u .0), u .1)
-      = p .says ∙ rw (le-leb (length (u .0)) (length (midOf (27 * i) 27 l)) room) in
-      let e = beside-written r (length (u .0)) (u .1) most says in
-      record {
-        length = ap (λ (b : Beside). b .length) e;
-        number = ap (λ (b : Beside). b .number) e;
-        text = ap (putMid (27 * i) 27 l) (p .holds) ∙ text-in-part l (u .0) (27 * i) h most;
-      }
+-- the call writes into a buffer of 27 bytes or more; o is the text with the rule of its day
+pub text-beside : (l : List ℕ) → 27 ≤ length l → (o : Outcome (List ℕ × Rule)) (r : TextByRule) (out : List ℕ)
+    → ((t : List ℕ) → forget o ≡ answer t → length t ≤ 27) → TextRuleCall o l r out → TextBeside (forget o) l (besideOf r) out
+unfolding writtenByRule withRule textWritten forget onward lengthByte refusalByte
+text-beside l h (refusal k) r out few p =
+    let e = beside-refused r k (p .says) in
+    record { length = ap (λ (b : Beside). b .length) e; number = ap (λ (b : Beside). b .number) e; holds = p .holds }
+text-beside l h (answer u) r out few p =
+    let most : length (u .0) ≤ 27 = few (u .0) refl in
+    let room : length (u .0) ≤ length l = omega arith in
+    let says : textByRuleOutcome r ≡ answer (length (u .0), u .1) = p .says ∙ rw (le-leb (length (u .0)) (length l) room) in
+    let e = beside-written r (length (u .0)) (u .1) most says in
+    record { length = ap (λ (b : Beside). b .length) e; number = ap (λ (b : Beside). b .number) e; holds = p .holds }
+
+-- in the part of stamp i
+pub beside-placed : (l : List ℕ) (i : ℕ) → 27 * i + 27 ≤ length l → (o : Outcome (List ℕ)) (b : Beside) (out : List ℕ)
+    → ((t : List ℕ) → o ≡ answer t → length t ≤ 27) → TextBeside o (midOf (27 * i) 27 l) b out → TextPlaced o i l b (putMid (27 * i) 27 l out)
+unfolding bufferHolds withText
+beside-placed l i h (refusal k) b out few p =
+    record { length = p .length; number = p .number; text = ap (putMid (27 * i) 27 l) (p .holds) ∙ part-as-it-was l (27 * i) }
+beside-placed l i h (answer t) b out few p =
+    record { length = p .length; number = p .number; text = ap (putMid (27 * i) 27 l) (p .holds) ∙ text-in-part l t (27 * i) h (few t refl) }
 
 -- ---- a run
 one-at-most : (b : Bool) → cond b 0 1 ≤ 1
@@ -170,16 +176,30 @@ module _ (f : ℕ → Outcome (List ℕ)) (n : ℕ) (texts₀ lengths₀ numbers
         let e : i ≡ n = omega (arith, p .high) in
         subst (λ (j : ℕ). TextsPlaced f j texts₀ lengths₀ numbers₀ refused texts lengths numbers) e (p .put)
 
--- ---- the stamp at place i by the text call of its form: d is its date, k the bytes of its part
-pub stamp-placed : (textForm : NamedForm) (rows : List Row) (js ks l : List ℕ) (i k : ℕ) (d : JulianDate) (r : TextByRule) (out : List ℕ) (b : Beside)
-    → k ≡ 27 → d ≡ stampOf js ks i → 27 * i + 27 ≤ length l → b ≡ besideOf r
-    → TextRuleCall (textByRule (formNamed textForm) rows d) (midOf (27 * i) k l) r out
+-- ---- a date by the text call of its form
+pub date-beside : (textForm : NamedForm) (rows : List Row) (d : JulianDate) (l : List ℕ) (r : TextByRule) (out : List ℕ) (b : Beside) → 27 ≤ length l
+    → b ≡ besideOf r → TextRuleCall (textByRule (formNamed textForm) rows d) l r out → TextBeside (isoTextBy (formNamed textForm) rows d) l b out
+date-beside textForm rows d l r out b h e p =
+    let f = text-forgets (formNamed textForm) rows d in
+    subst (λ (x : Beside). TextBeside (isoTextBy (formNamed textForm) rows d) l x out) (sym e)
+    (subst (λ (x : Outcome (List ℕ)). TextBeside x l (besideOf r) out) f
+    (text-beside l h (textByRule (formNamed textForm) rows d) r out (λ t g. named-text-few textForm rows d t (sym f ∙ g)) p))
+
+-- ---- the stamp at place i: d is its date, k the bytes of its part
+pub stamp-placed : (textForm : NamedForm) (rows : List Row) (js ks l : List ℕ) (i k : ℕ) (d : JulianDate) (b : Beside) (out : List ℕ)
+    → k ≡ 27 → d ≡ stampOf js ks i → 27 * i + 27 ≤ length l → TextBeside (isoTextBy (formNamed textForm) rows d) (midOf (27 * i) k l) b out
     → TextPlaced (stampText (formNamed textForm) rows js ks i) i l b (putMid (27 * i) k l out)
-stamp-placed textForm rows js ks l i k d r out b ek ed h eb p =
+stamp-placed textForm rows js ks l i k d b out ek ed h p =
     subst (λ (x : ℕ). TextPlaced (stampText (formNamed textForm) rows js ks i) i l b (putMid (27 * i) x l out)) (sym ek)
-    (subst (λ (x : Beside). TextPlaced (stampText (formNamed textForm) rows js ks i) i l x (putMid (27 * i) 27 l out)) (sym eb)
-    (subst (λ (x : Outcome (List ℕ)). TextPlaced x i l (besideOf r) (putMid (27 * i) 27 l out))
-    (text-forgets (formNamed textForm) rows d ∙ ap (isoTextBy (formNamed textForm) rows) ed)
-    (text-placed l i h (textByRule (formNamed textForm) rows d) r out
-    (λ t e. named-text-few textForm rows d t (sym (text-forgets (formNamed textForm) rows d) ∙ e))
-    (subst (λ (x : ℕ). TextRuleCall (textByRule (formNamed textForm) rows d) (midOf (27 * i) x l) r out) ek p))))
+    (subst (λ (x : JulianDate). TextPlaced (isoTextBy (formNamed textForm) rows x) i l b (putMid (27 * i) 27 l out)) ed
+    (beside-placed l i h (isoTextBy (formNamed textForm) rows d) b out (λ t e. named-text-few textForm rows d t e)
+    (subst (λ (x : ℕ). TextBeside (isoTextBy (formNamed textForm) rows d) (midOf (27 * i) x l) b out) ek p)))
+
+-- the same after a part that was lent and came back as it was
+pub stamp-placed-again : (textForm : NamedForm) (rows : List Row) (js ks l l' : List ℕ) (i k : ℕ) (d : JulianDate) (b : Beside) (out : List ℕ)
+    → k ≡ 27 → d ≡ stampOf js ks i → 27 * i + 27 ≤ length l → l' ≡ l → TextBeside (isoTextBy (formNamed textForm) rows d) (midOf (27 * i) k l') b out
+    → TextPlaced (stampText (formNamed textForm) rows js ks i) i l b (putMid (27 * i) k l' out)
+stamp-placed-again textForm rows js ks l l' i k d b out ek ed h e p =
+    subst (λ (x : List ℕ). TextPlaced (stampText (formNamed textForm) rows js ks i) i l b (putMid (27 * i) k x out)) (sym e)
+    (stamp-placed textForm rows js ks l i k d b out ek ed h
+    (subst (λ (x : List ℕ). TextBeside (isoTextBy (formNamed textForm) rows d) (midOf (27 * i) k x) b out) e p))

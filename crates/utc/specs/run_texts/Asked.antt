@@ -5,6 +5,7 @@ use mathlib.Core.List.{List}
 use lib.ListN.{length}
 use Rattle.refusals.specs.Outcome.{Outcome}
 use Rattle.utc.specs.declared.run_texts.Beside.{Beside}
+use Rattle.utc.specs.iso_texts.TextCall.{bufferHolds}
 use Rattle.utc.specs.run_texts.RunTexts.{lengthByte, refusalByte, withText, withTexts, withBytes, textsRefused}
 
 -- n stamps are there, and places for them
@@ -13,6 +14,12 @@ pub record RoomForTexts (n : ℕ) (js texts lengths numbers : List ℕ) : Type 0
   pub places : 27 * n ≤ length texts
   pub bytes : n ≤ length lengths
   pub bytes2 : n ≤ length numbers
+
+-- the text o is put into a buffer of 27 bytes or more: r has its length and its number
+pub record TextBeside (o : Outcome (List ℕ)) (out : List ℕ) (r : Beside) (out' : List ℕ) : Type 0 where
+  pub length : r .length ≡ lengthByte o
+  pub number : r .number ≡ refusalByte o
+  pub holds : out' ≡ bufferHolds o out
 
 -- the text o of stamp i is put: r has its length and its number
 pub record TextPlaced (o : Outcome (List ℕ)) (i : ℕ) (texts : List ℕ) (r : Beside) (texts' : List ℕ) : Type 0 where

@@ -102,7 +102,7 @@ fn in_whole(units: u64, fraction: f64, leap: f64) -> bool
     false
 }
 
-fn even_count(fraction: f64, leap: f64) -> u64
+pub(crate) fn even_count(fraction: f64, leap: f64) -> u64
     ensures { λ r. ⌜ r ≡ evenCount fraction leap ⌝ }
 {
     let units = grid_units(fraction);

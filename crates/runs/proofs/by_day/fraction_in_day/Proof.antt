@@ -7,8 +7,8 @@ use mir.Val.{toZ}
 use Rattle.floats.specs.Whole.{nearestInt}
 use Rattle.floats.proofs.Laws.{yes}
 use Rattle.julian.proofs.day_number.Midnight.{quick, quick-borrowed}
+use Rattle.julian.proofs.day_number.PartsOfDay.{same-number, next-number}
 use Rattle.runs.specs.by_day.Hand.{InDayOf, FindsFraction}
-use Rattle.runs.proofs.by_day.Days.{same-number, next-number}
 use borrow.Author.Needs.{needs}
 use Rattle.runs.proofs.by_day.fraction_in_day.Statement.{statement}
 use Rattle.runs.proofs.by_day.fraction_in_day.Tie as tie

@@ -15,7 +15,9 @@ use Rattle.floats.specs.NearestWhole.{nearestWhole}
 use Rattle.floats.proofs.Laws.{yes}
 use Rattle.calendar.specs.Gregorian.{gregorianDate}
 use Rattle.julian.specs.day_number.Ranges.{InDays}
+use Rattle.julian.specs.day_number.Midnights.{dayFrom, Midnight}
 use Rattle.julian.proofs.day_number.Ranges.{day-read}
+use Rattle.julian.proofs.day_number.PartsOfDay.{day-in-days}
 use Rattle.leap_table.specs.offsets.Answers.{dayByRuleOutcome}
 use Rattle.leap_table.specs.rows.Table.{Row}
 use Rattle.leap_table.specs.rows.Announced.{rowsIn}
@@ -23,8 +25,7 @@ use Rattle.leap_table.proofs.offsets.Rules.{apart}
 use Rattle.utc_scales.specs.Known.{readOn}
 use Rattle.utc_scales.proofs.days.Midnights.{day-asked}
 use Rattle.runs.specs.declared.by_day.DayInHand.{DayInHand}
-use Rattle.runs.specs.by_day.Hand.{dayFrom, Midnight, HeldDay, handOf, servesNone, RightHand}
-use Rattle.runs.proofs.by_day.Floats.{day-in-days}
+use Rattle.runs.specs.by_day.Hand.{HeldDay, handOf, servesNone, RightHand}
 use borrow.Author.Needs.{needs}
 use Rattle.runs.proofs.by_day.look_up.Statement.{statement}
 use Rattle.runs.proofs.by_day.look_up.Tie as tie

@@ -3,9 +3,9 @@ use mathlib.Core.Path.{_≡_, sym, ap, subst, _∙_}
 use mathlib.Core.Bool.{true}
 use lib.Ieee.{Float, ofBits, lt}
 use Rattle.floats.proofs.Laws.{yes}
+use Rattle.julian.proofs.day_number.PartsOfDay.{same-float}
 use Rattle.runs.specs.declared.by_day.DayInHand.{DayInHand}
 use Rattle.runs.specs.by_day.Hand.{RightHand, handOf, RightTaiByHand, FindsTaiOf, FindsTai}
-use Rattle.runs.proofs.by_day.Floats.{same-float}
 use borrow.Author.Needs.{needs}
 use Rattle.runs.proofs.by_day.quick_tai.Statement.{statement}
 use Rattle.runs.proofs.by_day.quick_tai.Tie as tie

@@ -7,7 +7,8 @@ use Rattle.julian.specs.JulianDate.{julian}
 use Rattle.julian.specs.day_number.DayNumber.{accepted}
 use Rattle.julian.proofs.day_number.Steps.{from-min}
 use Rattle.runs.specs.declared.by_day.InDay.{InDay}
-use Rattle.runs.specs.by_day.Hand.{Midnight, InDayOf, FindsFraction, RightTaiByHand, FindsTaiOf}
+use Rattle.julian.specs.day_number.Midnights.{Midnight}
+use Rattle.runs.specs.by_day.Hand.{InDayOf, FindsFraction, RightTaiByHand, FindsTaiOf}
 use Rattle.runs.proofs.by_day.Days.{tai-by-hand, kept}
 use borrow.Author.Needs.{needs}
 use Rattle.runs.proofs.by_day.tai_in_range.Statement.{statement}
