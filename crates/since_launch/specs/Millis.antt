@@ -28,7 +28,7 @@ millisOutcome (M.Refused number) = refusal number
 
 -- ---- a date's place
 
--- the days since day -68570, the first that an answered date can lie on (3.6 of docs/GUARANTEES.md), and the units of the fraction, cut down where it lies
+-- the days since day -68570, the first that an answered date can lie on (`day-range` of julian::day_number), and the units of the fraction, cut down where it lies
 -- between two: on the grid they are all of it
 unfoldable pub placeOf : DayNumber → Place
 placeOf n = record { days = fromZero (n .day +ℤ pos 68570); units = gridUnits (n .fraction) }

@@ -1,6 +1,6 @@
 -- Passes that are nowhere steeper than so many millimetres a millisecond, and a place against the exact line at an exact time: the error over both steps, where
 -- a stamp has been rounded to a whole millisecond and the millisecond is placed. Written from the customer's words ("exact at a pass, never backwards, less
--- than 1 mm below the line") and docs/GUARANTEES.md, 24. Fractions are multiplied out: time a / d, a distance of e / d milliseconds and a slope of rise / run.
+-- than 1 mm below the line") and docs/PROMISES.md, Places. Fractions are multiplied out: time a / d, a distance of e / d milliseconds and a slope of rise / run.
 -- Assumes nothing.
 use Prim.Native.Nat.{ℕ, _+_, _-_, _*_, _≤_, _<_}
 use mathlib.Core.List.{List}
