@@ -3,3 +3,8 @@ pub mod Kept
 pub mod Standing
 pub mod Theorems
 pub mod Worked
+-- WHAT THE LISTING MEANS. Lines: the line of a stamp that is not finite, and the parts that join to the whole. Counted: the counts of a run. Cases: worked by
+-- computation.
+pub mod Lines
+pub mod Counted
+pub mod Cases

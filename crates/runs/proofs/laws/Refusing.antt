@@ -173,7 +173,7 @@ module _ (rows : List Row) where
           → T (fits binary64 z)
       by-date (c, p, q) = by-offsets c (came (offsetsOf rows (c .date)) _ z q)
 
-  beside-held : (d : JulianDate) → Held d → (z : Float) → T (fits binary64 z) → Held (putBeside (keptParts d) z)
+  pub beside-held : (d : JulianDate) → Held d → (z : Float) → T (fits binary64 z) → Held (putBeside (keptParts d) z)
   unfolding putBeside
   beside-held d g z h = go (keptParts d .first)
     where
