@@ -14,11 +14,14 @@ use Rattle.julian.proofs.day_number.NotFinite as DayNumber
 use Rattle.julian.proofs.laws.CalendarDays.{only-six, exact-date}
 use Rattle.julian.proofs.laws.RoundTrip.{round-trip}
 use Rattle.calendar.proofs.Unique.{the-calendar}
+use Rattle.calendar.proofs.Gregorian.{gregorian-is-date-of-day}
+use Rattle.calendar.proofs.Mjd.{mjd-meaning}
 use Rattle.calendar.proofs.Days.{day-2451545-is-2000-01-01, next-number-is-next-date}
 use Rattle.leap_table.specs.declared.rows.AnnouncedRows.{AnnouncedRows}
 use Rattle.leap_table.specs.rows.Table.{Row}
 use Rattle.leap_table.specs.rows.Announced.{tableOf}
 use Rattle.leap_days.proofs.EveryTable.{every-table}
+use Rattle.leap_days.proofs.Formula.{drift-formula}
 use Rattle.julian.specs.shifts.SmallerPart.{mapSmallerPart}
 use Rattle.scales.specs.Formulas.{tcgToTt}
 use Rattle.scales.specs.Conversions.{Conversion, gps-tai, tai-gps, tai-tt, tt-tai, tcg-tt, tt-tcg, tcb-tdb, tdb-tcb, tai-tcg, tcg-tai, tai-ut1}
@@ -35,10 +38,19 @@ use Rattle.utc_scales.proofs.laws.NotFinite.{utc-to-ut1-no-offset, ut1-to-utc-n
 use Rattle.utc_scales.proofs.laws.AnnouncedCalls.{announced-refuses, announced-no-nan-no-infinity, by-its-rows}
 use Rattle.utc_scales.proofs.round_trip.Meant.{table-utc-to-tai-means}
 use Rattle.utc_scales.proofs.round_trip.UtcMeant.{table-tai-to-utc-means}
+use Rattle.utc_scales.proofs.round_trip.Steps.{steps-are, rates-are}
+use Rattle.utc_scales.proofs.ut1_laws.Ut1.{table-utc-to-ut1-means}
+use Rattle.utc_scales.proofs.ut1_laws.Back.{table-ut1-to-utc-means}
 use Rattle.utc.proofs.laws.Numbers as Text
+use Rattle.utc.proofs.laws.HalfEvenTexts.{even-not-finite}
+use Rattle.utc.proofs.laws.ExpandedTexts.{expanded-not-finite}
+use Rattle.utc.proofs.laws.Decided.{offset-decided, leap-decided, from-calendar-decided}
+use Rattle.utc.proofs.laws.NewDecided.{new-decided}
+use Rattle.utc.proofs.laws.TextDecided.{text-call-decided}
 use Rattle.utc.proofs.laws.Alike.{nothing-written}
 use Rattle.utc.proofs.laws.OneText.{table-text-for-every-buffer}
-use Rattle.promises.specs.Demands.{Demand1, Demand2, Demand3}
+use Rattle.worked_cases.proofs.Cases.{sixteen, starred-cases}
+use Rattle.promises.specs.Demands.{Demand1, Demand2, Demand3, StarredCases}
 
 -- ---- a part or an offset that is not finite
 
@@ -111,10 +123,14 @@ module _ (t : AnnouncedRows) (rows : List Row) (e : tableOf t ≡ answer rows) w
   demand-1 = record {
     conversions-refuse = any-refuses;
     calendar-refuses = calendar-not-finite;
-    text-refuses = Text.not-finite rows;
+    texts-refuse = λ d h. (Text.not-finite rows d h, even-not-finite rows d h, expanded-not-finite rows d h);
     conversions-answer = announced-refuses t;
     calendar-answers = only-six;
-    text-answers = Text.call-numbers rows;
+    texts-answer = text-call-decided t;
+    offset-answers = offset-decided t;
+    leap-answers = leap-decided t;
+    fields-answer = from-calendar-decided t;
+    unix-answers = new-decided t;
     text-stays = λ o before after n c. nothing-written o before after n c;
     finite-answers = announced-no-nan-no-infinity t;
   }
@@ -124,12 +140,22 @@ module _ (t : AnnouncedRows) (rows : List Row) (e : tableOf t ≡ answer rows) w
     anchor = day-2451545-is-2000-01-01;
     step = next-number-is-next-date;
     no-other = the-calendar;
+    to-date = gregorian-is-date-of-day;
+    to-day = mjd-meaning;
+    steps-told = steps-are;
+    rates-told = rates-are;
     table = every-table t rows e;
+    drift = drift-formula;
     formulas = practical;
     utc-to-tai = table-utc-to-tai-means t rows e;
     tai-to-utc = table-tai-to-utc-means t rows e;
+    utc-to-ut1 = λ h dut1 s. table-utc-to-ut1-means t rows e h dut1 (s .0) (s .1);
+    ut1-to-utc = λ h x n dut1 s. table-ut1-to-utc-means t rows e h x n dut1 (s .0) (s .1);
     there-and-back = round-trip;
   }
 
   pub demand-3 : Demand3 rows
   demand-3 = record { calendar = exact-date; text = table-text-for-every-buffer t rows e }
+
+pub starred : StarredCases
+starred = record { sixteen = sixteen; answered = starred-cases }

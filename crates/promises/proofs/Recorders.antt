@@ -15,7 +15,7 @@ use Rattle.line_up.proofs.laws.Theorems as Lines
 use Rattle.ticks.specs.declared.places.PlacesAnswer.{PlacesAnswer}
 use Rattle.ticks.specs.places.Places.{placesOutcome, placesCall, placedRun}
 use Rattle.ticks.proofs.laws.Readings.{readings-mean, readings-near}
-use Rattle.promises.specs.Recorders.{Recorders, Run, Line, Places}
+use Rattle.promises.specs.Recorders.{Recorders, ConvertedRun, Line, Places}
 
 pub recorders : (t : AnnouncedRows) (rows : List Row) → tableOf t ≡ answer rows → Recorders rows
 recorders t rows e = record {
@@ -25,7 +25,7 @@ recorders t rows e = record {
 }
 
 pub run : (rows : List Row) (from to : ℕ) (js ks out1 out2 numbers : List ℕ)
-    → runRefusal from to (length js) (length ks) (length out1) (length out2) (length numbers) ≡ 0 → Run rows from to js ks out1 out2 numbers
+    → runRefusal from to (length js) (length ks) (length out1) (length out2) (length numbers) ≡ 0 → ConvertedRun rows from to js ks out1 out2 numbers
 run rows from to js ks out1 out2 numbers z = record {
   each = Runs.each-stamp rows from to js ks out1 out2 numbers z;
   not-finite = Runs.not-finite-stamp-numbered rows from to js ks out1 out2 numbers z;

@@ -1,107 +1,249 @@
 -- THE FOURTEEN REQUESTS, for every table that is taken. Assumes nothing.
-use mathlib.Core.Path.{_≡_, refl}
+use mathlib.Core.Path.{_≡_, refl, sym, _∙_}
 use mathlib.Core.List.{List}
-use Prim.Native.Nat.{ℕ}
+use Prim.Native.Nat.{ℕ, _≤_}
+use native.Mathlib.Omega.{arith}
 use lib.ListN.{length}
+use lib.IntN.{negsuc}
+use mathlib.Core.Bool.{false}
+use lib.Ieee.{lt, ofBits}
 use Rattle.refusals.specs.Outcome.{answer}
+use Rattle.floats.specs.Whole.{abs}
+use Rattle.calendar.specs.Gregorian.{gregorianDate}
+use Rattle.calendar.specs.Calendar.{date}
 use Rattle.calendar.proofs.laws.NoAnswerChanges.{no-answer-changes}
 use Rattle.julian.proofs.laws.CalendarDays.{day-plus-fraction}
 use Rattle.julian.proofs.same_stamps.Same as Stamps
 use Rattle.julian.proofs.same_stamps.Equal.{same-implies-equal}
+use Rattle.time_of_day.specs.ExactTime.{leap1959}
+use Rattle.time_of_day.specs.HalfEven.{dayIsWhole}
+use Rattle.time_of_day.specs.Milliseconds.{wholeLeap}
+use Rattle.time_of_day.proofs.EvenExact.{in-whole-numbers, whole-0, whole-1, whole-minus-1, not-1959}
+use Rattle.time_of_day.proofs.EvenFloat.{by-float}
+use Rattle.time_of_day.proofs.EvenSteps.{count-by-float}
+use Rattle.time_of_day.proofs.Fractions.{in-units, within-one}
 use Rattle.leap_table.specs.declared.rows.AnnouncedRows.{AnnouncedRows}
 use Rattle.leap_table.specs.rows.Table.{Row}
 use Rattle.leap_table.specs.rows.Announced.{tableOf}
-use Rattle.leap_table.proofs.rows.TableLaws.{table-decided}
+use Rattle.leap_table.proofs.rows.TableLaws.{table-decided, table-rises, spare-unread}
+use Rattle.leap_table.proofs.rows.TablesTaken.{table-none}
 use Rattle.leap_table.proofs.offsets.RuleLaws.{drifting-last-begun, whole-last-begun}
 use Rattle.leap_table.proofs.offsets.Rules.{offset-forgets}
-use Rattle.leap_table.proofs.walk.Counts.{most-by-any}
-use Rattle.leap_table.proofs.walk.LookUp.{offset-of-look-up}
-use Rattle.leap_table.proofs.walk.Due.{bytes-decided}
+use Rattle.leap_table.proofs.walk.Counts.{most-by-fixed, most-by-any, compared-closed}
+use Rattle.leap_table.proofs.walk.OfCall.{numbers-offset, numbers-behind}
+use Rattle.leap_table.proofs.walk.Due.{numbers-decided, bytes-decided}
 use Rattle.leap_days.proofs.TableLeaps.{table-leap-on}
-use Rattle.scales.proofs.gps_weeks.FullWeeks.{nearest-if, tie-exactly}
+use Rattle.scales.proofs.gps_weeks.FullWeeks.{nearest-if, nearest-only-if, tie-exactly, over-exactly}
+use Rattle.scales.proofs.gps_weeks.Parts.{part-is}
+use Rattle.scales.proofs.gps_week_laws.Cases.{first-day-is-1980-01-06}
+use Rattle.scales.proofs.gps_week_laws.CalendarDates.{on-calendar}
+use Rattle.scales.proofs.gps_week_laws.NearDates.{of-count}
 use Rattle.scales.proofs.gps_week_laws.Refusals.{from-week-decided, to-week-decided}
 use Rattle.scales.proofs.gps_week_laws.RoundTrip as Weeks
+use Rattle.utc_scales.proofs.Rules.{utc-to-tai-forgets}
+use Rattle.utc_scales.proofs.to_ut1.Rules.{utc-to-ut1-forgets}
 use Rattle.utc_scales.proofs.laws.AnnouncedCalls as Announced
-use Rattle.utc_scales.proofs.round_trip.RoundTrip.{table-there-and-back}
-use Rattle.utc.specs.iso_texts.IsoText.{standardForm}
+use Rattle.utc_scales.proofs.round_trip.RoundTrip as Back
+use Rattle.utc.specs.iso_texts.Expanded.{isoTextExpanded}
 use Rattle.utc.proofs.iso_texts.TextRules.{text-forgets}
-use Rattle.utc.proofs.laws.HalfEvenTexts.{even-for-every-buffer, even-refused}
+use Rattle.utc.proofs.text.ExpandedLaws.{expanded-same, expanded-rest, expanded-1-before, expanded-12000}
+use Rattle.utc.proofs.laws.ShortDays.{short-day-refused}
+use Rattle.utc.proofs.laws.HalfEvenTexts.{even-for-every-buffer}
 use Rattle.utc.proofs.laws.ExpandedTexts.{expanded-for-every-buffer, beside, expanded-text-length}
 use Rattle.parsing.proofs.Seconds.{one-division}
 use Rattle.parsing_laws.proofs.Grammar as Grammar
+use Rattle.parsing_laws.proofs.Around.{same-around, same-with-zulu}
+use Rattle.parsing_laws.proofs.SixFields as Fields
 use Rattle.parsing_laws.proofs.Ladder.{verdict}
 use Rattle.parsing_laws.proofs.UtcLadder.{utc-verdict}
-use Rattle.parsing_laws.proofs.EveryText.{iso-text-reads-back}
-use Rattle.reasons.proofs.Cases.{sentence-decided}
+use Rattle.parsing_laws.proofs.EveryText.{iso-text-reads-back, half-even-text-reads-back, expanded-text-reads-back}
+use Rattle.reasons.proofs.Cases.{sentence-decided, nan-digits, hex-order}
+use Rattle.stamps.specs.Block.{blockOf, stampAt}
+use Rattle.stamps.specs.Listing.{textAt, lineRoom}
+use Rattle.stamps.specs.Parts.{linesIn, partsJoined}
+use Rattle.stamps.specs.declared.Reporting.{Reporting}
+use Rattle.stamps.specs.declared.Reporting.the-variants.{Numbers, Sentences}
 use Rattle.stamps.proofs.reason_laws.ReadBack.{same-sentence}
 use Rattle.stamps.proofs.listing_laws.Whole.{parts-alike}
-use Rattle.stamps.proofs.listing_laws.Longest.{number-line-most}
+use Rattle.stamps.proofs.listing_laws.Sentences as Second
+use Rattle.stamps.proofs.listing_laws.Longest.{number-line-most, longest-line}
+use Rattle.ticks.specs.declared.TicksAnswer.{TicksAnswer}
+use Rattle.ticks.specs.Ticks.{TicksCall, placedTicks}
 use Rattle.ticks.proofs.laws.Call.{call-means}
+use Rattle.standby_laws.proofs.Quarters.{quarters-hold, quarters-least}
+use Rattle.standby_laws.proofs.Exact.{offset-is-tai-utc}
+use Rattle.standby_laws.proofs.Sharing as Sharing
+use Rattle.standby_laws.proofs.Decided as Bills
+use Rattle.standby_laws.proofs.Faults.{faults-are-calendars}
 use Rattle.standby_laws.proofs.Means.{bill-means}
-use Rattle.standby_laws.proofs.Sharing.{shared}
+use Rattle.c_answers.proofs.table.ReadBack.{table-back}
+use Rattle.c_answers.proofs.table.Laws as Bytes
 use Rattle.promises.specs.Requests as R
+use Rattle.promises.proofs.Demands.{demand-3}
+use Rattle.promises.proofs.HalfTexts.{old-half, new-half}
+use Rattle.promises.proofs.Terms.{tai-passes-on, ut1-passes-on, texts-pass-on, short-day-ends, field-named, none-named, rule-names}
+
+-- -4900-02-30
+pub before-the-calendar : gregorianDate (negsuc 68569) ≡ date (negsuc 4899) 2 30
+unfolding gregorianDate
+before-the-calendar = refl
+
+-- the leap of 1959-12-31 counts, and is no whole second
+pub float-on-1959 : dayIsWhole (wholeLeap leap1959) ≡ false
+unfolding wholeLeap lt abs ofBits
+float-on-1959 = not-1959
 
 pub request-3 : R.Request3
-request-3 = record { same = no-answer-changes }
+request-3 = record { own-case = before-the-calendar; same = no-answer-changes }
 
 pub request-7 : R.Request7
 request-7 = record {
+  first-day = first-day-is-1980-01-06;
   to-date = from-week-decided;
-  to-week = to-week-decided;
-  there-and-back = Weeks.round-trip;
+  on-its-day = on-calendar;
+  rounded-once = part-is;
+  way-back = of-count;
   nearest = nearest-if;
-  ties = λ bits reference. tie-exactly bits reference .0;
+  nearest-given = nearest-only-if;
+  there-and-back = Weeks.round-trip;
+  to-week = to-week-decided;
+  over = λ bits reference. over-exactly bits reference .1;
+  tied = λ bits reference. tie-exactly bits reference .1;
+  ties-only = λ bits reference. tie-exactly bits reference .0;
 }
 
 pub request-9 : R.Request9
-request-9 = record { same-is = Stamps.same-is; is-same = Stamps.is-same; equal-too = same-implies-equal }
+request-9 = record { same-is = Stamps.same-is; is-same = Stamps.is-same; patterns-apart = Stamps.patterns-apart; equal-too = same-implies-equal }
 
-pub request-10 : R.Request10
-request-10 = record { call = call-means }
+pub request-10 : (ps ms ts before after : List ℕ) (r : TicksAnswer) → TicksCall (placedTicks ps ms ts (length before)) before r after
+    → R.Request10 ps ms ts before after r
+request-10 ps ms ts before after r c = record {
+  placed = call-means ps ms ts before after r c .placed;
+  decided = call-means ps ms ts before after r c .decided;
+  refused-whole = call-means ps ms ts before after r c .refused;
+}
 
-pub request-13 : R.Request13
-request-13 = record { decided = sentence-decided; same-only-if = same-sentence }
+-- ---- a line fits in 64 bytes
+room-64 : (how : Reporting) → (lineRoom how ≤ 64) × (lineRoom how ≤ 4096)
+unfolding lineRoom
+room-64 Numbers = (omega arith, omega arith)
+room-64 (Sentences n) = (omega arith, omega arith)
+
+pub through-64 : (how : Reporting) (rows : List Row) (s : List ℕ) (k : ℕ) → linesIn (blockOf s) ≤ k
+    → partsJoined how rows s 64 k ≡ partsJoined how rows s 4096 k
+through-64 how rows s k h = parts-alike how rows s 64 4096 (room-64 how .0) (room-64 how .1) k k h h
+
+pub listers-text : (rows : List Row) (s : List ℕ) (n i : ℕ) → textAt rows s n i ≡ isoTextExpanded rows (stampAt s n i)
+unfolding textAt
+listers-text rows s n i = refl
 
 module _ (t : AnnouncedRows) (rows : List Row) (e : tableOf t ≡ answer rows) where
   pub request-1 : R.Request1 rows
   request-1 = record {
-    one-reading = Grammar.one-reading;
-    read = verdict;
-    read-utc = utc-verdict rows;
+    one-z = same-with-zulu;
+    blanks = same-around;
     divided-once = one-division;
-    reads-back = λ d held s shown. iso-text-reads-back t rows e d (held .0) (held .1) s shown;
+    six-fields = Fields.six-fields;
+    read-utc = utc-verdict rows;
+    one-reading = Grammar.one-reading;
+    reads-back = λ d held s shown. (
+      iso-text-reads-back t rows e d (held .0) (held .1) s shown,
+      half-even-text-reads-back t rows e d (held .0) (held .1) s shown,
+      expanded-text-reads-back t rows e d (held .0) (held .1) s shown,
+    );
+    read = verdict;
   }
 
-  pub request-2 : R.Request2 rows
-  request-2 = record { decided = bytes-decided rows; single-look-up = offset-of-look-up rows; rows-compared = most-by-any t rows e }
+  pub request-2 : R.Request2 t rows
+  request-2 = record {
+    offsets = λ ds d before after c call. numbers-offset t ds d before after c call;
+    spare = λ ds d before after c call. numbers-behind t ds d before after c call;
+    at-most = most-by-fixed;
+    counted = compared-closed _ (table-rises t rows e);
+    decided = numbers-decided rows;
+    decided-bytes = bytes-decided rows;
+  }
 
   pub request-4 : R.Request4 rows
-  request-4 = record { text = even-for-every-buffer t rows e; refusals = even-refused rows }
+  request-4 = record {
+    whole-numbers = in-whole-numbers;
+    whole-days = (whole-0, whole-1, whole-minus-1);
+    old-text = old-half;
+    new-text = new-half;
+    by-the-float = λ f x g i s h. sym (count-by-float f _ h) ∙ by-float f _ (in-units f g i) (within-one x s);
+    not-1959 = float-on-1959;
+    text = even-for-every-buffer t rows e;
+  }
 
-  pub request-5 : R.Request5 rows
+  pub request-5 : R.Request5 t rows
   request-5 = record {
-    drifting = drifting-last-begun rows;
-    whole = whole-last-begun rows;
+    row = rule-names t rows e;
+    by-tai = tai-passes-on rows;
+    by-ut1 = ut1-passes-on rows;
+    by-texts = texts-pass-on rows;
     same-offset = offset-forgets rows;
-    same-text = text-forgets standardForm rows;
+    same-tai = utc-to-tai-forgets rows;
+    same-ut1 = utc-to-ut1-forgets rows;
+    same-text = λ form. text-forgets form rows;
+    drifting-last = drifting-last-begun rows;
+    whole-last = whole-last-begun rows;
   }
 
   pub request-6 : R.Request6 rows
-  request-6 = record { text = expanded-for-every-buffer t rows e; beside-01 = beside rows; length-23-or-27 = expanded-text-length rows }
+  request-6 = record {
+    like-01 = beside rows;
+    to-9999 = expanded-same;
+    after-year = expanded-rest;
+    minus-1 = expanded-1-before;
+    year-12000 = expanded-12000;
+    lister = listers-text rows;
+    length-23-or-27 = expanded-text-length rows;
+    text = expanded-for-every-buffer t rows e;
+  }
 
   pub request-8 : R.Request8 t rows
   request-8 = record {
+    unread = λ u s. spare-unread t u (s .months-size) (s .seconds-size) (s .rows);
+    from-bytes = table-back t;
+    other-length = Bytes.other-length;
+    no-rows = table-none t;
+    same-answers = Announced.announced-none t;
+    at-most = most-by-any t rows e;
+    short-text = short-day-ends;
+    short-minute = short-day-refused rows;
+    every-leap = table-leap-on t rows e;
+    all-of-demand-3 = demand-3 t rows e;
+    law-of-item-1 = request-1;
     table = table-decided t;
     table-first = Announced.table-first t;
-    no-rows = Announced.announced-none t;
-    every-leap = table-leap-on t rows e;
   }
 
   pub request-11 : R.Request11 rows
-  request-11 = record { bill = bill-means rows; shares = shared }
+  request-11 = record {
+    started = quarters-hold;
+    no-more = quarters-least;
+    leap-seconds = offset-is-tai-utc t rows e;
+    cent = Sharing.cent;
+    shares = Sharing.shared;
+    equal-times = Bills.equal-times;
+    faults = faults-are-calendars t rows e;
+    time = Bills.time-decided rows;
+    bill = bill-means rows;
+  }
 
   pub request-12 : R.Request12 rows
-  request-12 = record { alike = λ how s a b j k p q m n. parts-alike how rows s a b p q j k m n; line-33 = number-line-most rows }
+  request-12 = record { line-33 = number-line-most rows; line-of-33 = longest-line rows; alike = λ how. through-64 how rows }
+
+  pub request-13 : R.Request13 rows
+  request-13 = record {
+    decided = sentence-decided;
+    names = field-named rows;
+    no-name = none-named rows;
+    same-only-if = same-sentence;
+    header-shared = λ how other. Second.header-shared how other rows;
+    nan-shown = nan-digits;
+    hex-shown = hex-order;
+  }
 
   pub request-14 : R.Request14 rows
-  request-14 = record { there-and-back = table-there-and-back t rows e; day = day-plus-fraction }
+  request-14 = record { one-nanosecond = Back.there-and-back; there-and-back = Back.table-there-and-back t rows e; day = day-plus-fraction }

@@ -33,7 +33,7 @@ pub record Recorders (rows : List Row) : Type 0 where
 
 -- a run from one scale to another, where the call is not refused: each stamp at its place as the single calls have it, every one that is not finite by its
 -- number, and the answer is how many numbers are not 0
-pub record Run (rows : List Row) (from to : ℕ) (js ks out1 out2 numbers : List ℕ) : Type 0 where
+pub record ConvertedRun (rows : List Row) (from to : ℕ) (js ks out1 out2 numbers : List ℕ) : Type 0 where
   pub each : (i : ℕ) → i < length js / 8 → StampDone (stampAnswer rows from to js ks i) i out1 out2 (convertedRun (answer rows) from to js ks out1 out2 numbers)
   pub not-finite : (i : ℕ) → i < length js / 8 → StampNotFinite js ks i
       → getD (convertedRun (answer rows) from to js ks out1 out2 numbers .numbers) i 0 ≡ numberOfNotFinite from to

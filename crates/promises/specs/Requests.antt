@@ -1,181 +1,320 @@
 -- The fourteen requests, sentence by sentence. `rows` are those of a table that is taken. Written from document 02. Assumes nothing.
-use Prim.Native.Nat.{ℕ, _+_, _/_, _%_, _≤_, _<_}
-use mathlib.Core.Path.{_≡_}
-use mathlib.Core.Bool.{Bool, true, false}
+use Prim.Native.Nat.{_%_, _*_, _+_, _/_, _<_, _^_, ℕ, _≤_}
+use mathlib.Core.Bool.{_&&_, Bool, false, not, true}
+use mathlib.Core.List.{_++_, List, [], _∷_}
 use mathlib.Core.Logic.{_⊎_}
-use mathlib.Core.List.{List}
-use lib.ListN.{length}
-use lib.IntN.{ℤ, pos, negsuc}
+use mathlib.Core.Path.{_≡_}
+use lib.Dec.{T}
+use lib.Ieee.{Float, binary64, div, fits, isNan, le, lt, nan, ofBits, ofInt}
+use lib.IntN.{negsuc, pos, ℤ}
+use lib.ListN.{drop, getD, length}
 use lib.Signed.{ltZ}
-use lib.Ieee.{Float}
 use Rattle.refusals.specs.Outcome.{answer, refusal}
-use Rattle.floats.specs.Whole.{nought}
+use Rattle.numerals.specs.digits.Hexadecimal.{hex16}
+use Rattle.floats.specs.Whole.{nought, one}
+use Rattle.rounding.specs.Value.{InUnit, Val}
 use Rattle.constants.specs.Constants.{decimal}
+use Rattle.calendar.specs.Calendar.{date, dateOf}
 use Rattle.calendar.specs.Gregorian.{gregorianDate}
+use Rattle.calendar.specs.Refusals.{validDate}
+use Rattle.calendar.specs.declared.CalendarDate.{CalendarDate}
 use Rattle.calendar.specs.laws.RustDate.{rustDate}
-use Rattle.julian.specs.declared.JulianDate.{JulianDate}
-use Rattle.julian.specs.declared.CalendarFields.{CalendarFields}
-use Rattle.julian.specs.declared.same_stamps.Stamp.{Stamp}
-use Rattle.julian.specs.Worth.{SmallParts}
-use Rattle.julian.specs.Finite.{finiteParts}
-use Rattle.julian.specs.Equality.{equal}
 use Rattle.julian.specs.Calendar.{julianToCalendar}
-use Rattle.julian.specs.laws.CalendarAnswers.{DayPlusFraction}
+use Rattle.julian.specs.Equality.{equal}
+use Rattle.julian.specs.Finite.{finiteParts}
+use Rattle.julian.specs.JulianDate.{julian}
+use Rattle.julian.specs.Worth.{SmallParts}
 use Rattle.julian.specs.day_number.ExactDay.{GridSumInRange}
-use Rattle.julian.specs.same_stamps.Same.{same, julianOf}
+use Rattle.julian.specs.declared.CalendarFields.{CalendarFields}
+use Rattle.julian.specs.declared.JulianDate.{JulianDate}
+use Rattle.julian.specs.declared.same_stamps.Stamp.{Stamp}
+use Rattle.julian.specs.laws.CalendarAnswers.{DayPlusFraction}
+use Rattle.julian.specs.same_stamps.Same.{julianOf, same}
 use Rattle.julian.specs.same_stamps.TwoSum.{NoOverflow}
-use Rattle.leap_table.specs.declared.rows.AnnouncedRows.{AnnouncedRows}
+use Rattle.time_of_day.specs.ExactTime.{GoodTime, Leap, leap1959, minus-one-f}
+use Rattle.time_of_day.specs.HalfEven.{dayIsWhole, even, evenCount, inWhole}
+use Rattle.time_of_day.specs.Milliseconds.{wholeLeap}
+use Rattle.time_of_day.specs.TimeShown.{countBy, dayEnd}
+use Rattle.time_of_day.specs.declared.TimeOfDay.{TimeOfDay}
 use Rattle.leap_table.specs.declared.judging.Triple.{Triple}
+use Rattle.leap_table.specs.declared.offsets.Rule.{Rule}
 use Rattle.leap_table.specs.declared.offsets.Rule.the-variants.{Drifting, Whole}
-use Rattle.leap_table.specs.rows.Table.{Row, fixed, starts, mostRows, LastBegun}
-use Rattle.leap_table.specs.rows.Announced.{tableOf, Decision}
-use Rattle.leap_table.specs.offsets.Offset.{taiUtcOffset}
+use Rattle.leap_table.specs.declared.rows.AnnouncedRows.{AnnouncedRows}
+use Rattle.leap_table.specs.judging.Lists.{datesFrom, tripleAt, tripleIn}
 use Rattle.leap_table.specs.offsets.Leap.{leapAtEndOfDay}
-use Rattle.leap_table.specs.offsets.Rule.{ruleOf, offsetByRule, forget}
-use Rattle.leap_table.specs.judging.Judging.{validTriple}
-use Rattle.leap_table.specs.judging.Lists.{datesFrom, tripleIn}
-use Rattle.leap_table.specs.walk.Walk.{tripleOffset}
-use Rattle.leap_table.specs.walk.Rows.{compared}
-use Rattle.leap_table.specs.walk.Lists.{walkOfBytes}
+use Rattle.leap_table.specs.offsets.Offset.{inDay, taiUtcOffset, wholeF}
+use Rattle.leap_table.specs.offsets.Rule.{forget, offsetByRule, ruleOf}
+use Rattle.leap_table.specs.rows.Announced.{Decision, rowsOf, tableOf}
+use Rattle.leap_table.specs.rows.Table.{LastBegun, Row, fixed, starts}
 use Rattle.leap_table.specs.walk.Due.{WalkDecision}
+use Rattle.leap_table.specs.walk.Lists.{walkOfBytes, walkOfNumbers}
+use Rattle.leap_table.specs.walk.Rows.{compared, inTime, lastReached, withRowLeft}
+use Rattle.leap_table.specs.walk.Walk.{tripleOffset}
 use Rattle.leap_days.specs.Tables.{LeapOn}
-use Rattle.scales.specs.laws.Ranges.{Held}
-use Rattle.scales.specs.gps_weeks.WeekDate.{weekDate}
-use Rattle.scales.specs.gps_weeks.WeekOf.{weekOf, weekTime}
-use Rattle.scales.specs.gps_weeks.FullWeek.{fullWeek, NearestWeek, Tie}
+use Rattle.scales.specs.declared.gps_weeks.WeekTime.{WeekTime}
 use Rattle.scales.specs.gps_week_laws.Decisions.{FromWeek, ToWeek}
+use Rattle.scales.specs.gps_week_laws.NearDate.{OfCount}
+use Rattle.scales.specs.gps_week_laws.OnCalendar.{OnCalendar}
+use Rattle.scales.specs.gps_weeks.FullWeek.{NearestWeek, Tie, fullWeek}
+use Rattle.scales.specs.gps_weeks.WeekDate.{partOfDay, weekDate}
+use Rattle.scales.specs.gps_weeks.WeekOf.{weekAt, weekOf, weekTime}
+use Rattle.scales.specs.laws.Ranges.{Held}
+use Rattle.utc_scales.specs.ByRule.{utcToTaiByRule}
+use Rattle.utc_scales.specs.UtcTai.{utcToTai}
+use Rattle.utc_scales.specs.days.DateRule.{ruleOfDate}
+use Rattle.utc_scales.specs.days.LargerPart.{keptParts}
 use Rattle.utc_scales.specs.laws.Twenty.{Twenty, announcedAnswer, answerOfAny, readsTable}
 use Rattle.utc_scales.specs.round_trip.Ranges.{HalfDaySplit}
 use Rattle.utc_scales.specs.round_trip.RoundTrip.{ThereAndBack}
-use Rattle.utc.specs.text.Text.{utcText}
-use Rattle.utc.specs.text.Expanded.{expandedText}
-use Rattle.utc.specs.iso_texts.IsoText.{standardForm, isoText}
-use Rattle.utc.specs.iso_texts.HalfEven.{halfEvenForm, isoTextHalfEven}
-use Rattle.utc.specs.iso_texts.Expanded.{expandedForm, isoTextExpanded}
+use Rattle.utc_scales.specs.to_ut1.ByRule.{utcToUt1ByRule}
+use Rattle.utc_scales.specs.to_ut1.UtcUt1.{utcToUt1}
+use Rattle.utc.specs.FromCalendar.{utcFromCalendar}
 use Rattle.utc.specs.iso_texts.ByRule.{textByRule}
-use Rattle.utc.specs.laws.Promises.{evenPromise, expandedPromise}
-use Rattle.utc.specs.laws.OneText.{OneText}
+use Rattle.utc.specs.iso_texts.Expanded.{expandedForm, isoTextExpanded}
+use Rattle.utc.specs.iso_texts.HalfEven.{halfEvenForm, isoTextHalfEven}
+use Rattle.utc.specs.iso_texts.IsoText.{isoText, isoTextBy}
+use Rattle.utc.specs.iso_texts.TextForm.{TextForm}
 use Rattle.utc.specs.laws.Beside.{Beside}
-use Rattle.parsing.specs.scan.Written.{Written}
+use Rattle.utc.specs.laws.OneText.{OneText}
+use Rattle.utc.specs.laws.Promises.{evenPromise, expandedPromise}
+use Rattle.utc.specs.text.Ascii.{asciiBytes}
+use Rattle.utc.specs.text.Expanded.{expandedText, expandedYear}
+use Rattle.utc.specs.text.Text.{afterYear, utcText, yearText}
+use Rattle.parsing.specs.Grammar.{AllBlank, Reads}
 use Rattle.parsing.specs.Judging.{quotient}
-use Rattle.parsing.specs.Grammar.{Reads}
 use Rattle.parsing.specs.Parsed.{parsed, parsedUtc}
-use Rattle.parsing_laws.specs.Verdict.{Verdict}
+use Rattle.parsing.specs.declared.ParsedDateTime.{ParsedDateTime}
+use Rattle.parsing.specs.scan.Written.{Written}
+use Rattle.parsing_laws.specs.Shown.{ReadsBack, YearShown}
+use Rattle.parsing_laws.specs.SixFields.{SixFields}
 use Rattle.parsing_laws.specs.UtcVerdict.{UtcVerdict}
-use Rattle.parsing_laws.specs.Shown.{YearShown, ReadsBack}
+use Rattle.parsing_laws.specs.Verdict.{Verdict}
+use Rattle.reasons.specs.Decision.{SentenceDecision}
 use Rattle.reasons.specs.declared.Values.{Values}
 use Rattle.reasons.specs.declared.sentences.Reason.{Reason}
-use Rattle.reasons.specs.sentences.Render.{render}
-use Rattle.reasons.specs.Decision.{SentenceDecision}
+use Rattle.reasons.specs.sentences.Render.{floatDigits, render}
+use Rattle.stamps.specs.Block.{blockOf, stampAt}
+use Rattle.stamps.specs.Listing.{textAt}
+use Rattle.stamps.specs.Parts.{lineOf, linesIn, partsJoined}
 use Rattle.stamps.specs.declared.Reporting.{Reporting}
 use Rattle.stamps.specs.declared.Reporting.the-variants.{Numbers}
 use Rattle.stamps.specs.reason_laws.Reader.{OfMachine}
-use Rattle.stamps.specs.Block.{blockOf}
-use Rattle.stamps.specs.Listing.{lineRoom}
-use Rattle.stamps.specs.Parts.{lineOf, linesIn, partsJoined}
 use Rattle.ticks.specs.declared.TicksAnswer.{TicksAnswer}
-use Rattle.ticks.specs.Ticks.{TicksCall, placedTicks}
-use Rattle.ticks.specs.laws.Reasons.{TicksMeaning}
-use Rattle.standby.specs.declared.UtcTime.{UtcTime}
+use Rattle.ticks.specs.declared.TicksAnswer.the-variants as Ticks
+use Rattle.ticks.specs.laws.Reasons.{ExactlyWhen, PlacedRight}
 use Rattle.standby.specs.Bills as B
+use Rattle.standby.specs.Times.{instant, offsetOnDate}
+use Rattle.standby.specs.declared.UtcTime.{UtcTime}
+use Rattle.standby_laws.specs.Decisions.{TimeDecision}
 use Rattle.standby_laws.specs.Meaning.{BillMeaning}
-use Rattle.standby_laws.specs.Sharing.{Shared}
+use Rattle.standby_laws.specs.Sharing.{Cent, Shared}
+use Rattle.standby_laws.specs.Verdict.{asCalendar, faultOf}
+use Rattle.c_answers.specs.table.RecordBytes.{MachineRecord, recordBytes}
+use Rattle.c_answers.specs.table.TableBytes.{tableBytes}
+use Rattle.promises.specs.Demands.{Demand3}
+use Rattle.promises.specs.Terms.{EachText, FieldNamed, NoneNamed, RuleNames, SameRows, Walks, three-2048ths}
 
 pub record Request1 (rows : List Row) : Type 0 where
-  -- "the accepted set is stated as a grammar apart from the reader, with one reading each"; a UTC text may have one Z, blanks around it are dropped
-  pub one-reading : (utc : Bool) (s : List ℕ) (v w : Written) → Reads utc s v → Reads utc s w → v ≡ w
-  -- "The answer is the six fields; a UTC text must name what utc_from_calendar accepts and gives its date too"; 15, then 16, then 01's numbers
-  pub read : (utc : Bool) (s : List ℕ) → Verdict utc s (parsed utc s)
-  pub read-utc : (s : List ℕ) → UtcVerdict rows s (parsedUtc rows s)
-  -- "so it is one whole number divided once by a power of ten": the float nearest to the decimal
+  -- "a UTC text may also have one Z directly after its seconds"
+  pub one-z : (s : List ℕ) (w : Written) (r : Reads true s w) → w .zulu ≡ false → r .pieces .after ≡ [] → parsed true (s ++ (90 ∷ [])) ≡ parsed true s
+  -- "Blanks around a text are dropped if they are bytes 9 to 13 or 32"
+  pub blanks : (utc : Bool) (s : List ℕ) (w : Written) → Reads utc s w → (b a : List ℕ) → AllBlank b → AllBlank a → parsed utc (b ++ (s ++ a)) ≡ parsed utc s
+  -- "The second is digits only, with a fraction, if any, of 1 to 13 digits, so it is one whole number divided once by a power of ten": the nearest float
   pub divided-once : (n places : ℕ) → n ≤ 1000000000000000 → places ≤ 13 → quotient n places ≡ decimal n places
+  -- "The answer is the six fields; a UTC text must name what utc_from_calendar accepts and gives its date too."
+  pub six-fields : (utc : Bool) (s : List ℕ) (f : ParsedDateTime) → parsed utc s ≡ answer f → SixFields utc s f
+  pub read-utc : (s : List ℕ) → UtcVerdict rows s (parsedUtc rows s)
+  -- "The accepted set is stated as a grammar apart from the reader, with one reading each."
+  pub one-reading : (utc : Bool) (s : List ℕ) (v w : Written) → Reads utc s v → Reads utc s w → v ≡ w
   -- "Every UTC text that we write and whose shown year is 1972 to 9999 reads back as its fields."
-  pub reads-back : (d : JulianDate) → Held d → (s : List ℕ) → YearShown s → isoText rows d ≡ answer s → ReadsBack rows s
+  pub reads-back : (d : JulianDate) → Held d → (s : List ℕ) → YearShown s → EachText rows (λ text. text d ≡ answer s → ReadsBack rows s)
+  -- "Turned away: 15 for a text outside the grammar with any number of fraction digits from 1 up, first"; "16 (a difference too) for more than 13, next; then
+  -- 01's date and time numbers, where hour above 23, minute above 59 or second from 61 up are 4."
+  pub read : (utc : Bool) (s : List ℕ) → Verdict utc s (parsed utc s)
 
-pub record Request2 (rows : List Row) : Type 0 where
-  -- "Give the offsets at 0h for a slice": which dates are refused by which number, and the offset of each is that of the look-up
-  pub decided : (s : List ℕ) (d : Triple) (room : ℕ)
+pub record Request2 (t : AnnouncedRows) (rows : List Row) : Type 0 where
+  -- "Give the offsets at 0h for a slice of signed 32-bit numbers, year, month, day triples"; "Each offset is that of 01's single lookup."
+  pub offsets : (ds : List Triple) (d : Triple) (before after : List Float) (c : ℕ) → Walks t ds before c after → (i : ℕ) → i < length ds
+      → taiUtcOffset (rowsOf t) (getD ds i d .year) (getD ds i d .month) (getD ds i d .day) nought ≡ answer (getD after i (tripleOffset (rowsOf t) d))
+  -- "spare places of a lent list stay"
+  pub spare : (ds : List Triple) (d : Triple) (before after : List Float) (c : ℕ) → Walks t ds before c after
+      → drop (length ds) after ≡ drop (length ds) before
+  -- "the number of rows compared, equal to a definition's count and at most the dates plus 42. A row counts each time a date's month is held against the
+  -- start of the next row not yet reached."
+  pub at-most : (months : List ℕ) → compared (starts fixed) months ≤ length months + 42
+  pub counted : (months : List ℕ) → T (inTime 0 months) → compared (starts rows) months ≡ lastReached (starts rows) 0 months + withRowLeft (starts rows) months
+  -- "Turned away: 14 for a broken triple, then 11 for fewer offset places than dates; then, date by date, a bad one by its own number, then 17 for one
+  -- earlier than the one before it."
+  pub decided : (l : List ℤ) (d : Triple) (places : ℕ)
+      → WalkDecision rows (length l % 3) (datesFrom (tripleAt l) 0 (length l / 3)) d 1 places (walkOfNumbers rows l places)
+  pub decided-bytes : (s : List ℕ) (d : Triple) (room : ℕ)
       → WalkDecision rows (length s % 12) (datesFrom (tripleIn s) 0 (length s / 12)) d 8 room (walkOfBytes rows s room)
-  -- "Each offset is that of 01's single lookup."
-  pub single-look-up : (d : Triple) → validTriple d ≡ answer tt → taiUtcOffset rows (d .year) (d .month) (d .day) nought ≡ answer (tripleOffset rows d)
-  -- "at most the dates plus 42", and 58 with announced rows
-  pub rows-compared : (months : List ℕ) → compared (starts rows) months ≤ length months + mostRows
 
--- "No answer changes."
 pub record Request3 : Type 0 where
+  -- "The shifted number -1, which gives -02-30, is kept as its own case."
+  pub own-case : gregorianDate (negsuc 68569) ≡ date (negsuc 4899) 2 30
+  -- "No answer changes."
   pub same : (n : ℤ) → ltZ n (negsuc 68569) ≡ false → ltZ (pos 1000000000) n ≡ false → rustDate n ≡
       record { year = gregorianDate n .year; month = pos (gregorianDate n .month); day = pos (gregorianDate n .day) }
 
--- "the shown time is within 0.5 ms of the exact one on the grid"; one text for all divisions, and 01's refusals
 pub record Request4 (rows : List Row) : Type 0 where
+  -- "decided on whole numbers for a fraction that is a multiple of 2^-52, on days of 86,400 or 86,401 s"; item 8: "counts such a day in whole numbers too"
+  pub whole-numbers : (f : Float) (F : ℕ) → Val f F 0 0x10_0000_0000_0000 → F < 0x10_0000_0000_0000 → (l : Float) → dayIsWhole l ≡ true
+      → evenCount f l ≡ even false (F * dayEnd l) 0x10_0000_0000_0000
+  pub whole-days : (dayIsWhole nought ≡ true) × (dayIsWhole one ≡ true) × (dayIsWhole minus-one-f ≡ true)
+  -- "Midnight of 2000-01-01 plus 3/2048 day is 126,562.5 ms: the old text ends in 02:06.563, the new in 02:06.562."
+  pub old-text : isoText fixed (julian (decimal 24515445 1) three-2048ths) ≡ answer (asciiBytes "2000-01-01T00:02:06.563")
+  pub new-text : isoTextHalfEven fixed (julian (decimal 24515445 1) three-2048ths) ≡ answer (asciiBytes "2000-01-01T00:02:06.562")
+  -- "A fraction off that grid, and all of 1959-12-31, is rounded by the exact value of the float that 01's call rounds."
+  pub by-the-float : (f x : Float) → T (fits binary64 f) → InUnit f → Leap x → inWhole f (wholeLeap x) ≡ false
+      → evenCount f (wholeLeap x) ≡ countBy even f (wholeLeap x)
+  pub not-1959 : dayIsWhole (wholeLeap leap1959) ≡ false
+  -- "For this sheet the shown time is within 0.5 ms of the exact one on the grid, on days of those two lengths."
   pub text : (sum : ℤ) → GridSumInRange sum → OneText halfEvenForm evenPromise rows sum
-  pub refusals : (d : JulianDate) (n : ℕ) → isoText rows d ≡ refusal n → isoTextHalfEven rows d ≡ refusal n
 
-pub record Request5 (rows : List Row) : Type 0 where
-  -- "the row named is the last whose month has begun"
-  pub drifting : (n i : ℕ) → ruleOf rows n ≡ Drifting i → LastBegun (starts rows) n i
-  pub whole : (n i : ℕ) → ruleOf rows n ≡ Whole i → LastBegun (starts rows) n i
-  -- "All numbers and refusals match those of before"
+pub record Request5 (t : AnnouncedRows) (rows : List Row) : Type 0 where
+  -- "The single lookup now also says which table row, counted from 0, gave the offset and whether it was absent (before 1960, no row), drifting (rows 0 to 13)
+  -- or whole."
+  pub row : (n : ℕ) → RuleNames t rows n
+  -- "UTC to TAI, UTC to UT1 and the text calls pass on that of the calendar's date at 0h."
+  pub by-tai : (d x : JulianDate) (r : Rule) → utcToTaiByRule rows d ≡ answer (x, r) → ruleOfDate rows (keptParts d .larger) (keptParts d .smaller) ≡ answer r
+  pub by-ut1 : (d x : JulianDate) (s : Float) (r : Rule) → utcToUt1ByRule rows d s ≡ answer (x, r) → ruleOfDate rows (d .jd1) (d .jd2) ≡ answer r
+  pub by-texts : (form : TextForm) (d : JulianDate) (s : List ℕ) (r : Rule) → textByRule form rows d ≡ answer (s, r) → ruleOfDate rows (d .jd1) (d .jd2) ≡ answer r
+  -- "All numbers and refusals match those of before, and the row named is the last whose month has begun."
   pub same-offset : (y m d : ℤ) (f : Float) → forget (offsetByRule rows y m d f) ≡ taiUtcOffset rows y m d f
-  pub same-text : (d : JulianDate) → forget (textByRule standardForm rows d) ≡ isoText rows d
+  pub same-tai : (d : JulianDate) → forget (utcToTaiByRule rows d) ≡ utcToTai rows d
+  pub same-ut1 : (d : JulianDate) (s : Float) → forget (utcToUt1ByRule rows d s) ≡ utcToUt1 rows d s
+  pub same-text : (form : TextForm) (d : JulianDate) → forget (textByRule form rows d) ≡ isoTextBy form rows d
+  pub drifting-last : (n i : ℕ) → ruleOf rows n ≡ Drifting i → LastBegun (starts rows) n i
+  pub whole-last : (n i : ℕ) → ruleOf rows n ≡ Whole i → LastBegun (starts rows) n i
 
--- "Different divisions of one date on demand 3's grid must still print alike"; a sign and seven digits outside 0000 to 9999
 pub record Request6 (rows : List Row) : Type 0 where
-  pub text : (sum : ℤ) → GridSumInRange sum → OneText expandedForm expandedPromise rows sum
-  pub beside-01 : (d : JulianDate) → Beside utcText expandedText (isoText rows d) (isoTextExpanded rows d)
+  -- "Add a text call like 01's that writes such years as a sign and seven digits, so -1 is `-0000001` and 12000 is `+0012000`."
+  pub like-01 : (d : JulianDate) → Beside utcText expandedText (isoText rows d) (isoTextExpanded rows d)
+  pub to-9999 : (d : CalendarDate) (u : TimeOfDay) (n : ℕ) → d .year ≡ pos n → n ≤ 9999 → expandedText d u ≡ utcText d u
+  pub after-year : (d : CalendarDate) (u : TimeOfDay)
+      → (expandedText d u ≡ expandedYear (d .year) ++ afterYear d u) × (utcText d u ≡ yearText (d .year) ++ afterYear d u)
+  pub minus-1 : expandedYear (negsuc 0) ≡ asciiBytes "-0000001"
+  pub year-12000 : expandedYear (pos 12000) ≡ asciiBytes "+0012000"
+  -- "The lister uses it from then on."
+  pub lister : (s : List ℕ) (n i : ℕ) → textAt rows s n i ≡ isoTextExpanded rows (stampAt s n i)
+  -- "Its longest text is 27 bytes, and 11 is judged by the new length. Different divisions of one date on demand 3's grid must still print alike."
   pub length-23-or-27 : (d : JulianDate) (s : List ℕ) → isoTextExpanded rows d ≡ answer s → (length s ≡ 23) ⊎ (length s ≡ 27)
+  pub text : (sum : ℤ) → GridSumInRange sum → OneText expandedForm expandedPromise rows sum
 
 pub record Request7 : Type 0 where
+  -- "counted from 1980-01-06 0h GPS"; "whole weeks up to 100,000, milliseconds below 604,800,000. The date's jd1 is its day's midnight, jd2 the day's
+  -- milliseconds / 86,400,000, rounded once."
+  pub first-day : dateOf (pos 2444245) ≡ date (pos 1980) 1 6
   pub to-date : (week ms : ℕ) → FromWeek week ms (weekDate week ms)
-  pub to-week : (d : JulianDate) → ToWeek d (weekOf d)
+  pub on-its-day : (week ms : ℕ) (d : JulianDate) → weekDate week ms ≡ answer d → OnCalendar week ms d
+  pub rounded-once : (ms : ℕ) → ms ≤ 2 ^ 53 → div binary64 (ofInt binary64 (pos ms)) (decimal 86400000 0) ≡ partOfDay ms
+  -- "The way back takes document 01's day and fraction, multiplies the fraction by 86,400,000 as floats and rounds that product halves up, carrying into the
+  -- next day."
+  pub way-back : (count : ℕ) (t : WeekTime) → weekAt count ≡ answer t → OfCount count t
+  -- "The result is the week with those ten bits that lies nearest the reference and is not below 0."
+  pub nearest : (bits reference w : ℕ) → fullWeek bits reference ≡ answer w → NearestWeek bits reference w × (w ≤ 99511)
+  pub nearest-given : (bits reference w : ℕ) → bits < 1024 → reference ≤ 99000 → NearestWeek bits reference w → fullWeek bits reference ≡ answer w
   -- "Week and millisecond turned into a date and back are the same pair."
   pub there-and-back : (week ms : ℕ) (d : JulianDate) → weekDate week ms ≡ answer d → weekOf d ≡ answer (weekTime week ms)
-  -- "the week with those ten bits that lies nearest the reference and is not below 0"
-  pub nearest : (bits reference w : ℕ) → fullWeek bits reference ≡ answer w → NearestWeek bits reference w × (w ≤ 99511)
-  pub ties : (bits reference : ℕ) → fullWeek bits reference ≡ refusal 19 → Tie bits reference
+  -- "Turned away: 9 and then 6 for a date as in 01; 18 for a field over its limit or a rounded date before the first week or past the last; then 19 where two
+  -- weeks not below 0 are equally near."
+  pub to-week : (d : JulianDate) → ToWeek d (weekOf d)
+  pub over : (bits reference : ℕ) → (1024 ≤ bits) ⊎ (99000 < reference) → fullWeek bits reference ≡ refusal 18
+  pub tied : (bits reference : ℕ) → bits < 1024 → reference ≤ 99000 → Tie bits reference → fullWeek bits reference ≡ refusal 19
+  pub ties-only : (bits reference : ℕ) → fullWeek bits reference ≡ refusal 19 → Tie bits reference
 
 pub record Request8 (t : AnnouncedRows) (rows : List Row) : Type 0 where
-  -- 20, 21, 22, "each test over all rows before the next and before every other refusal"
+  -- "unread past the size"
+  pub unread : (u : AnnouncedRows) → SameRows t u → tableOf t ≡ tableOf u
+  -- "From C it is these 136 bytes, little-endian; any other length is 14, before 20."
+  pub from-bytes : MachineRecord t → tableBytes (recordBytes t) ≡ tableOf t
+  pub other-length : (s : List ℕ) → (length s ≡ 136 → ⊥) → tableBytes s ≡ refusal 14
+  -- "With no lent rows every answer stays."
+  pub no-rows : t .«months_size» ≡ 0 → t .«seconds_size» ≡ 0 → tableOf t ≡ answer fixed
+  pub same-answers : t .«months_size» ≡ 0 → t .«seconds_size» ≡ 0 → (k : Twenty) (d : JulianDate) → announcedAnswer t k d ≡ answerOfAny fixed k d
+  -- "The walk of item 2 may then compare at most the dates plus 58 rows."
+  pub at-most : (months : List ℕ) → compared (starts rows) months ≤ length months + 58
+  -- "A step of -1 s makes the day's text end at 86,399,000 ms and its last minute end below 59 s."
+  pub short-text : (u : TimeOfDay) → GoodTime u minus-one-f → 3600000 * u .hour + 60000 * u .minute + 1000 * u .second + u .milli < 86399000
+  pub short-minute : (y : ℤ) (m d : ℕ) → validDate y (pos m) (pos d) ≡ answer tt → leapAtEndOfDay rows y (pos m) (pos d) ≡ answer minus-one-f
+      → (second : Float) → le nought second && lt second (decimal 59 0) ≡ false → utcFromCalendar rows y m d 23 59 second ≡ refusal 4
+  -- "The exact day length follows the table, and for each table that isn't turned away all of demand 3 holds, and item 1's law under one table."
+  pub every-leap : (y m d : ℤ) (x : Float) → leapAtEndOfDay rows y m d ≡ answer x → LeapOn rows y m d x
+  pub all-of-demand-3 : Demand3 rows
+  pub law-of-item-1 : Request1 rows
+  -- "Turned away, each test over all rows before the next and before every other refusal of the call: 20 for sizes unequal or above 16; 21 for a row not later
+  -- than the one before; 22 for a step other than one second up or down."
   pub table : Decision t
   pub table-first : (k : Twenty) (d : JulianDate) (n : ℕ) → readsTable k ≡ true → tableOf t ≡ refusal n → announcedAnswer t k d ≡ refusal n
-  -- "With no lent rows every answer stays."
-  pub no-rows : t .«months_size» ≡ 0 → t .«seconds_size» ≡ 0 → (k : Twenty) (d : JulianDate) → announcedAnswer t k d ≡ answerOfAny fixed k d
-  -- "The exact day length follows the table"
-  pub every-leap : (y m d : ℤ) (x : Float) → leapAtEndOfDay rows y m d ≡ answer x → LeapOn rows y m d x
 
 pub record Request9 : Type 0 where
-  -- "the same stamp means the same scale and both parts with the same bits"
+  -- "the same stamp means the same scale and both parts with the same bits, so 0.0 and -0.0 differ. A NaN with the same bits is the same stamp."
   pub same-is : (a b : Stamp) → same a b ≡ true → a ≡ b
   pub is-same : (a b : Stamp) → a ≡ b → same a b ≡ true
+  pub patterns-apart : (m n : ℕ) → m < 2 ^ 64 → n < 2 ^ 64 → T (not (isNan (ofBits binary64 m))) → T (not (isNan (ofBits binary64 n)))
+      → ofBits binary64 m ≡ ofBits binary64 n → m ≡ n
   -- "Equal by this test and finite implies equal by 01's wherever 01's two-sum doesn't overflow."
   pub equal-too : (a b : Stamp) → same a b ≡ true → finiteParts (julianOf a) ≡ true → NoOverflow (julianOf a .jd1) (julianOf a .jd2)
       → equal (julianOf a) (julianOf b) ≡ true
 
--- exact at a pass, never earlier, less than 1 ms below the line; 11, 23, 24, 25 in this order; what lies behind stays
-pub record Request10 : Type 0 where
-  pub call : (ps ms ts before after : List ℕ) (r : TicksAnswer) → TicksCall (placedTicks ps ms ts (length before)) before r after
-      → TicksMeaning ps ms ts before r after
+-- of a call over passes (ps, ms) and ticks ts, in bytes, that answers r and leaves `after` where `before` was
+pub record Request10 (ps ms ts before after : List ℕ) (r : TicksAnswer) : Type 0 where
+  -- "give each a TAI millisecond on the straight line between its neighbours, rounded down. A tick at a pass gives that pass's millisecond exactly. A later
+  -- tick never gets an earlier time, and each result is less than 1 ms below the exact line."
+  pub placed : r ≡ Ticks.Written (length ts) → PlacedRight ps ms ts before after
+  -- "From a recorded list of 2 to 2,000 passes, with numbers below 2^40"; "Turned away whole, in this order: 11 for fewer result places than ticks; 23 for
+  -- unequal, too few or too many passes or too large a number in them; 24 for passes not strictly rising in both; 25 for a tick outside them."
+  pub decided : ExactlyWhen ps ms ts (length before) r
+  pub refused-whole : (n : ℕ) → r ≡ Ticks.Refused n → after ≡ before
 
--- quarters, both shares and every refusal; "The shares add up to quarters × rate, and each is within one cent of its exact part"
 pub record Request11 (rows : List Row) : Type 0 where
-  pub bill : (start end : UtcTime) (rate a b : ℕ) → BillMeaning rows start end rate a b (B.standbyBill rows start end rate a b)
+  -- "Crews bill each started 900 s between two UTC times given to the millisecond, from 1972 on, leap seconds counted."
+  pub started : (e : ℕ) → e ≤ 900000 * B.quarters e
+  pub no-more : (e q : ℕ) → e ≤ 900000 * q → B.quarters e ≤ q
+  pub leap-seconds : (u : UtcTime) → ltZ (u .year) (pos 1972) ≡ false → validDate (u .year) (pos (u .month)) (pos (u .day)) ≡ answer tt → (f : Float)
+      → inDay f ≡ true → taiUtcOffset rows (u .year) (pos (u .month)) (pos (u .day)) f ≡ answer (wholeF (offsetOnDate rows u))
+  -- "both shares are rounded down, and a cent left over goes to the larger remainder, a tie to the first. The shares add up to quarters × rate, and each is
+  -- within one cent of its exact part. Equal times cost 0."
+  pub cent : (q total a b : ℕ) → 0 < a + b → Cent total a b (B.shares q total a b)
   pub shares : (q total a b : ℕ) → 0 < a + b → Shared q total a b (B.shares q total a b)
+  pub equal-times : (s rate a b : ℕ) → rate ≤ 1000000 → a ≤ 1000000 → b ≤ 1000000 → 0 < a + b → B.billBetween s s rate a b ≡ answer (B.bill 0 0 0)
+  -- "A date or time fault has `utc_from_calendar`'s number, a millisecond over 999 is 4, the start looked at before the end; years before 1972 are number 1."
+  pub faults : (u : UtcTime) → ltZ (u .year) (pos 1972) ≡ false → u .millis ≤ 999 → u .second < 256 → faultOf (instant rows u) ≡ faultOf (asCalendar rows u)
+  pub time : (u : UtcTime) → TimeDecision rows u
+  -- "Turned away after those: 26 for an end before the start; 27 for a number over its limit; 28 for both lengths 0."
+  pub bill : (start end : UtcTime) (rate a b : ℕ) → BillMeaning rows start end rate a b (B.standbyBill rows start end rate a b)
 
--- "byte for byte what the larger scratch gave"; "The longest line is 33 bytes"
 pub record Request12 (rows : List Row) : Type 0 where
-  pub alike : (how : Reporting) (s : List ℕ) (a b j k : ℕ) → lineRoom how ≤ a → lineRoom how ≤ b → linesIn (blockOf s) ≤ j → linesIn (blockOf s) ≤ k
-      → partsJoined how rows s a j ≡ partsJoined how rows s b k
+  -- "The longest line is 33 bytes."
   pub line-33 : (s : List ℕ) (line : ℕ) → length (lineOf Numbers rows (blockOf s) s line) ≤ 33
+  pub line-of-33 : (s : List ℕ) × (line : ℕ) × (blockOf s ≡ answer 1001) × (length (lineOf Numbers rows (blockOf s) s line) ≡ 33)
+  -- "The lister now writes through a 64-byte scratch in place of 4,096 bytes."; "Output for every block, refused ones included, is byte for byte what the
+  -- larger scratch gave."
+  pub alike : (how : Reporting) (s : List ℕ) (k : ℕ) → linesIn (blockOf s) ≤ k → partsJoined how rows s 64 k ≡ partsJoined how rows s 4096 k
 
-pub record Request13 : Type 0 where
-  -- "one not 1 to 28 is 18"; the field at fault by that number's own test
+pub record Request13 (rows : List Row) : Type 0 where
+  -- "the sentence call takes its number (one not 1 to 28 is 18) and the values 01's test reads"
   pub decided : (n : ℕ) (v : Values) → SentenceDecision n v
-  -- "Two sentences are the same only if refusal number, field and value are the same"
+  -- "1 to 3 the wrong one, 4 the first wrong one, 6 the rounded sum, 7 the fraction, 8 the nanos, 9 the first bad part, 10 the offset, 12 the second size, 13
+  -- the size, 14 the whole length"
+  pub names : FieldNamed rows
+  -- "other numbers, and values that pass, name none"
+  pub no-name : NoneNamed rows
+  -- "Two sentences are the same only if refusal number, field and value are the same, any NaN counting as any other."
   pub same-only-if : (r s : Reason) → 1 ≤ r .number → r .number ≤ 28 → OfMachine (r .named) → 1 ≤ s .number → s .number ≤ 28 → OfMachine (s .named)
       → render r ≡ render s → r ≡ s
+  -- "A second listing program prints them in place of `refused` and the number, on stamp lines and after `block`, not in the header"
+  pub header-shared : (how other : Reporting) (s : List ℕ) (n : ℕ) → blockOf s ≡ answer n → lineOf how rows (blockOf s) s 0 ≡ lineOf other rows (blockOf s) s 0
+  -- "floats are shown as 16 hexadecimal digits of their bits, any NaN as 7ff8000000000000"
+  pub nan-shown : floatDigits nan ≡ asciiBytes "7ff8000000000000"
+  pub hex-shown : hex16 0x0123_4567_89ab_cdef ≡ asciiBytes "0123456789abcdef"
 
 pub record Request14 (rows : List Row) : Type 0 where
-  -- "show that UTC and back lies within 1 ns of it, leap days included": within 173 ps
+  -- "For a TAI date whose jd1 is a multiple of 0.5 from 2441319.5 to 5000000.5 and whose jd2 is at most 1 in size, show that UTC and back lies within 1 ns of it,
+  -- leap days included, for the fixed table."; by every table within 173 ps
+  pub one-nanosecond : {d : JulianDate} → HalfDaySplit d → ThereAndBack fixed 1000 d
   pub there-and-back : {d : JulianDate} → HalfDaySplit d → ThereAndBack rows 173 d
-  -- "day number plus fraction is within 2^-51 day of the exact sum plus one half"
+  -- "for any two parts under 2^52 in size that the calendar accepts, on the grid or off it, day number plus fraction is within 2^-51 day of the exact sum plus
+  -- one half (-4900-02-30 counts as day -68570)"
   pub day : (d : JulianDate) → SmallParts d → (f : CalendarFields) → julianToCalendar (d .jd1) (d .jd2) ≡ answer f → DayPlusFraction d f

@@ -1,0 +1,125 @@
+-- WHICH ROW A RULE NAMES, WHICH FIELD A SENTENCE NAMES, and what a rule passed on is, for every table that is taken. Assumes nothing.
+use mathlib.Core.Path.{_≡_, refl, ap, _∙_}
+use mathlib.Core.Bool.{Bool, true, false}
+use mathlib.Core.List.{List}
+use Prim.Native.Nat.{ℕ, _+_, _*_, _<_}
+use native.Mathlib.Omega.{arith}
+use lib.Dec.{ltb}
+use lib.Ieee.{Float, lt, ofBits}
+use borrow.Author.Tests.{ltb-true, ltb-false}
+use Rattle.refusals.specs.Outcome.{Outcome, answer, onward}
+use Rattle.refusals.proofs.Onward.{came, went}
+use Rattle.julian.specs.declared.CalendarFields.{CalendarFields}
+use Rattle.julian.specs.declared.JulianDate.{JulianDate}
+use Rattle.julian.specs.Calendar.{julianToCalendar}
+use Rattle.leap_table.specs.declared.offsets.Rule.{Rule}
+use Rattle.leap_table.specs.declared.rows.AnnouncedRows.{AnnouncedRows}
+use Rattle.leap_table.specs.rows.Table.{Row}
+use Rattle.leap_table.specs.rows.Announced.{tableOf}
+use Rattle.leap_table.specs.offsets.Rule.{ruleOn, withRule}
+use Rattle.leap_table.proofs.offsets.RuleLaws as Rules
+use Rattle.time_of_day.specs.declared.TimeOfDay.{TimeOfDay}
+use Rattle.time_of_day.specs.ExactTime.{GoodTime, minus-one-f}
+use Rattle.utc_scales.specs.ByRule.{utcToTaiByRule}
+use Rattle.utc_scales.specs.UtcTai.{utcToTai}
+use Rattle.utc_scales.specs.days.DateRule.{ruleOfDate}
+use Rattle.utc_scales.specs.days.LargerPart.{keptParts}
+use Rattle.utc_scales.specs.to_ut1.ByRule.{utcToUt1ByRule}
+use Rattle.utc_scales.specs.to_ut1.UtcUt1.{utcToUt1}
+use Rattle.utc_scales.proofs.days.Rules.{taken-apart}
+use Rattle.utc.specs.iso_texts.IsoText.{dayTextBy}
+use Rattle.utc.specs.iso_texts.TextForm.{TextForm}
+use Rattle.utc.specs.iso_texts.ByRule.{textByRule}
+use Rattle.stamps.proofs.reason_laws.Names as Reported
+use Rattle.promises.specs.Terms.{RuleNames, FieldNamed, NoneNamed}
+
+-- ---- a rule passed on is that of the calendar's date
+module _ (rows : List Row) where
+  pub tai-passes-on : (d x : JulianDate) (r : Rule) → utcToTaiByRule rows d ≡ answer (x, r)
+      → ruleOfDate rows (keptParts d .larger) (keptParts d .smaller) ≡ answer r
+  unfolding utcToTaiByRule
+  tai-passes-on d x r e = taken-apart (utcToTai rows d) (ruleOfDate rows (keptParts d .larger) (keptParts d .smaller)) x r e .1
+
+  pub ut1-passes-on : (d x : JulianDate) (s : Float) (r : Rule) → utcToUt1ByRule rows d s ≡ answer (x, r) → ruleOfDate rows (d .jd1) (d .jd2) ≡ answer r
+  unfolding utcToUt1ByRule
+  ut1-passes-on d x s r e = taken-apart (utcToUt1 rows d s) (ruleOfDate rows (d .jd1) (d .jd2)) x r e .1
+
+  pub texts-pass-on : (form : TextForm) (d : JulianDate) (s : List ℕ) (r : Rule) → textByRule form rows d ≡ answer (s, r)
+      → ruleOfDate rows (d .jd1) (d .jd2) ≡ answer r
+  unfolding textByRule withRule ruleOfDate onward
+  texts-pass-on form d s r e =
+      let (c, p, q) = came (julianToCalendar (d .jd1) (d .jd2)) (λ c. withRule (dayTextBy form rows (c .date) (c .fraction)) (ruleOn rows (c .date))) (s, r) e in
+      let (a, u, v) = came (dayTextBy form rows (c .date) (c .fraction)) (λ a. answer (a, ruleOn rows (c .date))) (s, r) q in
+      went (λ (f : CalendarFields). answer (ruleOn rows (f .date))) p ∙ ap (λ (o : Outcome (List ℕ × Rule)). onward o (λ w. answer (w .1))) v
+
+-- ---- a day that ends a second early
+pub short-day-ends : (u : TimeOfDay) → GoodTime u minus-one-f → 3600000 * u .hour + 60000 * u .minute + 1000 * u .second + u .milli < 86399000
+unfolding lt ofBits
+short-day-ends u g = go (ltb (u .hour) 23) refl (ltb (u .minute) 59) refl
+  where
+    go : (a : Bool) → ltb (u .hour) 23 ≡ a → (b : Bool) → ltb (u .minute) 59 ≡ b
+        → 3600000 * u .hour + 60000 * u .minute + 1000 * u .second + u .milli < 86399000
+    go true e b f =
+        let n = ltb-true (u .hour) 23 e in
+        let m = g .minute in
+        let s = g .second in
+        let l = g .milli in
+        omega arith
+    go false e true f =
+        let n = ltb-true (u .minute) 59 f in
+        let h = g .hour in
+        let s = g .second in
+        let l = g .milli in
+        omega arith
+    go false e false f =
+        let p = ltb-false (u .hour) 23 e in
+        let q = ltb-false (u .minute) 59 f in
+        let h = g .hour in
+        let m = g .minute in
+        let l = g .milli in
+        let k = g .shorter tt (omega arith) (omega arith) in
+        omega arith
+
+-- ---- fields
+pub field-named : (rows : List Row) → FieldNamed rows
+field-named rows = record {
+  year = Reported.year-reported;
+  month = Reported.month-reported;
+  day = Reported.day-reported;
+  hour = Reported.hour-reported;
+  minute = Reported.minute-reported;
+  second = Reported.second-reported;
+  rounded-sum = Reported.sum-reported;
+  fraction = Reported.fraction-reported rows;
+  nanos = Reported.unix-nanos-reported rows;
+  bad-part = Reported.part-reported;
+  offset = Reported.offset-reported;
+  second-size = Reported.second-size-reported;
+  size = Reported.size-reported;
+  whole-length = Reported.length-reported;
+}
+
+pub none-named : (rows : List Row) → NoneNamed rows
+none-named rows = record {
+  other-number = Reported.other-number;
+  date = Reported.date-passes;
+  time = Reported.time-passes;
+  rounded-sum = Reported.sum-passes;
+  fraction = Reported.fraction-passes rows;
+  nanos = Reported.unix-nanos-pass rows;
+  parts = Reported.parts-pass;
+  offset = Reported.offset-passes;
+  block = Reported.block-passes;
+}
+
+-- ---- rules
+pub rule-names : (t : AnnouncedRows) (rows : List Row) → tableOf t ≡ answer rows → (n : ℕ) → RuleNames t rows n
+rule-names t rows e n = record {
+  before-1960 = Rules.before-1960-absent t rows e n;
+  absent = Rules.absent-before-1960 t n;
+  drifting = Rules.drifting-below-14 t n;
+  whole = Rules.whole-from-14 t n;
+  none-given = Rules.absent-offset rows n;
+  drifting-given = Rules.drifting-offset rows n;
+  whole-given = Rules.whole-offset rows n;
+}
