@@ -5,7 +5,7 @@ import csv
 import io
 import itertools
 import os
-from typing import IO, Any, Dict, Iterator, NamedTuple, Sequence, Union
+from typing import IO, Any, Dict, NamedTuple, Sequence, Union
 
 import numpy as np
 from numpy.typing import NDArray
@@ -31,7 +31,7 @@ Columns = Dict[str, Cells]
 File = Union[str, "os.PathLike[str]", IO[str], IO[bytes]]
 # A float of so many digits and a power of ten up to 22 are both exact, so that their quotient is the float nearest to the decimal.
 _EXACT_DIGITS = 15
-_ROWS, _LONGEST = 1 << 15, 1 << 10
+_LONGEST = 1 << 10
 
 
 class Readings(NamedTuple):
@@ -55,39 +55,54 @@ def read_columns(source: File) -> Columns:
     >>> read_columns(io.StringIO('week, millisecond\\n1930,16500\\n1930\\n'))
     {'week': array([b'1930', b'1930'], dtype='|S4'), 'millisecond': array([b'16500', b''], dtype='|S5')}
     """
-    if isinstance(source, (str, os.PathLike)):
-        with open(source, "rb") as file:
-            data = file.read()
-    else:
-        held = source.read()
-        data = held.encode("utf-8", "surrogateescape") if isinstance(held, str) else held
-    data = data[3:] if data.startswith(b"\xef\xbb\xbf") else data
-    head, _, body = data.partition(b"\n")
-    names = [name.strip() for name in next(csv.reader([head.decode("utf-8", "surrogateescape")]), [])]
+    room = _read(source)
+    size = len(room) - _LONGEST
+    first = 3 if room.startswith(b"\xef\xbb\xbf") else 0
+    end = room.find(b"\n", first, size)
+    body = size if end < 0 else end + 1
+    names = [name.strip() for name in next(csv.reader([room[first:body].decode("utf-8", "surrogateescape")]), [])]
     if not names or len(set(names)) < len(names) or "" in names:
         raise ValueError(f"{name_of(source)}: a head line is due, of columns that have each its name")
-    plain = not any(mark in data for mark in (b'"', b"\0"))
-    cells = _of_even_rows(body if body.endswith(b"\n") or not body else body + b"\n", len(names)) if plain else None
-    return dict(zip(names, _of_any_rows(data, len(names)) if cells is None else cells))
+    plain = not any(room.find(mark, 0, size) >= 0 for mark in (b'"', b"\0"))
+    cells = _of_even_rows(np.frombuffer(room, "u1")[body:], len(names), b"\r" in room) if plain else None
+    return dict(zip(names, _of_any_rows(room[first:size], len(names)) if cells is None else cells))
 
 
-def _of_even_rows(body: bytes, count: int) -> list[Cells] | None:
-    """The columns where each row has a cell for each; None where one has not."""
-    room = np.frombuffer(body + bytes(_LONGEST), "u1")
-    held = room[: len(body)]
-    ends = np.flatnonzero((held == ord(",")) | (held == ord("\n")))
-    if len(ends) % count:
+def _read(source: File) -> bytearray:
+    """The bytes of a file, of which the last line has an end, and as many of 0 behind them as the longest cell may have."""
+    if isinstance(source, (str, os.PathLike)):
+        with open(source, "rb") as file:
+            room = bytearray(os.fstat(file.fileno()).st_size)
+            del room[file.readinto(room) :]
+            room += file.read()  # a pipe has no size
+    else:
+        held = source.read()
+        room = bytearray(held.encode("utf-8", "surrogateescape") if isinstance(held, str) else held)
+    if room and not room.endswith(b"\n"):
+        room += b"\n"
+    room += bytes(_LONGEST)
+    return room
+
+
+def _of_even_rows(room: NDArray[np.uint8], count: int, returns: bool) -> list[Cells] | None:
+    """The columns where each row has a cell for each; None where one has not. `returns`: a line may end with a carriage return too."""
+    held = room[: len(room) - _LONGEST]
+    is_end = held == ord("\n")
+    rows = np.count_nonzero(is_end)
+    ends = np.flatnonzero(is_end | (held == ord(",")))
+    # As many ends of lines as rows, and one in each last place: then the others are commas.
+    if len(ends) != rows * count or not is_end[ends[count - 1 :: count]].all():
         return None
-    starts = np.concatenate([[0], ends[:-1] + 1])[: len(ends)].reshape(-1, count)
-    ends = ends.reshape(-1, count)
-    if (held[ends[:, -1]] != ord("\n")).any() or (held[ends[:, :-1]] != ord(",")).any():
-        return None
-    if b"\r" in body:
-        ends[:, -1] -= (held[ends[:, -1] - 1] == ord("\r")) & (ends[:, -1] > starts[:, -1])
-    lengths = ends - starts
+    starts = np.empty_like(ends)
+    starts[:1] = 0
+    np.add(ends[:-1], 1, out=starts[1:])
+    lengths = (ends - starts).reshape(-1, count)
+    last = lengths[:, -1]
+    if returns:
+        last -= (last > 0) & (held[ends[count - 1 :: count] - 1] == ord("\r"))
     if count == 1 and not lengths.all() or int(lengths.max(initial=0)) > _LONGEST:
         return None
-    return [_cells(room, starts[:, place], lengths[:, place]) for place in range(count)]
+    return [_cells(room, starts[place::count], lengths[:, place]) for place in range(count)]
 
 
 def _cells(room: NDArray[np.uint8], starts: NDArray[Any], lengths: NDArray[Any]) -> Cells:
@@ -101,7 +116,7 @@ def _cells(room: NDArray[np.uint8], starts: NDArray[Any], lengths: NDArray[Any])
     return made
 
 
-def _of_any_rows(data: bytes, count: int) -> list[Cells]:
+def _of_any_rows(data: bytearray, count: int) -> list[Cells]:
     """The columns by Python's reader: of cells in quotes, and of rows that are short."""
     rows = [row[:count] for row in csv.reader(io.StringIO(data.decode("utf-8", "surrogateescape"), newline="")) if row][1:]
     held = list(itertools.zip_longest(*rows, fillvalue=""))
@@ -234,31 +249,34 @@ def name_of(source: File) -> str:
     return os.fspath(source) if isinstance(source, (str, os.PathLike)) else str(getattr(source, "name", "a file"))
 
 
-def csv_of(names: Sequence[str], columns: Sequence[NDArray[Any]]) -> Iterator[bytes]:
-    """Columns of byte strings or of whole numbers from 0 on as CSV, a page of rows at a time.
+def csv_of(columns: Sequence[NDArray[Any]]) -> bytes:
+    """Rows of CSV: of columns of whole numbers from 0 on, and of byte strings that are `quoted` where they need it. They are put side by side in rows of one
+    width, of which the bytes of 0 that fill the cells up are left out.
 
-    >>> b''.join(csv_of(['recorder', 'reason'], [np.array([b'gps', b'tai']), np.array([b'one, two', b''])]))
-    b'recorder,reason\\ngps,"one, two"\\ntai,\\n'
+    >>> csv_of([np.array([b'gps', b'tai']), np.array([7, 12]), quoted(np.array([b'one, two', b'']))])
+    b'gps,7,"one, two"\\ntai,12,\\n'
     """
-    head = io.StringIO()
-    csv.writer(head, lineterminator="\n").writerow(names)
-    yield head.getvalue().encode("utf-8", "surrogateescape")
-    quoted = [_quoted(column) if column.dtype.kind == "S" else column for column in columns]
-    for first in range(0, len(columns[0]), _ROWS):
-        yield _page([digits_of(part) if part.dtype.kind != "S" else part for part in (column[first : first + _ROWS] for column in quoted)])
-
-
-def _page(columns: Sequence[Cells]) -> bytes:
-    """Rows of one width, of which the bytes of 0 that fill the cells up are left out."""
-    widths = [column.dtype.itemsize + 1 for column in columns]
-    ends = np.cumsum(widths)
-    rows = np.zeros((len(columns[0]), int(ends[-1])), "u1")
-    for column, width, end in zip(columns, widths, ends):
-        rows[:, end - width : end - 1] = np.ascontiguousarray(column).view("u1").reshape(len(column), width - 1)
+    cells = [digits_of(column) if column.dtype.kind != "S" else column for column in columns]
+    ends = np.cumsum([column.dtype.itemsize + 1 for column in cells])
+    rows = np.empty((len(cells[0]), int(ends[-1])), "u1")
+    for column, end in zip(cells, ends):
+        width = column.dtype.itemsize
+        rows[:, end - width - 1 : end - 1] = np.ascontiguousarray(column).view("u1").reshape(len(column), width)
         rows[:, end - 1] = ord(",")
     rows[:, -1] = ord("\n")
     kept: bytes = rows[rows != 0].tobytes()
     return kept
+
+
+def csv_head(names: Sequence[str]) -> bytes:
+    """The head line of columns.
+
+    >>> csv_head(['recorder', 'wall, mm'])
+    b'recorder,"wall, mm"\\n'
+    """
+    head = io.StringIO()
+    csv.writer(head, lineterminator="\n").writerow(names)
+    return head.getvalue().encode("utf-8", "surrogateescape")
 
 
 def digits_of(numbers: NDArray[Any], decimals: int = 0) -> Cells:
@@ -282,8 +300,12 @@ def digits_of(numbers: NDArray[Any], decimals: int = 0) -> Cells:
     return np.ascontiguousarray(made.T).view(f"S{len(made)}").ravel()
 
 
-def _quoted(column: Cells) -> Cells:
-    """Cells with a comma, a quote or the end of a line in them, in quotes."""
+def quoted(column: Cells) -> Cells:
+    """Cells with a comma, a quote or the end of a line in them, in quotes.
+
+    >>> quoted(np.array([b'one, two', b'three']))
+    array([b'"one, two"', b'three'], dtype='|S10')
+    """
     held = np.ascontiguousarray(column).view("u1")
     if not any((held == ord(mark)).any() for mark in ',"\n\r'):
         return column

@@ -8,7 +8,9 @@ from numpy.typing import NDArray
 
 from ._answers import Dates, Places
 from .calendars import cal2jd, jd2cal
-from .csv_files import Cells, Columns, File, Readings, csv_of, dates_of, digits_of, form_of, name_of, numbers_of, read_columns, read_readings, values_of
+from .csv_files import (
+    Cells, Columns, File, Readings, csv_head, csv_of, dates_of, digits_of, form_of, name_of, numbers_of, quoted, read_columns, read_readings, values_of,
+)
 from .placing import milliseconds, place
 from .refusals import Refused, reason
 from .scales import convert
@@ -76,7 +78,11 @@ class Placed(NamedTuple):
         utc ['2017-01-01T00:00:04.000', '2017-01-01T00:00:11.000']
         metres [12.6, nan]
         number [0, 25]
+<<<<<<< HEAD
         reason ['', 'tick or reading is outside the passes']
+=======
+        reason ['', 'tick ...is outside the passes']
+>>>>>>> f6b3e3f0 (Python: fewer copies from CSV to CSV; a refused launch refuses the call; scales with days of one length)
         wall [8.2, 8.1]
         """
         sizes = [len(tai.numbers) for tai in self.tai]
@@ -102,25 +108,31 @@ class Placed(NamedTuple):
         >>> print(b''.join(place_files(files, passes).csv()).decode(), end='')
         recorder,index,utc,metres,number,reason,wall
         utc,0,2017-01-01T00:00:04.000,12.600,0,,8.20
+<<<<<<< HEAD
         utc,1,2017-01-01T00:00:11.000,,25,tick or reading is outside the passes,8.10
+=======
+        utc,1,2017-01-01T00:00:11.000,,25,tick ...is outside the passes,8.10
+>>>>>>> f6b3e3f0 (Python: fewer copies from CSV to CSV; a refused launch refuses the call; scales with days of one length)
         """
         carried = self.names(readings)
-        yield next(csv_of(["recorder", "index", "utc", "metres", "number", "reason", *carried], [np.empty(0, "S1")]))
+        yield csv_head(["recorder", "index", "utc", "metres", "number", "reason", *carried])
+        sentences = quoted(_sentences())
         for recorder, tai, places in zip(self.recorders, self.tai, self.places):
+            others = [quoted(_carried(recorder, name)) for name in carried]
             for first in range(0, len(tai.numbers), _PAGE):
                 page = slice(first, first + _PAGE)
-                numbers = places.numbers[page]
-                metres = digits_of(np.where(numbers == 0, places.mm[page], 0), 3)
+                numbers, mm = places.numbers[page], places.mm[page]
+                refused = bool(numbers.any())
+                metres = digits_of(np.where(numbers == 0, mm, 0) if refused else mm, 3)
                 columns = [
                     np.full(len(numbers), recorder.scale, "S3"),
                     np.arange(first, first + len(numbers)),
                     utc_texts("tai", tai.jd1[page], tai.jd2[page], form="expanded", table=self.rows).text,
-                    np.where(numbers == 0, metres, b"") if numbers.any() else metres,
+                    np.where(numbers == 0, metres, b"") if refused else metres,
                     numbers,
-                    _sentences()[numbers] if numbers.any() else np.zeros(len(numbers), "S1"),
-                    *(_carried(recorder, name)[page] for name in carried),
+                    sentences[numbers] if refused else np.zeros(len(numbers), "S1"),
                 ]
-                yield from list(csv_of(["page"], columns))[1:]
+                yield csv_of([*columns, *(column[page] for column in others)])
 
 
 def _sentences() -> Cells:

@@ -11,10 +11,11 @@ from ._arrays import FLOAT, LONG, NUMBER, Field, address_of, as_array, counts, e
 from ._library import function
 from .refusals import Refused
 from .runs import Run
-from .scales import RUN_SCALES
+from .scales import SCALES
 
 Dated = Union[Dates, Run, Sequence[Any]]
 UNITS = {"m": 1000, "mm": 1}
+UNIFORM = tuple(scale for scale in SCALES if scale not in ("utc", "ut1"))
 _MILLIS = [Field("millis", LONG), Field("numbers", NUMBER)]
 
 
@@ -32,7 +33,8 @@ def milliseconds(launch: Dated, stamps: Dated) -> Milliseconds:
 
     Both are dates of one scale without leap seconds, best TAI: an answer as `gpstai` gives it, whose refused stamps keep their numbers, two parts
     (jd1, jd2), or three (scale, jd1, jd2) as a `Run` has them; the launch is a single date. UTC is an error where the scale is named, since its days differ:
-    hand over its TAI. Refused are parts that are not finite (9), dates outside the calendar (6) and other milliseconds (18).
+    hand over its TAI. Refused are parts that are not finite (9), dates outside the calendar (6) and other milliseconds (18);
+    a launch that is refused refuses the call.
 
     >>> launch = utctai(2457753.5, 0.0)
     >>> milliseconds(launch, gpstai(2457754.5, [0.0, float('nan')]))
@@ -114,8 +116,8 @@ def _given(name: str, dated: Dated) -> _Given:
     scale, jd1, jd2 = dated
     if scale == "utc":
         raise ValueError(f"{name}: days of UTC differ by their leap seconds; hand over the TAI (utctai)")
-    if scale not in RUN_SCALES:
-        raise ValueError(f"{name}: no scale {scale!r} with days of one length; the scales are {', '.join(RUN_SCALES[1:])}")
+    if scale not in UNIFORM:
+        raise ValueError(f"{name}: no scale {scale!r} with days of one length; the scales are {', '.join(UNIFORM)}")
     return _Given(scale, jd1, jd2, None)
 
 

@@ -73,7 +73,7 @@ class Columns(unittest.TestCase):
         """Python's reader reads what is written, quotes and all."""
         cells = [b"plain", b"", b"one, two", b'say "no"', b"two\nlines", "ä".encode()]
         numbers = np.array([0, 7, 10, 99, 100, 1234567])
-        data = b"".join(csv_files.csv_of(["a", "b"], [np.array(cells), numbers])).decode()
+        data = (csv_files.csv_head(["a", "b"]) + csv_files.csv_of([csv_files.quoted(np.array(cells)), numbers])).decode()
         self.assertEqual(list(csv.reader(io.StringIO(data, newline="")))[1:], [[cell.decode(), str(number)] for cell, number in zip(cells, numbers.tolist())])
         for decimals in (0, 1, 3):
             told = [cell.strip(b"\0").decode() for cell in csv_files.digits_of(numbers, decimals).tolist()]
@@ -203,7 +203,7 @@ class Command(unittest.TestCase):
         page = Page((self.at / "p.html").read_text())
         self.assertEqual((page.wrong, page.links), ([], []))
         self.assertEqual([row[2:6] for row in page.tables["runs"][1:]], [["500", "473", "2", "25"], ["400", "378", "2", "20"], ["200", "188", "2", "10"]])
-        self.assertIn("Reading 31 of the recorder gps has no place, by 18: number or GPS week is out of its range.", page.items)
+        self.assertIn(f"Reading 31 of the recorder gps has no place, by 18: {ct.reason(18)}.", page.items)
         self.assertIn("svg", page.tags)
         self.assertIn("<path class=\"readings\"", (self.at / "p.html").read_text())
 

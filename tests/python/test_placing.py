@@ -68,15 +68,20 @@ class Milliseconds(unittest.TestCase):
             ct.milliseconds(self.launch, (NAN, 0.0))
         self.assertEqual((raised.exception.number, raised.exception.call), (9, "milliseconds"))
         self.assertEqual(ct.milliseconds(self.launch, (self.launch.jd1, self.launch.jd2 + 1.0)), (86400000, 0))
+        for wrong, number in (((NAN, 0.0), 9), ((0.0, math.inf), 9), ((3e9, 0.0), 6)):
+            with self.assertRaises(ct.Refused) as raised:
+                ct.milliseconds(wrong, ([2457754.5, NAN], [0.0, 0.0]))
+            self.assertEqual(raised.exception.number, number)
 
     def test_utc_is_an_error(self):
         """Where the package can tell it; and so are two scales, and what is no date."""
         utc = 2457754.5, 0.0
         for wrong in (lambda: ct.milliseconds(("utc", *utc), utc), lambda: ct.milliseconds(utc, ct.Run("utc", *utc)), lambda: ct.milliseconds(("gps", *utc), ("tai", *utc)),
-                      lambda: ct.milliseconds(("lunar", *utc), utc), lambda: ct.milliseconds(([2457754.5], 0.0), utc)):
+                      lambda: ct.milliseconds(("lunar", *utc), utc), lambda: ct.milliseconds(("ut1", *utc), utc), lambda: ct.milliseconds(([2457754.5], 0.0), utc)):
             with self.assertRaises(ValueError) as raised:
                 wrong()
             self.assertNotIsInstance(raised.exception, ct.Refused)
+        self.assertEqual([ct.milliseconds((scale, *utc), (scale, *utc)).millis for scale in ("tai", "gps", "tt", "tcg", "tcb", "tdb")], [0] * 6)
         fields = ct.from_iso8601("2017-01-01T00:00:00Z")
         for wrong in (lambda: ct.milliseconds(utc, fields), lambda: ct.milliseconds(2457754.5, utc), lambda: ct.milliseconds(utc, np.zeros(2)), lambda: ct.milliseconds(utc, (1.0,)),
                       lambda: ct.milliseconds(utc, ("2017", "2018"))):
