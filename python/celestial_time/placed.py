@@ -78,11 +78,7 @@ class Placed(NamedTuple):
         utc ['2017-01-01T00:00:04.000', '2017-01-01T00:00:11.000']
         metres [12.6, nan]
         number [0, 25]
-<<<<<<< HEAD
         reason ['', 'tick or reading is outside the passes']
-=======
-        reason ['', 'tick ...is outside the passes']
->>>>>>> f6b3e3f0 (Python: fewer copies from CSV to CSV; a refused launch refuses the call; scales with days of one length)
         wall [8.2, 8.1]
         """
         sizes = [len(tai.numbers) for tai in self.tai]
@@ -108,11 +104,7 @@ class Placed(NamedTuple):
         >>> print(b''.join(place_files(files, passes).csv()).decode(), end='')
         recorder,index,utc,metres,number,reason,wall
         utc,0,2017-01-01T00:00:04.000,12.600,0,,8.20
-<<<<<<< HEAD
         utc,1,2017-01-01T00:00:11.000,,25,tick or reading is outside the passes,8.10
-=======
-        utc,1,2017-01-01T00:00:11.000,,25,tick ...is outside the passes,8.10
->>>>>>> f6b3e3f0 (Python: fewer copies from CSV to CSV; a refused launch refuses the call; scales with days of one length)
         """
         carried = self.names(readings)
         yield csv_head(["recorder", "index", "utc", "metres", "number", "reason", *carried])
