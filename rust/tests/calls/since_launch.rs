@@ -1,7 +1,7 @@
 use crate::number;
 use celestial_time_proved::runs::Stamps;
 use celestial_time_proved::scales::gps::{Week, GPS};
-use celestial_time_proved::scales::{tai::TAI, TimeScale};
+use celestial_time_proved::scales::tai::TAI;
 use celestial_time_proved::since_launch::{milliseconds, milliseconds_of_run};
 use celestial_time_proved::JulianDate;
 
