@@ -151,7 +151,13 @@ class Table:
         return f"Table({list(self.rows)})"
 
     def __reduce__(self) -> tuple[object, ...]:
-        return Table, (self.rows,)
+        return _again, (self.rows, self._known)
+
+
+def _again(rows: tuple[tuple[int, int, int], ...], known: int) -> Table:
+    made = Table(rows)
+    made._known = known
+    return made
 
 
 _none_lent: Table | None = None

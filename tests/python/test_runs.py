@@ -1,7 +1,9 @@
 """Whole runs: line_up, line_up_recorders, offsets_at_0h, place_ticks, tables, threads."""
 import ctypes
+import pathlib
 import pickle
 import struct
+import tempfile
 import threading
 import unittest
 
@@ -175,6 +177,24 @@ class Runs(unittest.TestCase):
         self.assertEqual(full.rows, tuple(rows))
         utc = ct.dtf2d("utc", 2026, 12, 31, 23, 59, 60.5, table=ct.Table(rows[:1]))
         self.assertEqual(ct.to_iso8601(utc.jd1, utc.jd2, table=ct.Table(rows[:1])).text, b"2026-12-31T23:59:60.500")
+
+    def test_tables_from_texts(self):
+        y, s = singles.Y, singles.S
+        own = "".join(f"{a}-{m:02} {int(t)}\n" for a, m, t in leap_rows.WHOLE)
+        with tempfile.TemporaryDirectory() as folder:
+            file = pathlib.Path(folder, "rows")
+            for text, rows, known in (("", (), 0), (own, (), 0), (f"#@ 3991420800\r\n{own}{y}-01\t{s + 1}  # made up", ((y, 1, s + 1),), 61217)):
+                file.write_bytes(text.encode())
+                read = ct.Table.read(file)
+                self.assertEqual((read.rows, read.known_until, read), (rows, known, ct.Table(rows)))
+                self.assertEqual(pickle.loads(pickle.dumps(read)).known_until, known)
+            for number, line, text in ((15, 2, "\n2027-1 38"), (22, 1, "1972-01 11"), (21, 2, f"{y}-01 {s + 1}\n{y}-01 {s + 2}"), (22, 1, f"{y}-01 {s + 2}\nx"), (15, 1, "2027-01 38\0")):
+                file.write_bytes(text.encode())
+                with self.assertRaises(ct.Refused) as raised:
+                    ct.Table.read(file)
+                self.assertEqual((raised.exception.number, raised.exception.call), (number, f"{file}: line {line}"))
+            with self.assertRaises(OSError):
+                ct.Table.read(pathlib.Path(folder, "none"))
 
     def test_threads(self):
         """Eight threads at once, each on its own arrays, get what one gets."""

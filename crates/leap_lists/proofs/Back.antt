@@ -33,7 +33,7 @@ unfolding lastDigits
 last-many zero n = refl
 last-many (suc k) n = let h = last-many k (n / 10) in simp length-append (omega arith)
 
-last-all : (k n : ℕ) → AllDigits (lastDigits k n)
+pub last-all : (k n : ℕ) → AllDigits (lastDigits k n)
 unfolding lastDigits AllDigits
 last-all zero n = tt
 last-all (suc k) n = all-append (lastDigits k (n / 10)) (last n ∷ []) (last-all k (n / 10)) (omega arith, omega arith, tt)

@@ -6,3 +6,4 @@ pub mod Verdicts
 pub mod Taken
 pub mod Cases
 pub mod Back
+pub mod RowsBack
