@@ -22,6 +22,7 @@ use Rattle.time_of_day.proofs.EvenExact.{in-whole-numbers, whole-0, whole-1, wh
 use Rattle.time_of_day.proofs.EvenFloat.{by-float}
 use Rattle.time_of_day.proofs.EvenSteps.{count-by-float}
 use Rattle.time_of_day.proofs.Fractions.{in-units, within-one}
+use Rattle.julian.specs.declared.JulianDate.{JulianDate}
 use Rattle.leap_table.specs.declared.rows.AnnouncedRows.{AnnouncedRows}
 use Rattle.leap_table.specs.rows.Table.{Row}
 use Rattle.leap_table.specs.rows.Announced.{tableOf}
@@ -33,6 +34,7 @@ use Rattle.leap_table.proofs.walk.Counts.{most-by-fixed, most-by-any, compared-
 use Rattle.leap_table.proofs.walk.OfCall.{numbers-offset, numbers-behind}
 use Rattle.leap_table.proofs.walk.Due.{numbers-decided, bytes-decided}
 use Rattle.leap_days.proofs.TableLeaps.{table-leap-on}
+use Rattle.scales.specs.laws.Ranges.{Held}
 use Rattle.scales.proofs.gps_weeks.FullWeeks.{nearest-if, nearest-only-if, tie-exactly, over-exactly}
 use Rattle.scales.proofs.gps_weeks.Parts.{part-is}
 use Rattle.scales.proofs.gps_week_laws.Cases.{first-day-is-1980-01-06}
@@ -51,6 +53,7 @@ use Rattle.utc.proofs.laws.ShortDays.{short-day-refused}
 use Rattle.utc.proofs.laws.HalfEvenTexts.{even-for-every-buffer}
 use Rattle.utc.proofs.laws.ExpandedTexts.{expanded-for-every-buffer, beside, expanded-text-length}
 use Rattle.parsing.proofs.Seconds.{one-division}
+use Rattle.parsing_laws.specs.Shown.{YearShown, ReadsBack}
 use Rattle.parsing_laws.proofs.Grammar as Grammar
 use Rattle.parsing_laws.proofs.Around.{same-around, same-with-zulu}
 use Rattle.parsing_laws.proofs.SixFields as Fields
@@ -78,6 +81,7 @@ use Rattle.standby_laws.proofs.Faults.{faults-are-calendars}
 use Rattle.standby_laws.proofs.Means.{bill-means}
 use Rattle.c_answers.proofs.table.ReadBack.{table-back}
 use Rattle.c_answers.proofs.table.Laws as Bytes
+use Rattle.promises.specs.Terms.{EachText}
 use Rattle.promises.specs.Requests as R
 use Rattle.promises.proofs.Demands.{demand-3}
 use Rattle.promises.proofs.HalfTexts.{old-half, new-half}
@@ -138,6 +142,13 @@ unfolding textAt
 listers-text rows s n i = refl
 
 module _ (t : AnnouncedRows) (rows : List Row) (e : tableOf t ≡ answer rows) where
+  pub texts-read-back : (d : JulianDate) → Held d → (s : List ℕ) → YearShown s → EachText rows (λ text. text d ≡ answer s → ReadsBack rows s)
+  texts-read-back d held s shown = (
+    iso-text-reads-back t rows e d (held .0) (held .1) s shown,
+    half-even-text-reads-back t rows e d (held .0) (held .1) s shown,
+    expanded-text-reads-back t rows e d (held .0) (held .1) s shown,
+  )
+
   pub request-1 : R.Request1 rows
   request-1 = record {
     one-z = same-with-zulu;
@@ -146,11 +157,7 @@ module _ (t : AnnouncedRows) (rows : List Row) (e : tableOf t ≡ answer rows) w
     six-fields = Fields.six-fields;
     read-utc = utc-verdict rows;
     one-reading = Grammar.one-reading;
-    reads-back = λ d held s shown. (
-      iso-text-reads-back t rows e d (held .0) (held .1) s shown,
-      half-even-text-reads-back t rows e d (held .0) (held .1) s shown,
-      expanded-text-reads-back t rows e d (held .0) (held .1) s shown,
-    );
+    reads-back = texts-read-back;
     read = verdict;
   }
 
