@@ -54,8 +54,8 @@
      16  a text's second has more than 13 digits after the point
      17  a date is earlier than the one before it; or a stamp is left out of a line, since of
          its run the most that rise are kept
-     18  a field of a GPS week is over its limit, or a date is before the first week or past
-         the last; or a run takes no such scale, or no refusal has the number
+     18  a field of a GPS week, a date's week or milliseconds since launch are outside their
+         limits; or a run takes no such scale, or no refusal has the number
      19  two weeks with the same ten bits are equally near the reference
      20  the two sizes of a table of announced rows differ, or are above 16
      21  a row of a table of announced rows is not later than the one before it

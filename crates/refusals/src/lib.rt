@@ -34,7 +34,7 @@ pub const TEXT_OUTSIDE_GRAMMAR: u32 = 15;
 pub const TOO_MANY_FRACTION_DIGITS: u32 = 16;
 // A date is earlier than the one before it; or a stamp is left out of a line, since of its run the most that rise are kept.
 pub const OUT_OF_ORDER: u32 = 17;
-// A field of a GPS week is over its limit, or a date is before the first week or past the last; or a run takes no such scale, or no refusal has the number.
+// A field of a GPS week, a date's week or milliseconds since launch are outside their limits; or a run takes no such scale, or no refusal has the number.
 pub const OUT_OF_LIMIT: u32 = 18;
 // Two weeks with the same ten bits are equally near the reference.
 pub const WEEK_NOT_DECIDED: u32 = 19;
