@@ -9,7 +9,7 @@ ghost use Rattle.leap_table.specs.rows.Announced.{least};
 ghost use Rattle.utc.specs.text.Answer.{TextPut};
 ghost use Rattle.line_listing.specs.lines.StampLine.{stamps};
 ghost use Rattle.line_listing.specs.head.Counts.{notFinite, kindAt, countOf, firstEnd, secondEnd};
-ghost use Rattle.line_listing.specs.head.Head.{counted, blockEnd, runLine, runIfNamed, one, headText, endText};
+ghost use Rattle.line_listing.specs.head.Head.{counted, blockEnd, runLine, runIfNamed, oneIfNamed, headText, endText};
 ghost use Rattle.line_listing.specs.head.Asked.{PlacedIn};
 use crate::lines::number_at;
 use numerals::little_endian::nth_u64;
@@ -154,7 +154,7 @@ fn place_if_named(
 }
 
 fn one_if(b: bool) -> u64
-    ensures { λ r. ⌜ (r ≡ one b) × (r ≤ 1) ⌝ }
+    ensures { λ r. ⌜ (r ≡ oneIfNamed b) × (r ≤ 1) ⌝ }
 {
     if b { 1 } else { 0 }
 }

@@ -6,11 +6,12 @@ ghost use lib.ListN.{length, getD};
 ghost use Rattle.refusals.specs.Outcome.{onward};
 ghost use Rattle.numerals.specs.digits.Placed.{Placed};
 ghost use Rattle.leap_table.specs.rows.Announced.{rowsIn, tableOf, least};
+ghost use Rattle.stamps.specs.Listing.{oneIfRefused};
 ghost use Rattle.utc_scales.specs.UtcTai.{taiToUtc};
 ghost use Rattle.utc.specs.iso_texts.Expanded.{isoTextExpanded};
 ghost use Rattle.line_listing.specs.lines.StampLine.{stamps, placeOf, recorder, indexIn, sentenceBehind, numberTold, noText, refused, stampTold};
-ghost use Rattle.line_listing.specs.lines.StampLine.{utcTold, lineBy, withoutText, oneIfRefused};
-ghost use Rattle.line_listing.specs.lines.Parts.{lineRoom, PartCall};
+ghost use Rattle.line_listing.specs.lines.StampLine.{utcTold, lineBy, noTextCount};
+ghost use Rattle.line_listing.specs.lines.Parts.{longestLine, ListedCall};
 ghost use Rattle.line_listing.specs.lines.Asked.{answerBy, Gathered, Converted, ToldAt, LinesPlaced};
 use crate::head::smaller;
 use julian::JulianDate;
@@ -90,9 +91,9 @@ fn place_sentence(number: u32, jd: JulianDate, dst: &mut [u8], at: usize) -> usi
 
 // A number below 256, and its sentence where it is asked for.
 fn place_number(sentences: bool, number: u32, jd: JulianDate, dst: &mut [u8], at: usize) -> usize
-    requires { ⌜ (number < 256) × (at + lineRoom sentences ≤ length (now dst) + 24) ⌝ }
+    requires { ⌜ (number < 256) × (at + longestLine sentences ≤ length (now dst) + 24) ⌝ }
     ensures { λ r. ⌜ Placed (now (dst .entry)) at (numberTold sentences number jd) r (now (dst .exit)) ⌝ }
-    ensures { λ r. ⌜ r + 24 ≤ at + lineRoom sentences ⌝ }
+    ensures { λ r. ⌜ r + 24 ≤ at + longestLine sentences ⌝ }
 {
     let next = place_decimal(number as u64, dst, at);
     if sentences {
@@ -103,9 +104,9 @@ fn place_number(sentences: bool, number: u32, jd: JulianDate, dst: &mut [u8], at
 
 // That there is no text, and why.
 fn place_no_text(sentences: bool, number: u32, jd: JulianDate, dst: &mut [u8], at: usize) -> Told
-    requires { ⌜ (number < 256) × (at + lineRoom sentences ≤ length (now dst) + 16) ⌝ }
+    requires { ⌜ (number < 256) × (at + longestLine sentences ≤ length (now dst) + 16) ⌝ }
     ensures { λ r. ⌜ ToldAt (now (dst .entry)) at (noText sentences number jd) 1 r (now (dst .exit)) ⌝ }
-    ensures { λ r. ⌜ r .next + 16 ≤ at + lineRoom sentences ⌝ }
+    ensures { λ r. ⌜ r .next + 16 ≤ at + longestLine sentences ⌝ }
 {
     let start = place_bytes(b"no text ", dst, at);
     let next = place_number(sentences, number, jd, dst, start);
@@ -114,9 +115,9 @@ fn place_no_text(sentences: bool, number: u32, jd: JulianDate, dst: &mut [u8], a
 
 // That a stamp is refused or left out, and why.
 fn place_refused(sentences: bool, number: u32, jd: JulianDate, dst: &mut [u8], at: usize) -> usize
-    requires { ⌜ (number < 256) × (at + lineRoom sentences ≤ length (now dst) + 16) ⌝ }
+    requires { ⌜ (number < 256) × (at + longestLine sentences ≤ length (now dst) + 16) ⌝ }
     ensures { λ r. ⌜ Placed (now (dst .entry)) at (refused sentences number jd) r (now (dst .exit)) ⌝ }
-    ensures { λ r. ⌜ r + 16 ≤ at + lineRoom sentences ⌝ }
+    ensures { λ r. ⌜ r + 16 ≤ at + longestLine sentences ⌝ }
 {
     let start = place_bytes(b"refused ", dst, at);
     place_number(sentences, number, jd, dst, start)
@@ -134,12 +135,12 @@ fn place_text<'a>(
     dst: &mut [u8],
     at: usize,
 ) -> Told
-    requires { ⌜ (answerBy mark date ≡ taiToUtc (rowsIn size (now months) (now seconds)) tai) × (at + lineRoom sentences ≤ length (now dst) + 16) ⌝ }
+    requires { ⌜ (answerBy mark date ≡ taiToUtc (rowsIn size (now months) (now seconds)) tai) × (at + longestLine sentences ≤ length (now dst) + 16) ⌝ }
     ensures { λ r. ⌜ ToldAt (now (dst .entry)) at
         (utcTold sentences (rowsIn size (now (months .entry)) (now (seconds .entry))) tai (taiToUtc (rowsIn size (now (months .entry)) (now (seconds .entry))) tai))
         (oneIfRefused (onward (taiToUtc (rowsIn size (now (months .entry)) (now (seconds .entry))) tai)
         (isoTextExpanded (rowsIn size (now (months .entry)) (now (seconds .entry)))))) r (now (dst .exit)) ⌝ }
-    ensures { λ r. ⌜ r .next + 16 ≤ at + lineRoom sentences ⌝ }
+    ensures { λ r. ⌜ r .next + 16 ≤ at + longestLine sentences ⌝ }
 {
     if mark != 0 {
         return place_no_text(sentences, mark as u32, tai, dst, at);
@@ -172,10 +173,10 @@ fn place_stamp<'a>(
     dst: &mut [u8],
     at: usize,
 ) -> Told
-    requires { ⌜ (answerBy mark date ≡ taiToUtc (rowsIn size (now months) (now seconds)) tai) × (at + lineRoom sentences ≤ length (now dst) + 16) ⌝ }
+    requires { ⌜ (answerBy mark date ≡ taiToUtc (rowsIn size (now months) (now seconds)) tai) × (at + longestLine sentences ≤ length (now dst) + 16) ⌝ }
     ensures { λ r. ⌜ ToldAt (now (dst .entry)) at (stampTold sentences (rowsIn size (now (months .entry)) (now (seconds .entry))) tai number)
-        (withoutText (rowsIn size (now (months .entry)) (now (seconds .entry))) tai number) r (now (dst .exit)) ⌝ }
-    ensures { λ r. ⌜ r .next + 16 ≤ at + lineRoom sentences ⌝ }
+        (noTextCount (rowsIn size (now (months .entry)) (now (seconds .entry))) tai number) r (now (dst .exit)) ⌝ }
+    ensures { λ r. ⌜ r .next + 16 ≤ at + longestLine sentences ⌝ }
 {
     if number != 0 {
         let next = place_refused(sentences, number as u32, tai, dst, at);
@@ -201,10 +202,10 @@ fn place_line<'a>(
     at: usize,
 ) -> Told
     requires { ⌜ (answerBy mark date ≡ taiToUtc (rowsIn size (now months) (now seconds)) tai) × (place < 4294967296)
-        × (at + lineRoom sentences ≤ length (now dst)) ⌝ }
+        × (at + longestLine sentences ≤ length (now dst)) ⌝ }
     ensures { λ r. ⌜ ToldAt (now (dst .entry)) at (lineBy sentences (rowsIn size (now (months .entry)) (now (seconds .entry))) first second place tai number)
-        (withoutText (rowsIn size (now (months .entry)) (now (seconds .entry))) tai number) r (now (dst .exit)) ⌝ }
-    ensures { λ r. ⌜ r .next ≤ at + lineRoom sentences ⌝ }
+        (noTextCount (rowsIn size (now (months .entry)) (now (seconds .entry))) tai number) r (now (dst .exit)) ⌝ }
+    ensures { λ r. ⌜ r .next ≤ at + longestLine sentences ⌝ }
 {
     let a = place_recorder(first, second, place, dst, at);
     let b = place_decimal(index_in(first, second, place) as u64, dst, a);
@@ -308,7 +309,7 @@ fn place_lines<'a>(
     out: &mut [u8],
 ) -> Part
     requires { ⌜ Converted (rowsIn size (now months) (now seconds)) (now jd1s) (now jd2s) (now order) line (now utc1) (now utc2) (now marks)
-        × (count ≤ 256) × (256 ≤ length (now marks)) × (line + 256 < 18446744073709551616) × (count * lineRoom sentences ≤ length (now out)) ⌝ }
+        × (count ≤ 256) × (256 ≤ length (now marks)) × (line + 256 < 18446744073709551616) × (count * longestLine sentences ≤ length (now out)) ⌝ }
     ensures { λ r. ⌜ LinesPlaced sentences (rowsIn size (now (months .entry)) (now (seconds .entry)))
         (stamps (now (jd1s .entry)) (now (jd2s .entry)) (now (numbers .entry)) first second) (now (order .entry)) line count (now (out .entry)) r
         (now (out .exit)) ⌝ }
@@ -363,7 +364,7 @@ fn page_part<'a>(
     seconds: &'a [i32; 16],
     out: &mut [u8],
 ) -> Part
-    requires { ⌜ (count ≤ 256) × (line + 256 < 18446744073709551616) × (count * lineRoom sentences ≤ length (now out)) ⌝ }
+    requires { ⌜ (count ≤ 256) × (line + 256 < 18446744073709551616) × (count * longestLine sentences ≤ length (now out)) ⌝ }
     ensures { λ r. ⌜ LinesPlaced sentences (rowsIn size (now (months .entry)) (now (seconds .entry)))
         (stamps (now (jd1s .entry)) (now (jd2s .entry)) (now (numbers .entry)) first second) (now (order .entry)) line count (now (out .entry)) r
         (now (out .exit)) ⌝ }
@@ -406,14 +407,14 @@ fn page_part<'a>(
 // The most bytes of a line. By numbers it has `utc`, a blank, ten digits of the index, a blank, the longest text, 27, and the line's end; with sentences in the
 // place of the text `refused`, a blank, a digit, a colon, a blank and the longest sentence, 57.
 fn line_room(sentences: bool) -> usize
-    ensures { λ r. ⌜ r ≡ lineRoom sentences ⌝ }
+    ensures { λ r. ⌜ r ≡ longestLine sentences ⌝ }
 {
     if sentences { 84 } else { 43 }
 }
 
 // How many lines go into the part from `line` on, into `room` bytes.
 fn part_lines(sentences: bool, lines: usize, line: usize, room: usize) -> usize
-    ensures { λ r. ⌜ r ≡ least (least (lines - line) 256) (room / lineRoom sentences) ⌝ }
+    ensures { λ r. ⌜ r ≡ least (least (lines - line) 256) (room / longestLine sentences) ⌝ }
 {
     if lines <= line {
         return 0;
@@ -436,7 +437,7 @@ pub fn next_part(
     table: AnnouncedRows,
     out: &mut [u8],
 ) -> PartAnswer
-    ensures { λ r. ⌜ PartCall sentences (tableOf table) (stamps (now (jd1s .entry)) (now (jd2s .entry)) (now (numbers .entry)) first second)
+    ensures { λ r. ⌜ ListedCall sentences (tableOf table) (stamps (now (jd1s .entry)) (now (jd2s .entry)) (now (numbers .entry)) first second)
         (now (order .entry)) line (now (out .entry)) r (now (out .exit)) ⌝ }
 {
     let refused = leap_table::rows::table_refusal(table);

@@ -13,7 +13,7 @@ use Rattle.numerals.specs.digits.Placed.{Placed, Placing}
 use Rattle.numerals.proofs.digits.Places.{then, placed-as, nothing-at}
 use Rattle.reasons.proofs.sentences.Placing.{placed-length}
 use Rattle.line_listing.specs.declared.head.RunEnd.{RunEnd}
-use Rattle.line_listing.specs.head.Head.{counted, blockEnd, runLine, runIfNamed, one, headText}
+use Rattle.line_listing.specs.head.Head.{counted, blockEnd, runLine, runIfNamed, oneIfNamed, headText}
 use Rattle.line_listing.specs.head.Asked.{PlacedIn}
 use Rattle.utc.specs.text.Ascii.{asciiBytes}
 
@@ -69,7 +69,7 @@ module _ (gps tai utc : RunEnd) (js ks ns : List ℕ) (first second : ℕ) where
       ++ runIfNamed (asciiBytes "tai ") tai js ks ns a (b - a))
       ++ runIfNamed (asciiBytes "utc ") utc js ks ns b (length ns - b)
 
-  pub head-is : (a b x y z : ℕ) → a ≡ least first (length ns) → b ≡ least second (length ns - a) → x ≡ one (gps .named) → y ≡ one (tai .named)
-      → z ≡ one (utc .named) → by-ends (x + y + z) a (a + b) ≡ headText gps tai utc all
+  pub head-is : (a b x y z : ℕ) → a ≡ least first (length ns) → b ≡ least second (length ns - a) → x ≡ oneIfNamed (gps .named) → y ≡ oneIfNamed (tai .named)
+      → z ≡ oneIfNamed (utc .named) → by-ends (x + y + z) a (a + b) ≡ headText gps tai utc all
   unfolding headText firstEnd secondEnd
   head-is a b x y z e f g h i = rw (g, h, i, f, e) refl

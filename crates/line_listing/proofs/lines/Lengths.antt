@@ -23,15 +23,15 @@ use Rattle.reasons.specs.Sentence.{reasonOf, sentence}
 use Rattle.reasons.proofs.SentenceLengths.{reason-short}
 use Rattle.reasons.proofs.sentences.FixedTexts.{text-short}
 use Rattle.line_listing.specs.lines.StampLine.{behind, sentenceBehind, numberTold}
-use Rattle.line_listing.specs.lines.Parts.{lineRoom}
+use Rattle.line_listing.specs.lines.Parts.{longestLine}
 
-pub room-low : (s : Bool) → 43 ≤ lineRoom s
-unfolding lineRoom
+pub room-low : (s : Bool) → 43 ≤ longestLine s
+unfolding longestLine
 room-low true = omega arith
 room-low false = omega arith
 
-pub room-high : (s : Bool) → lineRoom s ≤ 84
-unfolding lineRoom
+pub room-high : (s : Bool) → longestLine s ≤ 84
+unfolding longestLine
 room-high true = omega arith
 room-high false = omega arith
 
@@ -86,8 +86,8 @@ module _ (k : ℕ) (d : JulianDate) (byte : k < 256) where
       go false e =
           omega (arith, length-append (digitsOf k) (sentenceBehind true k d), behind-most k d, shorter k d (ltb-false k 10 e), three)
 
-  pub number-most : (s : Bool) → length (numberTold s k d) + 24 ≤ lineRoom s
-  unfolding numberTold lineRoom
+  pub number-most : (s : Bool) → length (numberTold s k d) + 24 ≤ longestLine s
+  unfolding numberTold longestLine
   number-most true = omega (arith, with-sentence)
   number-most false = omega (arith, length-append (digitsOf k) (sentenceBehind false k d), none-without k d, three)
 

@@ -13,6 +13,7 @@ use Rattle.numerals.specs.digits.Decimal.{digitsOf}
 use Rattle.numerals.proofs.digits.Places.{then, placed-as}
 use Rattle.julian.specs.declared.JulianDate.{JulianDate}
 use Rattle.leap_table.specs.rows.Table.{Row}
+use Rattle.stamps.specs.Listing.{oneIfRefused}
 use Rattle.utc_scales.specs.UtcTai.{taiToUtc}
 use Rattle.utc.specs.text.Ascii.{asciiBytes}
 use Rattle.reasons.specs.declared.Values.the-variants.{Parts}
@@ -22,7 +23,7 @@ use Rattle.reasons.specs.declared.sentences.Reason.{Reason}
 use Rattle.reasons.specs.sentences.Render.{render}
 use Rattle.reasons.specs.Sentence.{reasonOf, reasonOutcome, sentence}
 use Rattle.utc.specs.iso_texts.Expanded.{isoTextExpanded}
-use Rattle.line_listing.specs.lines.StampLine.{recorder, indexIn, behind, sentenceBehind, noText, refused, textTold, utcTold, stampTold, lineBy, oneIfRefused, withoutText}
+use Rattle.line_listing.specs.lines.StampLine.{recorder, indexIn, behind, sentenceBehind, noText, refused, textTold, utcTold, stampTold, lineBy, noTextCount}
 use Rattle.line_listing.specs.lines.Asked.{answerBy, ToldAt}
 use Rattle.line_listing.specs.declared.lines.Told.{Told}
 
@@ -119,14 +120,14 @@ module _ (s : Bool) (rows : List Row) (tai : JulianDate) where
     unfolding stampTold
     refused-is h = sym (rw (ne-eqb k 0 h))
 
-    pub refused-none : (k ≡ 0 → ⊥) → 0 ≡ withoutText rows tai k
-    unfolding withoutText
+    pub refused-none : (k ≡ 0 → ⊥) → 0 ≡ noTextCount rows tai k
+    unfolding noTextCount
     refused-none h = sym (rw (ne-eqb k 0 h))
 
     pub ordered-is : k ≡ 0 → utcTold s rows tai (taiToUtc rows tai) ≡ stampTold s rows tai k
     unfolding stampTold
     ordered-is h = sym (rw (eq-eqb k 0 h))
 
-    pub ordered-none : k ≡ 0 → oneIfRefused (onward (taiToUtc rows tai) (isoTextExpanded rows)) ≡ withoutText rows tai k
-    unfolding withoutText
+    pub ordered-none : k ≡ 0 → oneIfRefused (onward (taiToUtc rows tai) (isoTextExpanded rows)) ≡ noTextCount rows tai k
+    unfolding noTextCount
     ordered-none h = sym (rw (eq-eqb k 0 h))

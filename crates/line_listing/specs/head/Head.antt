@@ -32,12 +32,12 @@ runLine name end js ks ns from n =
 unfoldable pub runIfNamed : List ℕ → RunEnd → List ℕ → List ℕ → List ℕ → ℕ → ℕ → List ℕ
 runIfNamed name end js ks ns from n = cond (end .named) (runLine name end js ks ns from n) []
 
-unfoldable pub one : Bool → ℕ
-one b = cond b 1 0
+unfoldable pub oneIfNamed : Bool → ℕ
+oneIfNamed b = cond b 1 0
 
 unfoldable pub headText : RunEnd → RunEnd → RunEnd → Stamps → List ℕ
 headText gps tai utc all =
-    (((counted (asciiBytes "line up ") (one (gps .named) + one (tai .named) + one (utc .named)) ++ asciiBytes " runs\n")
+    (((counted (asciiBytes "line up ") (oneIfNamed (gps .named) + oneIfNamed (tai .named) + oneIfNamed (utc .named)) ++ asciiBytes " runs\n")
     ++ runIfNamed (asciiBytes "gps ") gps (all .jd1s) (all .jd2s) (all .numbers) 0 (firstEnd all))
     ++ runIfNamed (asciiBytes "tai ") tai (all .jd1s) (all .jd2s) (all .numbers) (firstEnd all) (secondEnd all - firstEnd all))
     ++ runIfNamed (asciiBytes "utc ") utc (all .jd1s) (all .jd2s) (all .numbers) (secondEnd all) (length (all .numbers) - secondEnd all)

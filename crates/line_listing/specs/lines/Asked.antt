@@ -14,8 +14,8 @@ use Rattle.leap_table.specs.rows.Table.{Row}
 use Rattle.utc_scales.specs.UtcTai.{taiToUtc}
 use Rattle.line_listing.specs.declared.lines.Told.{Told}
 use Rattle.line_listing.specs.declared.lines.Part.{Part}
-use Rattle.line_listing.specs.lines.StampLine.{Stamps, placeOf, dateAt}
-use Rattle.line_listing.specs.lines.Parts.{linesFrom, textlessFrom}
+use Rattle.line_listing.specs.lines.StampLine.{Stamps, placeOf, dateOfPlace}
+use Rattle.line_listing.specs.lines.Parts.{listedLines, textlessFrom}
 
 -- the answer of a conversion by its number in one byte and its date
 unfoldable pub answerBy : ℕ → JulianDate → Outcome JulianDate
@@ -38,7 +38,7 @@ pub record ToldAt (d : List ℕ) (at : ℕ) (t : List ℕ) (none : ℕ) (r : Tol
 -- `count` lines from `line` on were written at the start
 pub record LinesPlaced (sentences : Bool) (rows : List Row) (all : Stamps) (order : List ℕ) (line count : ℕ) (d : List ℕ) (r : Part) (after : List ℕ) :
     Type 0 where
-  pub placed : Placed d 0 (linesFrom sentences rows all order line count) (r .written) after
+  pub placed : Placed d 0 (listedLines sentences rows all order line count) (r .written) after
   pub next : r .line ≡ line + count
   pub counted : r .textless ≡ textlessFrom rows all order line count
   pub within : r .written ≤ length d

@@ -12,49 +12,49 @@ use Rattle.leap_table.specs.rows.Announced.{least}
 use Rattle.line_listing.specs.declared.lines.Part.{Part}
 use Rattle.line_listing.specs.declared.lines.PartAnswer.{PartAnswer}
 use Rattle.line_listing.specs.declared.lines.PartAnswer.the-variants.{Lines, Refused}
-use Rattle.line_listing.specs.lines.StampLine.{Stamps, placeOf, stampLine, withoutText, dateAt, numberAt}
+use Rattle.line_listing.specs.lines.StampLine.{Stamps, placeOf, placeLine, noTextCount, dateOfPlace, numberOfPlace}
 
 -- the most bytes of a line
-unfoldable pub lineRoom : Bool → ℕ
-lineRoom sentences = cond sentences 84 43
+unfoldable pub longestLine : Bool → ℕ
+longestLine sentences = cond sentences 84 43
 
 -- k lines from line `line` on
-unfoldable pub linesFrom : Bool → List Row → Stamps → List ℕ → ℕ → ℕ → List ℕ
-linesFrom sentences rows all order line zero = []
-linesFrom sentences rows all order line (suc k) =
-    linesFrom sentences rows all order line k ++ stampLine sentences rows all (placeOf order (line + k))
+unfoldable pub listedLines : Bool → List Row → Stamps → List ℕ → ℕ → ℕ → List ℕ
+listedLines sentences rows all order line zero = []
+listedLines sentences rows all order line (suc k) =
+    listedLines sentences rows all order line k ++ placeLine sentences rows all (placeOf order (line + k))
 
 -- how many of them are ordered and without text
 unfoldable pub textlessFrom : List Row → Stamps → List ℕ → ℕ → ℕ → ℕ
 textlessFrom rows all order line zero = 0
 textlessFrom rows all order line (suc k) =
-    textlessFrom rows all order line k + withoutText rows (dateAt all (placeOf order (line + k))) (numberAt all (placeOf order (line + k)))
+    textlessFrom rows all order line k + noTextCount rows (dateOfPlace all (placeOf order (line + k))) (numberOfPlace all (placeOf order (line + k)))
 
 -- the lines that an order has
-unfoldable pub linesIn : List ℕ → ℕ
-linesIn order = length order / 4
+unfoldable pub linesOfOrder : List ℕ → ℕ
+linesOfOrder order = length order / 4
 
 -- how many lines go into the part from `line` on, into `room` bytes
-unfoldable pub partLines : Bool → List ℕ → ℕ → ℕ → ℕ
-partLines sentences order line room = least (least (linesIn order - line) 256) (room / lineRoom sentences)
+unfoldable pub listedCount : Bool → List ℕ → ℕ → ℕ → ℕ
+listedCount sentences order line room = least (least (linesOfOrder order - line) 256) (room / longestLine sentences)
 
-unfoldable pub partText : Bool → List Row → Stamps → List ℕ → ℕ → ℕ → List ℕ
-partText sentences rows all order line room = linesFrom sentences rows all order line (partLines sentences order line room)
+unfoldable pub listedPart : Bool → List Row → Stamps → List ℕ → ℕ → ℕ → List ℕ
+listedPart sentences rows all order line room = listedLines sentences rows all order line (listedCount sentences order line room)
 
 -- the answer: how many bytes are written, the next line, and how many of the lines are without text
-unfoldable pub partOf : Bool → List Row → Stamps → List ℕ → ℕ → ℕ → Part
-partOf sentences rows all order line room = record {
-  written = length (partText sentences rows all order line room);
-  line = line + partLines sentences order line room;
-  textless = textlessFrom rows all order line (partLines sentences order line room);
+unfoldable pub partAnswered : Bool → List Row → Stamps → List ℕ → ℕ → ℕ → Part
+partAnswered sentences rows all order line room = record {
+  written = length (listedPart sentences rows all order line room);
+  line = line + listedCount sentences order line room;
+  textless = textlessFrom rows all order line (listedCount sentences order line room);
 }
 
-unfoldable pub partOutcome : PartAnswer → Outcome Part
-partOutcome (Lines p) = answer p
-partOutcome (Refused k) = refusal k
+unfoldable pub listedOutcome : PartAnswer → Outcome Part
+listedOutcome (Lines p) = answer p
+listedOutcome (Refused k) = refusal k
 
 -- ---- the call: r answers the part by the table's rows, or the table's refusal, and the buffer, which held `before`, holds `after`
-pub record PartCall (sentences : Bool) (table : Outcome (List Row)) (all : Stamps) (order : List ℕ) (line : ℕ) (before : List ℕ) (r : PartAnswer)
+pub record ListedCall (sentences : Bool) (table : Outcome (List Row)) (all : Stamps) (order : List ℕ) (line : ℕ) (before : List ℕ) (r : PartAnswer)
     (after : List ℕ) : Type 0 where
-  pub says : partOutcome r ≡ onward table (λ rows. answer (partOf sentences rows all order line (length before)))
-  pub holds : after ≡ bufferHolds (onward table (λ rows. answer (partText sentences rows all order line (length before)))) before
+  pub says : listedOutcome r ≡ onward table (λ rows. answer (partAnswered sentences rows all order line (length before)))
+  pub holds : after ≡ bufferHolds (onward table (λ rows. answer (listedPart sentences rows all order line (length before)))) before

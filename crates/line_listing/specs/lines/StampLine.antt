@@ -18,6 +18,7 @@ use Rattle.utc.specs.text.Ascii.{asciiBytes}
 use Rattle.utc.specs.iso_texts.Expanded.{isoTextExpanded}
 use Rattle.reasons.specs.declared.Values.the-variants.{Parts}
 use Rattle.reasons.specs.Sentence.{sentence}
+use Rattle.stamps.specs.Listing.{oneIfRefused}
 
 -- ---- the stamps of the three runs, one run after the other: eight bytes for each part, one for each number; the runs end at `first` and `first + second`
 pub record Stamps : Type 0 where
@@ -31,11 +32,11 @@ abbrev pub stamps : List ℕ → List ℕ → List ℕ → ℕ → ℕ → Stamp
 stamps js ks ns first second = record { jd1s = js; jd2s = ks; numbers = ns; first = first; second = second }
 
 -- the date at a place, and its number: 0, or why it is not ordered. What the lists do not have is 0
-abbrev pub dateAt : Stamps → ℕ → JulianDate
-dateAt all p = stampOf (all .jd1s) (all .jd2s) p
+abbrev pub dateOfPlace : Stamps → ℕ → JulianDate
+dateOfPlace all p = stampOf (all .jd1s) (all .jd2s) p
 
-abbrev pub numberAt : Stamps → ℕ → ℕ
-numberAt all p = getD (all .numbers) p 0
+abbrev pub numberOfPlace : Stamps → ℕ → ℕ
+numberOfPlace all p = getD (all .numbers) p 0
 
 -- ---- its recorder, and its index in its run
 unfoldable pub recorder : ℕ → ℕ → ℕ → List ℕ
@@ -79,16 +80,12 @@ unfoldable pub lineBy : Bool → List Row → ℕ → ℕ → ℕ → JulianDate
 lineBy sentences rows first second p d k =
     (((recorder first second p ++ digitsOf (indexIn first second p)) ++ (32 ∷ [])) ++ stampTold sentences rows d k) ++ (10 ∷ [])
 
-unfoldable pub stampLine : Bool → List Row → Stamps → ℕ → List ℕ
-stampLine sentences rows all p = lineBy sentences rows (all .first) (all .second) p (dateAt all p) (numberAt all p)
+unfoldable pub placeLine : Bool → List Row → Stamps → ℕ → List ℕ
+placeLine sentences rows all p = lineBy sentences rows (all .first) (all .second) p (dateOfPlace all p) (numberOfPlace all p)
 
 -- 1 where it is ordered and has no text, else 0
-unfoldable pub oneIfRefused : Outcome (List ℕ) → ℕ
-oneIfRefused (answer t) = 0
-oneIfRefused (refusal k) = 1
-
-unfoldable pub withoutText : List Row → JulianDate → ℕ → ℕ
-withoutText rows d k = cond (eqb k 0) (oneIfRefused (onward (taiToUtc rows d) (isoTextExpanded rows))) 0
+unfoldable pub noTextCount : List Row → JulianDate → ℕ → ℕ
+noTextCount rows d k = cond (eqb k 0) (oneIfRefused (onward (taiToUtc rows d) (isoTextExpanded rows))) 0
 
 -- ---- the place of the stamp of line i, by the order that is lent: four bytes for each line
 abbrev pub placeOf : List ℕ → ℕ → ℕ

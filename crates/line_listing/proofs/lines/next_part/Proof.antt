@@ -6,7 +6,7 @@ use lib.ListN.{length}
 use denote.Ref.{now}
 use Rattle.leap_table.specs.rows.Announced.{rowsOf}
 use Rattle.leap_table.proofs.rows.ByParts.{rows-in}
-use Rattle.line_listing.specs.lines.Parts.{linesIn, partLines}
+use Rattle.line_listing.specs.lines.Parts.{linesOfOrder, listedCount}
 use Rattle.line_listing.proofs.lines.Whole.{few-lines, no-lines, part-done, part-refused, rows-same}
 use borrow.Author.Needs.{needs}
 use Rattle.line_listing.proofs.lines.next_part.Statement.{statement}
@@ -18,7 +18,7 @@ returns c =
     part-refused (st .args .sentences) (rowsOf (st .args .t9)) _ _ _ _ _ _ (c .if1 .taken) (c .before .table-refusal .ensures)
 
 returns-2 : tie.Need-returns-2
-unfolding partLines linesIn
+unfolding listedCount linesOfOrder
 returns-2 c =
     let st = c .before .before .before .before .before .before .before .before .before in
     part-done (st .args .sentences) (rowsOf (st .args .t9)) _ _ _ _ _ _ _ _ _ (c .before .before .if1 .left) (c .before .before .before .table-refusal .ensures) (c .before .part-lines .ensures)
@@ -31,7 +31,7 @@ page-part-requires c κs =
     (f .0, omega (arith, f .1 (omega arith), st .good), f .2)
 
 returns-3 : tie.Need-returns-3
-unfolding partLines linesIn
+unfolding listedCount linesOfOrder
 returns-3 c =
     let st = c .before .before .before .before .before .before .before .before .before .before .before .before .before .before .before .before .before in
     part-done (st .args .sentences) (rowsOf (st .args .t9)) _ _ _ _ _ _ _ _ _ (c .before .before .before .before .before .before .before .before .before .before .if1 .left) (c .before .before .before .before .before .before .before .before .before .before .before .table-refusal .ensures) (c .before .before .before .before .before .before .before .before .before .part-lines .ensures)

@@ -11,7 +11,7 @@ use Rattle.julian.specs.stamp_lists.Stamps.{stampOf}
 use Rattle.utc_scales.specs.UtcTai.{taiToUtc}
 use Rattle.line_listing.specs.lines.StampLine.{stamps}
 use Rattle.line_listing.specs.lines.Asked.{answerBy}
-use Rattle.line_listing.specs.lines.Parts.{lineRoom, linesFrom, textlessFrom}
+use Rattle.line_listing.specs.lines.Parts.{longestLine, listedLines, textlessFrom}
 use Rattle.line_listing.proofs.lines.Whole.{lines-more, textless-more, told-one, room-start, room-now, room-next, lines-end}
 use borrow.Author.Needs.{needs}
 use Rattle.line_listing.proofs.lines.place_lines.Statement.{statement}
@@ -20,8 +20,8 @@ use Rattle.line_listing.proofs.lines.place_lines.Tie as tie
 abbrev Inv-loop : tie.InvT-loop
 Inv-loop sentences jd1s jd2s numbers first second order line count utc1 utc2 marks size months seconds out₀ at₀ textless₀ i₀ out at textless i =
     (i ≤ count)
-    × Placed out₀ 0 (linesFrom sentences (rowsIn size months seconds) (stamps jd1s jd2s numbers first second) order line i) at out
-    × (at + (count - i) * lineRoom sentences ≤ length out₀)
+    × Placed out₀ 0 (listedLines sentences (rowsIn size months seconds) (stamps jd1s jd2s numbers first second) order line i) at out
+    × (at + (count - i) * longestLine sentences ≤ length out₀)
     × (length out ≡ length out₀)
     × (textless ≡ textlessFrom (rowsIn size months seconds) (stamps jd1s jd2s numbers first second) order line i)
     × (textless ≤ i)
@@ -30,7 +30,7 @@ abbrev μ-loop : tie.MeasureT-loop
 μ-loop sentences jd1s jd2s numbers first second order line count utc1 utc2 marks size months seconds out₀ at₀ textless₀ i₀ out at textless i = count - i
 
 loop-holds : tie.Need-loop-holds Inv-loop μ-loop
-unfolding linesFrom textlessFrom
+unfolding listedLines textlessFrom
 loop-holds c =
     let st = c .before .before .before .before .before .before .before .before in
     (omega arith, nothing (now (st .args .out)), room-start (st .args .sentences) (st .args .count) _ (st .pre .4), refl, refl, omega arith)
