@@ -137,7 +137,8 @@ fn place_text<'a>(
 ) -> Told
     requires { ⌜ (answerBy mark date ≡ taiToUtc (rowsIn size (now months) (now seconds)) tai) × (at + longestLine sentences ≤ length (now dst) + 16) ⌝ }
     ensures { λ r. ⌜ ToldAt (now (dst .entry)) at
-        (utcTold sentences (rowsIn size (now (months .entry)) (now (seconds .entry))) tai (taiToUtc (rowsIn size (now (months .entry)) (now (seconds .entry))) tai))
+        (utcTold sentences (rowsIn size (now (months .entry)) (now (seconds .entry))) tai (taiToUtc (rowsIn size (now (months .entry)) (now (seconds
+        .entry))) tai))
         (oneIfRefused (onward (taiToUtc (rowsIn size (now (months .entry)) (now (seconds .entry))) tai)
         (isoTextExpanded (rowsIn size (now (months .entry)) (now (seconds .entry)))))) r (now (dst .exit)) ⌝ }
     ensures { λ r. ⌜ r .next + 16 ≤ at + longestLine sentences ⌝ }
@@ -423,7 +424,8 @@ fn part_lines(sentences: bool, lines: usize, line: usize, room: usize) -> usize
 }
 
 // The lines of an order of stamps, from line `line` on, at the start of the buffer: as many whole lines as surely go into it, each given the room of the
-// longest, 43 bytes, or 84 with sentences, and at most 256. A stamp that the lists do not have is of parts 0.0 and of number 0. Into a shorter buffer nothing is
+// longest, 43 bytes, or 84 with sentences, and at most 256. A stamp that the lists do not have is of parts 0.0 and of number 0. Into a shorter buffer
+// nothing is
 // written, and the answer names the same line. Refusals: 20 to 22 the table.
 pub fn next_part(
     sentences: bool,

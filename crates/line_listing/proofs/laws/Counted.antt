@@ -1,4 +1,5 @@
--- THE COUNTS: each stamp of a run is of one of the four kinds, so the counts of not finite, refused, left out and ordered add up to its stamps. Assumes nothing.
+-- THE COUNTS: each stamp of a run is of one of the four kinds, so the counts of not finite, refused, left out and ordered add up to its stamps. Assumes
+-- nothing.
 use Prim.Native.Nat.{ℕ, zero, suc, _+_}
 use native.Mathlib.Omega.{arith}
 use mathlib.Core.Path.{_≡_, refl, sym, ap, _∙_}

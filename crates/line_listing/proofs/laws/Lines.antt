@@ -9,7 +9,8 @@ use borrow.Author.Tests.{ne-eqb}
 use Rattle.numerals.specs.digits.Decimal.{digitsIn, digitsOf}
 use Rattle.utc.specs.text.Ascii.{asciiBytes}
 use Rattle.leap_table.specs.rows.Table.{Row}
-use Rattle.line_listing.specs.lines.StampLine.{Stamps, placeOf, dateOfPlace, numberOfPlace, recorder, indexIn, sentenceBehind, numberTold, refused, stampTold, lineBy, placeLine}
+use Rattle.line_listing.specs.lines.StampLine.{Stamps, placeOf, dateOfPlace, numberOfPlace, recorder, indexIn}
+use Rattle.line_listing.specs.lines.StampLine.{sentenceBehind, numberTold, refused, stampTold, lineBy, placeLine}
 use Rattle.line_listing.specs.lines.Parts.{listedLines}
 
 -- A STAMP WITH A NUMBER is told by it, and never by a text
@@ -40,10 +41,12 @@ parts-join s rows all order line j (suc k) =
     ∙ append-assoc (listedLines s rows all order line j) (listedLines s rows all order (line + j) k) (placeLine s rows all (placeOf order (line + j + k)))
 
 -- A STAMP OF NUMBER 6 OR 9, as every one that is not finite has it (22.4 of docs/GUARANTEES.md), by whatever rows, in whatever order and runs
-pub six-told : (rows : List Row) (all : Stamps) (p : ℕ) → numberOfPlace all p ≡ 6 → stampTold false rows (dateOfPlace all p) (numberOfPlace all p) ≡ asciiBytes "refused 6"
+pub six-told : (rows : List Row) (all : Stamps) (p : ℕ) → numberOfPlace all p ≡ 6 → stampTold false rows (dateOfPlace all p) (numberOfPlace all p) ≡
+    asciiBytes "refused 6"
 unfolding stampTold refused numberTold sentenceBehind digitsOf digitsIn
 six-told rows all p e = ap (stampTold false rows (dateOfPlace all p)) e
 
-pub nine-told : (rows : List Row) (all : Stamps) (p : ℕ) → numberOfPlace all p ≡ 9 → stampTold false rows (dateOfPlace all p) (numberOfPlace all p) ≡ asciiBytes "refused 9"
+pub nine-told : (rows : List Row) (all : Stamps) (p : ℕ) → numberOfPlace all p ≡ 9 → stampTold false rows (dateOfPlace all p) (numberOfPlace all p) ≡
+    asciiBytes "refused 9"
 unfolding stampTold refused numberTold sentenceBehind digitsOf digitsIn
 nine-told rows all p e = ap (stampTold false rows (dateOfPlace all p)) e

@@ -23,7 +23,8 @@ use Rattle.reasons.specs.declared.sentences.Reason.{Reason}
 use Rattle.reasons.specs.sentences.Render.{render}
 use Rattle.reasons.specs.Sentence.{reasonOf, reasonOutcome, sentence}
 use Rattle.utc.specs.iso_texts.Expanded.{isoTextExpanded}
-use Rattle.line_listing.specs.lines.StampLine.{recorder, indexIn, behind, sentenceBehind, noText, refused, textTold, utcTold, stampTold, lineBy, noTextCount}
+use Rattle.line_listing.specs.lines.StampLine.{recorder, indexIn, behind, sentenceBehind, noText}
+use Rattle.line_listing.specs.lines.StampLine.{refused, textTold, utcTold, stampTold, lineBy, noTextCount}
 use Rattle.line_listing.specs.lines.Asked.{answerBy, ToldAt}
 use Rattle.line_listing.specs.declared.lines.Told.{Told}
 
@@ -76,7 +77,8 @@ pub unmarked : (m : ℕ) (d : JulianDate) (o : Outcome JulianDate) → m ≡ 0 �
 unfolding answerBy
 unmarked m d o h e = sym e ∙ rw (eq-eqb m 0 h)
 
-pub told-as : {d after : List ℕ} {at none none′ : ℕ} {t t′ : List ℕ} {r : Told} → t ≡ t′ → none ≡ none′ → ToldAt d at t none r after → ToldAt d at t′ none′ r after
+pub told-as : {d after : List ℕ} {at none none′ : ℕ} {t t′ : List ℕ} {r : Told} → t ≡ t′ → none ≡ none′ → ToldAt d at t none r after → ToldAt d at t′ none′ r
+    after
 told-as e f p = record { placed = placed-as e (p .placed); counted = p .counted ∙ f }
 
 -- ---- what is told of an ordered stamp

@@ -41,28 +41,29 @@ use Rattle.line_listing.specs.lines.StampLine.{placeOf}
 use Rattle.line_listing.specs.lines.Asked.{answerBy, Gathered, Converted}
 
 -- ---- eight bytes are one number
-module _ (l m : List ℕ) (at to : ℕ) (room : at + 8 ≤ length l) (room′ : to + 8 ≤ length m) (same : (k : ℕ) → k < 8 → getD l (at + k) 0 ≡ getD m (to + k) 0) where
-  by-byte : (a b k : ℕ) → k < 8 → a ≡ at + k → b ≡ to + k → getD l a 0 ≡ getD m b 0
-  by-byte a b k h e f = ap (λ (j : ℕ). getD l j 0) e ∙ same k h ∙ ap (λ (j : ℕ). getD m j 0) (sym f)
+module _ (l m : List ℕ) (at to : ℕ) (room : at + 8 ≤ length l) (room′ : to + 8 ≤ length m) (same : (k : ℕ) → k < 8 → getD l (at + k) 0 ≡ getD m (to + k) 0)
+  where
+    by-byte : (a b k : ℕ) → k < 8 → a ≡ at + k → b ≡ to + k → getD l a 0 ≡ getD m b 0
+    by-byte a b k h e f = ap (λ (j : ℕ). getD l j 0) e ∙ same k h ∙ ap (λ (j : ℕ). getD m j 0) (sym f)
 
-  four-same : (a b k : ℕ) → k < 5 → a ≡ at + k → b ≡ to + k → fourAt l a ≡ fourAt m b
-  unfolding fourAt
-  four-same a b k h e f =
-      rw (
-        by-byte a b k (omega arith) e f,
-        by-byte (a + 1) (b + 1) (k + 1) (omega arith) (omega arith) (omega arith),
-        by-byte (a + 2) (b + 2) (k + 2) (omega arith) (omega arith) (omega arith),
-        by-byte (a + 3) (b + 3) (k + 3) (omega arith) (omega arith) (omega arith),
-      ) refl
+    four-same : (a b k : ℕ) → k < 5 → a ≡ at + k → b ≡ to + k → fourAt l a ≡ fourAt m b
+    unfolding fourAt
+    four-same a b k h e f =
+        rw (
+          by-byte a b k (omega arith) e f,
+          by-byte (a + 1) (b + 1) (k + 1) (omega arith) (omega arith) (omega arith),
+          by-byte (a + 2) (b + 2) (k + 2) (omega arith) (omega arith) (omega arith),
+          by-byte (a + 3) (b + 3) (k + 3) (omega arith) (omega arith) (omega arith),
+        ) refl
 
-  pub eight-same : u64At l at ≡ u64At m to
-  unfolding u64At
-  eight-same = rw (
-    le-leb (at + 8) (length l) room,
-    le-leb (to + 8) (length m) room′,
-    four-same at to 0 (omega arith) (omega arith) (omega arith),
-    four-same (at + 4) (to + 4) 4 (omega arith) refl refl,
-  ) refl
+    pub eight-same : u64At l at ≡ u64At m to
+    unfolding u64At
+    eight-same = rw (
+      le-leb (at + 8) (length l) room,
+      le-leb (to + 8) (length m) room′,
+      four-same at to 0 (omega arith) (omega arith) (omega arith),
+      four-same (at + 4) (to + 4) 4 (omega arith) refl refl,
+    ) refl
 
 eight-read : (l : List ℕ) (at n : ℕ) → at + 8 ≤ length l → ((k : ℕ) → k < 8 → getD l (at + k) 0 ≡ getD (eightBytes n) k 0)
     → u64At l at ≡ u64At (eightBytes n) 0

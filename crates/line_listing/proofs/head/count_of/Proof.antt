@@ -21,7 +21,13 @@ add-kind-at : tie.Need-add-kind-at Inv-loop μ-loop
 add-kind-at c = let st = c .before .before .before .before .before in omega (arith, st .pre)
 
 add-count : tie.Need-add-count Inv-loop μ-loop
-add-count c = let st = c .before .before .before .before .before .before .before in omega (arith, c .before .before .before .loop .inv .2, c .one-if-same .ensures .1, st .pre)
+add-count c = let st = c .before .before .before .before .before .before .before in omega (
+  arith,
+  c .before .before .before .loop .inv .2,
+  c .one-if-same
+      .ensures .1,
+  st .pre,
+)
 
 add-i : tie.Need-add-i Inv-loop μ-loop
 add-i c = let st = c .before .before .before .before .before .before .before in omega (arith, st .pre)

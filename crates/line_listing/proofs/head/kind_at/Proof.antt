@@ -20,19 +20,24 @@ returns-2 c = is-left-out _ _ _ _ _ (c .before .before .number-at .ensures) (c .
 
 returns-3 : tie.Need-returns-3
 returns-3 c =
-    first-not-finite _ _ _ _ _ (c .before .before .before .before .before .number-at .ensures) (c .before .before .before .before .if1 .left) (c .before .before .before .if2 .left)
+    first-not-finite _ _ _ _ _ (c .before .before .before .before .before .number-at .ensures) (c .before .before .before .before .if1 .left) (c .before
+    .before .before .if2 .left)
     (ap ones (sym (c .before .before .nth-u64 .ensures)) ∙ sym (c .before .all-ones .ensures) ∙ c .if3 .taken)
 
 returns-4 : tie.Need-returns-4
 returns-4 c =
-    second-not-finite _ _ _ _ _ (c .before .before .before .before .before .before .before .before .number-at .ensures) (c .before .before .before .before .before .before .before .if1 .left) (c .before .before .before .before .before .before .if2 .left)
-    (ap ones (sym (c .before .before .before .before .before .nth-u64 .ensures)) ∙ sym (c .before .before .before .before .all-ones .ensures) ∙ c .before .before .before .if3 .left)
+    second-not-finite _ _ _ _ _ (c .before .before .before .before .before .before .before .before .number-at .ensures) (c .before .before .before .before
+    .before .before .before .if1 .left) (c .before .before .before .before .before .before .if2 .left)
+    (ap ones (sym (c .before .before .before .before .before .nth-u64 .ensures)) ∙ sym (c .before .before .before .before .all-ones .ensures) ∙ c .before
+    .before .before .if3 .left)
     (ap ones (sym (c .before .before .nth-u642 .ensures)) ∙ sym (c .before .all-ones2 .ensures) ∙ c .if4 .taken)
 
 returns-5 : tie.Need-returns-5
 returns-5 c =
-    is-refused _ _ _ _ _ (c .before .before .before .before .before .before .before .before .number-at .ensures) (c .before .before .before .before .before .before .before .if1 .left) (c .before .before .before .before .before .before .if2 .left)
-    (ap ones (sym (c .before .before .before .before .before .nth-u64 .ensures)) ∙ sym (c .before .before .before .before .all-ones .ensures) ∙ c .before .before .before .if3 .left)
+    is-refused _ _ _ _ _ (c .before .before .before .before .before .before .before .before .number-at .ensures) (c .before .before .before .before .before
+    .before .before .if1 .left) (c .before .before .before .before .before .before .if2 .left)
+    (ap ones (sym (c .before .before .before .before .before .nth-u64 .ensures)) ∙ sym (c .before .before .before .before .all-ones .ensures) ∙ c .before
+    .before .before .if3 .left)
     (ap ones (sym (c .before .before .nth-u642 .ensures)) ∙ sym (c .before .all-ones2 .ensures) ∙ c .if4 .left)
 
 pub kind-at-spec : {M : Type 1} → statement M

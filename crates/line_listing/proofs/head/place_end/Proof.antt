@@ -19,7 +19,8 @@ count-2 c κs =
 returns-2 : tie.Need-returns-2
 returns-2 c =
     let st = c .before .before .before .before .before .before .before .before .before .before .before .before .before .before in
-    in-as (ended (st .args .end) (c .before .before .before .before .before .before .before .before .before .before .before .if1 .left)) (and-then (c .before .before .before .before .before .before .before .before .place-count .ensures) (c .before .before .place-count2 .ensures) (omega (arith, st .pre)))
+    in-as (ended (st .args .end) (c .before .before .before .before .before .before .before .before .before .before .before .if1 .left)) (and-then (c .before
+    .before .before .before .before .before .before .before .place-count .ensures) (c .before .before .place-count2 .ensures) (omega (arith, st .pre)))
 
 pub place-end-spec : {M : Type 1} → statement M
 place-end-spec =

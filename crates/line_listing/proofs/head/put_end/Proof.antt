@@ -13,7 +13,12 @@ use Rattle.line_listing.proofs.head.put_end.Tie as tie
 returns : tie.Need-returns
 returns c =
     let st = c .before .before .before .before .before in
-    short (endText (st .args .ordered) (st .args .textless)) (now (st .args .out)) (omega (arith, c .if1 .taken, c .before .before .compose-end .ensures .placed .ends))
+    short (endText (st .args .ordered) (st .args .textless)) (now (st .args .out)) (omega (
+      arith,
+      c .if1 .taken,
+      c .before .before .compose-end .ensures
+          .placed .ends,
+    ))
 
 slice-aggregate-copy : tie.Need-slice-aggregate-copy
 slice-aggregate-copy c =
@@ -29,7 +34,8 @@ returns-2 : tie.Need-returns-2
 returns-2 c =
     let st = c .before .before .before .before .before .before .before .before .before .before in
     let p = c .before .before .before .before .before .before .before .compose-end .ensures .placed in
-    put-done _ (endText (st .args .ordered) (st .args .textless)) (now (st .args .out)) _ _ (placed-first p) (c .before .before .copy .ensures .0) (c .before .before .copy .ensures .1)
+    put-done _ (endText (st .args .ordered) (st .args .textless)) (now (st .args .out)) _ _ (placed-first p) (c .before .before .copy .ensures .0) (c .before
+    .before .copy .ensures .1)
     (omega (arith, c .before .before .before .before .before .if1 .left, p .ends))
 
 pub put-end-spec : {M : Type 1} → statement M

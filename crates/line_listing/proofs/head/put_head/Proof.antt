@@ -15,7 +15,8 @@ returns : tie.Need-returns
 returns c =
     let st = c .before .before .before .before .before .before .before .before in
     short (headText (st .args .gps) (st .args .tai) (st .args .utc)
-    (stamps (now (st .args .jd1s)) (now (st .args .jd2s)) (now (st .args .numbers)) (st .args .first) (st .args .second))) (now (st .args .out)) (omega (arith, c .if1 .taken, c .before .before .compose .ensures .placed .ends))
+    (stamps (now (st .args .jd1s)) (now (st .args .jd2s)) (now (st .args .numbers)) (st .args .first) (st .args .second))) (now (st .args .out)) (omega
+    (arith, c .if1 .taken, c .before .before .compose .ensures .placed .ends))
 
 slice-aggregate-copy : tie.Need-slice-aggregate-copy
 slice-aggregate-copy c =
@@ -32,7 +33,8 @@ returns-2 c =
     let st = c .before .before .before .before .before .before .before .before .before .before .before .before .before in
     let p = c .before .before .before .before .before .before .before .compose .ensures .placed in
     put-done _ (headText (st .args .gps) (st .args .tai) (st .args .utc)
-    (stamps (now (st .args .jd1s)) (now (st .args .jd2s)) (now (st .args .numbers)) (st .args .first) (st .args .second))) (now (st .args .out)) _ _ (placed-first p) (c .before .before .copy .ensures .0) (c .before .before .copy .ensures .1)
+    (stamps (now (st .args .jd1s)) (now (st .args .jd2s)) (now (st .args .numbers)) (st .args .first) (st .args .second))) (now (st .args .out)) _ _
+    (placed-first p) (c .before .before .copy .ensures .0) (c .before .before .copy .ensures .1)
     (omega (arith, c .before .before .before .before .before .if1 .left, p .ends))
 
 pub put-head-spec : {M : Type 1} → statement M

@@ -22,11 +22,15 @@ slice-2 c = omega (arith, c .before .before .before .gather2 .ensures .1)
 
 returns : tie.Need-returns
 returns c =
-    let st = c .before .before .before .before .before .before .before .before .before .before .before .before .before .before .before .before .before .before .before .before .before .before .before .before in
-    let g = c .before .before .before .before .before .before .before .before .before .before .before .before .before .before .before .before .gather .ensures in
+    let st = c .before .before .before .before .before .before .before .before .before .before .before .before .before .before .before .before .before
+    .before .before .before .before .before .before .before in
+    let g = c .before .before .before .before .before .before .before .before .before .before .before .before .before .before .before .before .gather
+    .ensures in
     let h = c .before .before .before .before .before .before .before .before .before .before .before .before .before .gather2 .ensures in
-    let w = page-lengths _ _ _ _ _ _ _ _ _ _ _ (g .1) (h .1) (st .pre .1) (st .pre .2) (st .pre .3) (g .0) (h .0) (c .before .before .before .before .before .before .convert-run-by-arrays .ensures) in (
-      page-converted _ _ _ _ _ _ _ _ _ _ _ (g .1) (h .1) (st .pre .1) (st .pre .2) (st .pre .3) (g .0) (h .0) (c .before .before .before .before .before .before .convert-run-by-arrays .ensures),
+    let w = page-lengths _ _ _ _ _ _ _ _ _ _ _ (g .1) (h .1) (st .pre .1) (st .pre .2) (st .pre .3) (g .0) (h .0) (c .before .before .before .before .before
+    .before .convert-run-by-arrays .ensures) in (
+      page-converted _ _ _ _ _ _ _ _ _ _ _ (g .1) (h .1) (st .pre .1) (st .pre .2) (st .pre .3) (g .0) (h .0) (c .before .before .before .before .before
+          .before .convert-run-by-arrays .ensures),
       w .0,
       w .1,
       w .2,

@@ -35,7 +35,8 @@ loop-again : tie.Need-loop-again Inv-loop μ-loop
 loop-again c =
     let l = c .before .before .before .before .before .before .before .loop in (
       omega arith,
-      gathered-more _ _ _ (l .i) (l .out) _ _ _ (omega (arith, l .inv .2)) (l .inv .1) (c .before .before .before .before .before .nth-u32 .ensures) (c .before .before .before .nth-u64 .ensures) (omega arith)
+      gathered-more _ _ _ (l .i) (l .out) _ _ _ (omega (arith, l .inv .2)) (l .inv .1) (c .before .before .before .before .before .nth-u32 .ensures) (c
+          .before .before .before .nth-u64 .ensures) (omega arith)
           (c .before .before .put-nth-u64 .ensures),
       omega (arith, l .inv .2),
     )

@@ -19,8 +19,17 @@ slice-3 c = omega (arith, c .before .before .before .before .before .before .con
 
 place-lines-requires : tie.Need-place-lines-requires
 place-lines-requires c κs =
-    let st = c .before .before .before .before .before .before .before .before .before .before .before .before .before .before .before .before in
-    (c .before .before .before .before .before .before .before .convert-page .ensures .0, st .pre .0, omega (arith, c .before .before .before .before .before .before .before .convert-page .ensures .3), st .pre .1, st .pre .2)
+    let st = c .before .before .before .before .before .before .before .before .before .before .before .before .before .before .before .before in (
+      c .before .before .before .before .before .before .before .convert-page .ensures .0,
+      st .pre .0,
+      omega (
+        arith,
+        c .before .before .before .before .before
+            .before .before .convert-page .ensures .3,
+      ),
+      st .pre .1,
+      st .pre .2,
+    )
 
 returns : tie.Need-returns
 returns c = c .before .before .place-lines .ensures

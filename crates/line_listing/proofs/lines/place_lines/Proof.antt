@@ -42,14 +42,16 @@ cast-place : tie.Need-cast-place Inv-loop μ-loop
 cast-place c = search needs
 
 read-mark : tie.Need-shared-slice-read-place-line Inv-loop μ-loop
-read-mark c = let st = c .before .before .before .before .before .before .before .before .before .before .before .before .before .before .before in omega (arith, st .pre .1, st .pre .2)
+read-mark c = let st = c .before .before .before .before .before .before .before .before .before .before .before .before .before .before .before in omega
+    (arith, st .pre .1, st .pre .2)
 
 place-line-requires : tie.Need-place-line-requires Inv-loop μ-loop
 place-line-requires c κs =
     let st = c .before .before .before .before .before .before .before .before .before .before .before .before .before .before .before .before in
     let l = c .before .before .before .before .before .before .before .loop in
     let low = st .pre .0 (l .i) (omega (arith, st .pre .1)) in
-    let date = c .before .before .before .stamp-of .ensures ∙ ap (stampOf (now (st .args .jd1s)) (now (st .args .jd2s))) (c .before .before .before .before .before .nth-u32 .ensures) in (
+    let date = c .before .before .before .stamp-of .ensures ∙ ap (stampOf (now (st .args .jd1s)) (now (st .args .jd2s))) (c .before .before .before .before
+    .before .nth-u32 .ensures) in (
       ap (answerBy _) (c .before .before .stamp-of2 .ensures) ∙ low ∙ ap (taiToUtc _) (sym date),
       omega arith,
       omega (arith, room-now (st .args .sentences) (st .args .count) (l .i) (l .at) _ (omega arith) (l .inv .2), l .inv .3),
@@ -57,31 +59,57 @@ place-line-requires c κs =
 
 add-textless : tie.Need-add-textless Inv-loop μ-loop
 add-textless c =
-    let st = c .before .before .before .before .before .before .before .before .before .before .before .before .before .before .before .before .before .before .before .before in
-    omega (arith, c .before .before .before .before .before .before .before .before .before .before .before .loop .inv .0, c .before .before .before .before .before .before .before .before .before .before .before .loop .inv .5, told-one (rowsIn (st .args .size) (now (st .args .months)) (now (st .args .seconds))) (c .before .before .before .before .before .before .before .stamp-of .result) (c .before .before .before .before .before .before .before .before .number-at .result) (c .before .before .before .place-line .ensures .0), st .pre .1)
+    let st = c .before .before .before .before .before .before .before .before .before .before .before .before .before .before .before .before .before
+    .before .before .before in
+    omega (
+      arith,
+      c .before .before .before .before .before .before .before .before .before .before .before .loop .inv .0,
+      c .before .before .before .before
+          .before .before .before .before .before .before .before .loop .inv .5,
+      told-one (rowsIn (st .args .size) (now (st .args .months)) (now (st .args
+          .seconds))) (c .before .before .before .before .before .before .before .stamp-of .result) (c .before .before .before .before .before .before .before
+          .before .number-at .result) (c .before .before .before .place-line .ensures .0),
+      st .pre .1,
+    )
 
 add-i : tie.Need-add-i Inv-loop μ-loop
-add-i c = let st = c .before .before .before .before .before .before .before .before .before .before .before .before .before .before .before .before .before .before .before .before in omega (arith, c .before .before .before .before .before .before .before .before .before .before .before .loop .inv .0, st .pre .1)
+add-i c = let st = c .before .before .before .before .before .before .before .before .before .before .before .before .before .before .before .before .before
+    .before .before .before in omega (
+      arith,
+      c .before .before .before .before .before .before .before .before .before .before .before .loop .inv .0,
+      st .pre
+          .1,
+    )
 
 loop-less : tie.Need-loop-less Inv-loop μ-loop
 loop-less c = omega arith
 
 loop-again : tie.Need-loop-again Inv-loop μ-loop
 loop-again c =
-    let st = c .before .before .before .before .before .before .before .before .before .before .before .before .before .before .before .before .before .before .before .before in
+    let st = c .before .before .before .before .before .before .before .before .before .before .before .before .before .before .before .before .before
+    .before .before .before in
     let l = c .before .before .before .before .before .before .before .before .before .before .before .loop in
     let p = c .before .before .before .place-line .ensures in
     let all = stamps (now (st .args .jd1s)) (now (st .args .jd2s)) (now (st .args .numbers)) (st .args .first) (st .args .second) in
-    let next = room-next (st .args .sentences) (st .args .count) (l .i) (l .at) _ _ (c .before .before .before .before .before .before .before .before .before .before .loop-test .taken) (l .inv .2) (p .1) in
-    let now-room = room-now (st .args .sentences) (st .args .count) (l .i) (l .at) _ (c .before .before .before .before .before .before .before .before .before .before .loop-test .taken) (l .inv .2) in (
+    let next = room-next (st .args .sentences) (st .args .count) (l .i) (l .at) _ _ (c .before .before .before .before .before .before .before .before
+    .before .before .loop-test .taken) (l .inv .2) (p .1) in
+    let now-room = room-now (st .args .sentences) (st .args .count) (l .i) (l .at) _ (c .before .before .before .before .before .before .before .before
+    .before .before .loop-test .taken) (l .inv .2) in (
       omega (arith, c .before .before .before .before .before .before .before .before .before .before .loop-test .taken),
-      lines-more (st .args .sentences) _ all (now (st .args .order)) (st .args .line) (l .i) _ _ _ (c .before .before .before .before .before .before .before .before .before .nth-u32 .ensures) (c .before .before .before .before .before .before .before .stamp-of .ensures)
+      lines-more (st .args .sentences) _ all (now (st .args .order)) (st .args .line) (l .i) _ _ _ (c .before .before .before .before .before .before .before
+          .before .before .nth-u32 .ensures) (c .before .before .before .before .before .before .before .stamp-of .ensures)
           (c .before .before .before .before .before .before .before .before .number-at .ensures) (l .inv .1) (p .0 .placed) (omega (arith, p .1, now-room)),
       next,
       omega (arith, l .inv .3),
-      textless-more (st .args .sentences) _ all (now (st .args .order)) (st .args .line) (l .i) _ _ _ (c .before .before .before .before .before .before .before .before .before .nth-u32 .ensures) (c .before .before .before .before .before .before .before .stamp-of .ensures)
+      textless-more (st .args .sentences) _ all (now (st .args .order)) (st .args .line) (l .i) _ _ _ (c .before .before .before .before .before .before
+          .before .before .before .nth-u32 .ensures) (c .before .before .before .before .before .before .before .stamp-of .ensures)
           (c .before .before .before .before .before .before .before .before .number-at .ensures) _ _ (l .inv .4) (p .0 .counted),
-      omega (arith, l .inv .5, told-one (rowsIn (st .args .size) (now (st .args .months)) (now (st .args .seconds))) (c .before .before .before .before .before .before .before .stamp-of .result) (c .before .before .before .before .before .before .before .before .number-at .result) (p .0)),
+      omega (
+        arith,
+        l .inv .5,
+        told-one (rowsIn (st .args .size) (now (st .args .months)) (now (st .args .seconds))) (c .before .before .before .before
+            .before .before .before .stamp-of .result) (c .before .before .before .before .before .before .before .before .number-at .result) (p .0),
+      ),
     )
 
 add-t32 : tie.Need-add-t32 Inv-loop μ-loop
@@ -93,7 +121,8 @@ same-length c = c .before .loop .inv .3
 returns : tie.Need-returns Inv-loop μ-loop
 returns c =
     let l = c .before .loop in
-    lines-end _ _ _ _ _ _ _ _ _ _ _ (let e : l .i ≡ c .before .before .before .before .before .before .before .before .before .before .args .count = omega (arith, l .inv .0) in e) (l .inv .1) (l .inv .4)
+    lines-end _ _ _ _ _ _ _ _ _ _ _ (let e : l .i ≡ c .before .before .before .before .before .before .before .before .before .before .args .count = omega
+    (arith, l .inv .0) in e) (l .inv .1) (l .inv .4)
     (omega (arith, l .inv .2))
 
 pub place-lines-spec : {M : Type 1} → statement M

@@ -29,7 +29,8 @@ returns c =
     let most = number-most (st .args .number) (st .args .jd) (st .pre .0) (st .args .sentences) in
     let apart = told-apart (st .args .sentences) (st .args .number) (st .args .jd) in
     let p = c .before .before .before .before .before .before .before .place-decimal .ensures .0 .written (omega (arith, most, apart, st .pre .1)) in
-    let q = placed-as (ap (λ (b : Bool). sentenceBehind b (st .args .number) (st .args .jd)) (sym (c .before .before .before .before .if1 .taken))) (c .before .before .place-sentence .ensures) in
+    let q = placed-as (ap (λ (b : Bool). sentenceBehind b (st .args .number) (st .args .jd)) (sym (c .before .before .before .before .if1 .taken))) (c
+    .before .before .place-sentence .ensures) in
     (then p q (omega (arith, most, apart, p .ends, q .ends, st .pre .1)), omega (arith, most, apart, p .ends, q .ends))
 
 returns-2 : tie.Need-returns-2

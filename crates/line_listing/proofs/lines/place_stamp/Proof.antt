@@ -18,7 +18,11 @@ returns c =
     let st = c .before .before .before .before .before .before in
     let q = c .before .before .place-refused .ensures in (
       told-as (refused-is (st .args .sentences) (rows st) (st .args .tai) _ (c .before .before .before .before .if1 .taken))
-          (refused-none (st .args .sentences) (rows st) (st .args .tai) _ (c .before .before .before .before .if1 .taken)) (record { placed = q .0; counted = refl }),
+          (refused-none (st .args .sentences) (rows st) (st .args .tai) _ (c .before .before .before .before .if1 .taken)) (record {
+            placed = q .0;
+            counted =
+                refl;
+          }),
       q .1,
     )
 

@@ -33,7 +33,8 @@ from c = let st = c .before .before in omega (arith, room-low (st .args .sentenc
 add-t23 : tie.Need-add-t23
 add-t23 c =
     let st = c .before .before .before .before .before .before .before .before .before in
-    let w = text-there (rows st) (st .args .date) (c .before .before .before .before .before .to-iso8601-expanded-by-arrays .ensures) _ _ (c .before .n .given .1) in
+    let w = text-there (rows st) (st .args .date) (c .before .before .before .before .before .to-iso8601-expanded-by-arrays .ensures) _ _ (c .before .n
+    .given .1) in
     let few = brief (rows st) (st .args .date) (w .0) (w .1) in
     omega (arith, w .2, few, room-low (st .args .sentences), st .pre .1, st .good)
 
@@ -41,7 +42,8 @@ place-no-text-requires-2 : tie.Need-place-no-text-requires-2
 place-no-text-requires-2 c κs =
     let st = c .before .before .before .before .before .before .before .before .before .before in
     let room = lent-length (now (st .args .dst)) (st .args .at) (omega (arith, room-low (st .args .sentences), st .pre .1)) in
-    let w = text-refused (rows st) (st .args .date) refl (c .before .before .before .before .before .before .to-iso8601-expanded-by-arrays .ensures) _ (c .before .before .number .given .1)
+    let w = text-refused (rows st) (st .args .date) refl (c .before .before .before .before .before .before .to-iso8601-expanded-by-arrays .ensures) _ (c
+    .before .before .number .given .1)
     (omega (arith, room, room-low (st .args .sentences), st .pre .1)) in
     let k = date-number (rows st) (st .args .date) _ (w .0) in
     (omega (arith, k .1), search needs)
@@ -50,7 +52,8 @@ returns-2 : tie.Need-returns-2
 returns-2 c =
     let st = c .before .before .before .before .before .before .before .before .before in
     let u = unmarked _ _ _ (c .before .before .before .before .before .before .before .if1 .left) (st .pre .0) in
-    let w = text-there (rows st) (st .args .date) (c .before .before .before .before .before .to-iso8601-expanded-by-arrays .ensures) _ _ (c .before .n .given .1) in
+    let w = text-there (rows st) (st .args .date) (c .before .before .before .before .before .to-iso8601-expanded-by-arrays .ensures) _ _ (c .before .n
+    .given .1) in
     let few = brief (rows st) (st .args .date) (w .0) (w .1) in (
       told-as (text-told (st .args .sentences) (rows st) (st .args .tai) (st .args .date) u (w .0) (w .1))
           (text-counted (st .args .sentences) (rows st) (st .args .tai) (st .args .date) u (w .0) (w .1))
@@ -66,7 +69,8 @@ returns-3 c =
     let st = c .before .before .before .before .before .before .before .before .before .before .before .before .before in
     let u = unmarked _ _ _ (c .before .before .before .before .before .before .before .before .before .before .before .if1 .left) (st .pre .0) in
     let room = lent-length (now (st .args .dst)) (st .args .at) (omega (arith, room-low (st .args .sentences), st .pre .1)) in
-    let w = text-refused (rows st) (st .args .date) refl (c .before .before .before .before .before .before .before .before .before .to-iso8601-expanded-by-arrays .ensures) _ (c .before .before .before .before .before .number .given .1)
+    let w = text-refused (rows st) (st .args .date) refl (c .before .before .before .before .before .before .before .before .before
+    .to-iso8601-expanded-by-arrays .ensures) _ (c .before .before .before .before .before .number .given .1)
     (omega (arith, room, room-low (st .args .sentences), st .pre .1)) in
     let q = c .before .before .place-no-text2 .ensures in
     let kept = part-kept (now (st .args .dst)) (st .args .at) (omega (arith, room-low (st .args .sentences), st .pre .1)) _ (w .1) in (
