@@ -1,10 +1,10 @@
 -- THE FOURTEEN REQUESTS, for every table that is taken. Assumes nothing.
 use mathlib.Core.Path.{_≡_, refl, sym, _∙_}
 use mathlib.Core.List.{List}
-use Prim.Native.Nat.{ℕ, _≤_}
+use Prim.Native.Nat.{ℕ, _+_, _*_, _≤_}
 use native.Mathlib.Omega.{arith}
 use lib.ListN.{length}
-use lib.IntN.{negsuc}
+use lib.IntN.{pos, negsuc}
 use mathlib.Core.Bool.{false}
 use lib.Ieee.{lt, ofBits}
 use Rattle.refusals.specs.Outcome.{answer}
@@ -32,14 +32,19 @@ use Rattle.leap_table.proofs.offsets.RuleLaws.{drifting-last-begun, whole-last-
 use Rattle.leap_table.proofs.offsets.Rules.{offset-forgets}
 use Rattle.leap_table.proofs.walk.Counts.{most-by-fixed, most-by-any, compared-closed}
 use Rattle.leap_table.proofs.walk.OfCall.{numbers-offset, numbers-behind}
-use Rattle.leap_table.proofs.walk.Due.{numbers-decided, bytes-decided}
+use Rattle.leap_table.proofs.walk.Due.{numbers-decided}
 use Rattle.leap_days.proofs.TableLeaps.{table-leap-on}
+use Rattle.julian.specs.declared.day_number.DayNumber.{DayNumber}
+use Rattle.julian.specs.day_number.Answer.{dayNumberAndFraction}
+use Rattle.scales.specs.declared.gps_weeks.WeekTime.{WeekTime}
+use Rattle.scales.specs.gps_weeks.WeekOf.{dayMillis, weekOf}
+use Rattle.scales.specs.gps_week_laws.NearDate.{OfCount}
 use Rattle.scales.specs.laws.Ranges.{Held}
 use Rattle.scales.proofs.gps_weeks.FullWeeks.{nearest-if, nearest-only-if, tie-exactly, over-exactly}
 use Rattle.scales.proofs.gps_weeks.Parts.{part-is}
 use Rattle.scales.proofs.gps_week_laws.Cases.{first-day-is-1980-01-06}
 use Rattle.scales.proofs.gps_week_laws.CalendarDates.{on-calendar}
-use Rattle.scales.proofs.gps_week_laws.NearDates.{of-count}
+use Rattle.scales.proofs.gps_week_laws.NearDates.{of-day}
 use Rattle.scales.proofs.gps_week_laws.Refusals.{from-week-decided, to-week-decided}
 use Rattle.scales.proofs.gps_week_laws.RoundTrip as Weeks
 use Rattle.utc_scales.proofs.Rules.{utc-to-tai-forgets}
@@ -52,7 +57,6 @@ use Rattle.utc.proofs.text.ExpandedLaws.{expanded-same, expanded-rest, expanded
 use Rattle.utc.proofs.laws.ShortDays.{short-day-refused}
 use Rattle.utc.proofs.laws.HalfEvenTexts.{even-for-every-buffer}
 use Rattle.utc.proofs.laws.ExpandedTexts.{expanded-for-every-buffer, beside, expanded-text-length}
-use Rattle.parsing.proofs.Seconds.{one-division}
 use Rattle.parsing_laws.specs.Shown.{YearShown, ReadsBack}
 use Rattle.parsing_laws.proofs.Grammar as Grammar
 use Rattle.parsing_laws.proofs.Around.{same-around, same-with-zulu}
@@ -85,7 +89,8 @@ use Rattle.promises.specs.Terms.{EachText}
 use Rattle.promises.specs.Requests as R
 use Rattle.promises.proofs.Demands.{demand-3}
 use Rattle.promises.proofs.HalfTexts.{old-half, new-half}
-use Rattle.promises.proofs.Terms.{tai-passes-on, ut1-passes-on, texts-pass-on, short-day-ends, field-named, none-named, rule-names}
+use Rattle.promises.proofs.Terms.{tai-passes-on, ut1-passes-on, texts-pass-on, look-up-tells, rows-counted, too-long, short-day-ends}
+use Rattle.promises.proofs.Terms.{field-named, none-named, rule-names}
 
 -- -4900-02-30
 pub before-the-calendar : gregorianDate (negsuc 68569) ≡ date (negsuc 4899) 2 30
@@ -100,13 +105,17 @@ float-on-1959 = not-1959
 pub request-3 : R.Request3
 request-3 = record { own-case = before-the-calendar; same = no-answer-changes }
 
+pub counted-back : (d : JulianDate) (t : WeekTime) → weekOf d ≡ answer t → (n : DayNumber) × (k : ℕ) × (dayNumberAndFraction (d .jd1) (d .jd2) ≡ answer n)
+    × (n .day ≡ pos k) × OfCount (k * 86400000 + dayMillis (n .fraction)) t
+counted-back d t e = let o = of-day d t e in (o .number, o .n, o .given, o .is, o .count)
+
 pub request-7 : R.Request7
 request-7 = record {
   first-day = first-day-is-1980-01-06;
   to-date = from-week-decided;
   on-its-day = on-calendar;
   rounded-once = part-is;
-  way-back = of-count;
+  way-back = counted-back;
   nearest = nearest-if;
   nearest-given = nearest-only-if;
   there-and-back = Weeks.round-trip;
@@ -117,7 +126,7 @@ request-7 = record {
 }
 
 pub request-9 : R.Request9
-request-9 = record { same-is = Stamps.same-is; is-same = Stamps.is-same; patterns-apart = Stamps.patterns-apart; equal-too = same-implies-equal }
+request-9 = record { same-is = Stamps.same-is; is-same = Stamps.is-same; equal-too = same-implies-equal }
 
 pub request-10 : (ps ms ts before after : List ℕ) (r : TicksAnswer) → TicksCall (placedTicks ps ms ts (length before)) before r after
     → R.Request10 ps ms ts before after r
@@ -153,7 +162,6 @@ module _ (t : AnnouncedRows) (rows : List Row) (e : tableOf t ≡ answer rows) w
   request-1 = record {
     one-z = same-with-zulu;
     blanks = same-around;
-    divided-once = one-division;
     six-fields = Fields.six-fields;
     read-utc = utc-verdict rows;
     one-reading = Grammar.one-reading;
@@ -166,9 +174,9 @@ module _ (t : AnnouncedRows) (rows : List Row) (e : tableOf t ≡ answer rows) w
     offsets = λ ds d before after c call. numbers-offset t ds d before after c call;
     spare = λ ds d before after c call. numbers-behind t ds d before after c call;
     at-most = most-by-fixed;
-    counted = compared-closed _ (table-rises t rows e);
+    counted = rows-counted t rows e;
+    each-time = compared-closed _ (table-rises t rows e);
     decided = numbers-decided rows;
-    decided-bytes = bytes-decided rows;
   }
 
   pub request-4 : R.Request4 rows
@@ -184,6 +192,7 @@ module _ (t : AnnouncedRows) (rows : List Row) (e : tableOf t ≡ answer rows) w
 
   pub request-5 : R.Request5 t rows
   request-5 = record {
+    told = look-up-tells rows;
     row = rule-names t rows e;
     by-tai = tai-passes-on rows;
     by-ut1 = ut1-passes-on rows;
@@ -247,6 +256,7 @@ module _ (t : AnnouncedRows) (rows : List Row) (e : tableOf t ≡ answer rows) w
     names = field-named rows;
     no-name = none-named rows;
     same-only-if = same-sentence;
+    too-long = too-long;
     header-shared = λ how other. Second.header-shared how other rows;
     nan-shown = nan-digits;
     hex-shown = hex-order;

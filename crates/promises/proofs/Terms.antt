@@ -1,22 +1,33 @@
 -- WHICH ROW A RULE NAMES, WHICH FIELD A SENTENCE NAMES, and what a rule passed on is, for every table that is taken. Assumes nothing.
-use mathlib.Core.Path.{_≡_, refl, ap, _∙_}
-use mathlib.Core.Bool.{Bool, true, false}
-use mathlib.Core.List.{List}
+use mathlib.Core.Path.{_≡_, refl, sym, ap, _∙_}
+use mathlib.Core.Bool.{Bool, true, false, cond}
+use mathlib.Core.List.{List, map}
 use Prim.Native.Nat.{ℕ, _+_, _*_, _<_}
 use native.Mathlib.Omega.{arith}
-use lib.Dec.{ltb}
+use lib.Dec.{ltb, leb}
+use lib.IntN.{ℤ, natAbs}
+use lib.ListN.{length}
 use lib.Ieee.{Float, lt, ofBits}
-use borrow.Author.Tests.{ltb-true, ltb-false}
-use Rattle.refusals.specs.Outcome.{Outcome, answer, onward}
+use borrow.Author.Tests.{ltb-true, ltb-false, lt-leb}
+use Rattle.refusals.specs.Outcome.{Outcome, answer, refusal, onward}
 use Rattle.refusals.proofs.Onward.{came, went}
 use Rattle.julian.specs.declared.CalendarFields.{CalendarFields}
 use Rattle.julian.specs.declared.JulianDate.{JulianDate}
 use Rattle.julian.specs.Calendar.{julianToCalendar}
 use Rattle.leap_table.specs.declared.offsets.Rule.{Rule}
 use Rattle.leap_table.specs.declared.rows.AnnouncedRows.{AnnouncedRows}
-use Rattle.leap_table.specs.rows.Table.{Row}
+use Rattle.leap_table.specs.declared.judging.Triple.{Triple}
+use Rattle.leap_table.specs.rows.Table.{Row, starts, monthNumber}
 use Rattle.leap_table.specs.rows.Announced.{tableOf}
-use Rattle.leap_table.specs.offsets.Rule.{ruleOn, withRule}
+use Rattle.leap_table.specs.offsets.Offset.{taiUtcOffset}
+use Rattle.leap_table.specs.offsets.Rule.{ruleOf, ruleAt, ruleOn, withRule, offsetByRule}
+use Rattle.leap_table.specs.judging.Judging.{judgedAll}
+use Rattle.leap_table.specs.walk.Walk.{Walked, monthIn, walked, walkOf}
+use Rattle.leap_table.specs.walk.Rows.{compared}
+use Rattle.leap_table.specs.walk.Lists.{walkOfNumbers}
+use Rattle.leap_table.specs.walk.Due.{tripleNumbers}
+use Rattle.leap_table.specs.walk.Call.{walkOutcome}
+use Rattle.leap_table.proofs.walk.OfCall.{walk-of-numbers}
 use Rattle.leap_table.proofs.offsets.RuleLaws as Rules
 use Rattle.time_of_day.specs.declared.TimeOfDay.{TimeOfDay}
 use Rattle.time_of_day.specs.ExactTime.{GoodTime, minus-one-f}
@@ -27,11 +38,16 @@ use Rattle.utc_scales.specs.days.LargerPart.{keptParts}
 use Rattle.utc_scales.specs.to_ut1.ByRule.{utcToUt1ByRule}
 use Rattle.utc_scales.specs.to_ut1.UtcUt1.{utcToUt1}
 use Rattle.utc_scales.proofs.days.Rules.{taken-apart}
+use Rattle.utc.specs.declared.text.TextAnswer.{TextAnswer}
+use Rattle.utc.specs.text.Answer.{textOutcome, textWritten}
+use Rattle.utc.specs.iso_texts.TextCall.{written, TextCall}
 use Rattle.utc.specs.iso_texts.IsoText.{dayTextBy}
 use Rattle.utc.specs.iso_texts.TextForm.{TextForm}
 use Rattle.utc.specs.iso_texts.ByRule.{textByRule}
+use Rattle.reasons.specs.declared.Values.{Values}
+use Rattle.reasons.specs.Sentence.{sentence}
 use Rattle.stamps.proofs.reason_laws.Names as Reported
-use Rattle.promises.specs.Terms.{RuleNames, FieldNamed, NoneNamed}
+use Rattle.promises.specs.Terms.{Walks, RuleNames, FieldNamed, NoneNamed}
 
 -- ---- a rule passed on is that of the calendar's date
 module _ (rows : List Row) where
@@ -51,6 +67,50 @@ module _ (rows : List Row) where
       let (c, p, q) = came (julianToCalendar (d .jd1) (d .jd2)) (λ c. withRule (dayTextBy form rows (c .date) (c .fraction)) (ruleOn rows (c .date))) (s, r) e in
       let (a, u, v) = came (dayTextBy form rows (c .date) (c .fraction)) (λ a. answer (a, ruleOn rows (c .date))) (s, r) q in
       went (λ (f : CalendarFields). answer (ruleOn rows (f .date))) p ∙ ap (λ (o : Outcome (List ℕ × Rule)). onward o (λ w. answer (w .1))) v
+
+  pub look-up-tells : (y m d : ℤ) (f x : Float) (r : Rule) → offsetByRule rows y m d f ≡ answer (x, r) → ruleOf rows (monthNumber y (natAbs m)) ≡ r
+  unfolding offsetByRule withRule ruleAt
+  look-up-tells y m d f x r e =
+      let (a, u, v) = came (taiUtcOffset rows y m d f) (λ a. answer (a, ruleAt rows y m)) (x, r) e in
+      ap (λ (o : Outcome (Float × Rule)). ruleIn o) v
+    where
+      ruleIn : Outcome (Float × Rule) → Rule
+      ruleIn (answer p) = p .1
+      ruleIn (refusal k) = r
+
+-- ---- the rows compared in an answered walk are the definition's count
+module _ (t : AnnouncedRows) (rows : List Row) (e : tableOf t ≡ answer rows) where
+  by-definition : (l : List Row) (ds : List Triple) (places : ℕ) (w : Walked) → walkOf l true ds places ≡ answer w
+      → w .rowsCompared ≡ compared (starts l) (map monthIn ds)
+  unfolding walkOf
+  by-definition l ds places w h = go (leb (length ds) places) h
+    where
+      go : (c : Bool) → cond c (onward (judgedAll ds) (λ _. answer (walked l ds))) (refusal 11) ≡ answer w
+          → w .rowsCompared ≡ compared (starts l) (map monthIn ds)
+      go true q =
+          let (u, v, x) = came (judgedAll ds) (λ _. answer (walked l ds)) w q in
+          let y : w ≡ walked l ds = cc in
+          ap (λ (k : Walked). k .rowsCompared) y
+      go false q = let z : _≡_ {A = ℕ} 0 1 = cc in absurd (omega arith)
+
+  pub rows-counted : (ds : List Triple) (d : Triple) (before after : List Float) (c : ℕ) → Walks t ds before c after → c ≡ compared (starts rows) (map monthIn ds)
+  unfolding walkOutcome
+  rows-counted ds d before after c call =
+      let next : List Row → Outcome Walked = λ l. walkOfNumbers l (tripleNumbers ds) (length before) in
+      let (w, p, q) = came (onward (tableOf t) next) (λ k. answer (k .rowsCompared)) c (sym (call .says)) in
+      let (l, u, v) = came (tableOf t) next w p in
+      let n : w .rowsCompared ≡ c = cc in
+      let same : l ≡ rows = cc in
+      sym n ∙ by-definition l ds (length before) w (sym (walk-of-numbers l ds d (length before)) ∙ v)
+      ∙ ap (λ (k : List Row). compared (starts k) (map monthIn ds)) same
+
+-- ---- a sentence that is longer than its buffer
+pub too-long : (k : ℕ) (v : Values) (s before after : List ℕ) (r : TextAnswer) → sentence k v ≡ answer s → length before < length s
+    → TextCall (sentence k v) before r after → textOutcome r ≡ refusal 11
+unfolding written textWritten
+too-long k v s before after r e h call =
+    call .says ∙ went (λ (x : List ℕ). textWritten x (length before)) e
+    ∙ ap (λ (b : Bool). cond b (answer (length s)) (refusal 11)) (lt-leb (length s) (length before) h)
 
 -- ---- a day that ends a second early
 pub short-day-ends : (u : TimeOfDay) → GoodTime u minus-one-f → 3600000 * u .hour + 60000 * u .minute + 1000 * u .second + u .milli < 86399000

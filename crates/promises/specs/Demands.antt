@@ -100,7 +100,8 @@ pub record Demand2 (t : AnnouncedRows) (rows : List Row) : Type 0 where
   pub table : EveryTable t rows
   pub drift : (y : ℕ) (m d : ℤ) (f x : Float) → 1960 ≤ y → y ≤ 1971 → T (fits binary64 f) → taiUtcOffset fixed (pos y) m d f ≡ answer x
       → (j : ℕ) × (mjdOf (pos y) m d ≡ answer (pos j)) × NearFormula (rowAt (reached (starts fixed) (monthOf y (natAbs m)))) j f x
-  -- "and SOFA": to picoseconds of SOFA's relations in exact fractions; those that read the table from 1972 on
+  -- "and SOFA": to picoseconds of SOFA's relations in exact fractions; those that read the table from 1972 on, UT1 to
+  -- UTC where no leap second is near
   pub formulas : (k : Conversion) (d : JulianDate) → Practical d → HalfDay (offsetOf k) → Right k d
   pub utc-to-tai : {d : JulianDate} → HalfDaySplit d → RightTai rows 77 d
   pub tai-to-utc : {d : JulianDate} → HalfDaySplit d → RightUtc rows 173 d

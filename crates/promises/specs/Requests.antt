@@ -1,12 +1,12 @@
 -- The fourteen requests, sentence by sentence. `rows` are those of a table that is taken. Written from document 02. Assumes nothing.
 use Prim.Native.Nat.{_%_, _*_, _+_, _/_, _<_, _^_, ℕ, _≤_}
-use mathlib.Core.Bool.{_&&_, Bool, false, not, true}
-use mathlib.Core.List.{_++_, List, [], _∷_}
+use mathlib.Core.Bool.{_&&_, Bool, false, true}
+use mathlib.Core.List.{List, [], _∷_, _++_, map}
 use mathlib.Core.Logic.{_⊎_}
 use mathlib.Core.Path.{_≡_}
 use lib.Dec.{T}
-use lib.Ieee.{Float, binary64, div, fits, isNan, le, lt, nan, ofBits, ofInt}
-use lib.IntN.{negsuc, pos, ℤ}
+use lib.Ieee.{Float, binary64, div, fits, le, lt, nan, ofInt}
+use lib.IntN.{natAbs, negsuc, pos, ℤ}
 use lib.ListN.{drop, getD, length}
 use lib.Signed.{ltZ}
 use Rattle.refusals.specs.Outcome.{answer, refusal}
@@ -25,6 +25,8 @@ use Rattle.julian.specs.Finite.{finiteParts}
 use Rattle.julian.specs.JulianDate.{julian}
 use Rattle.julian.specs.Worth.{SmallParts}
 use Rattle.julian.specs.day_number.ExactDay.{GridSumInRange}
+use Rattle.julian.specs.day_number.Answer.{dayNumberAndFraction}
+use Rattle.julian.specs.declared.day_number.DayNumber.{DayNumber}
 use Rattle.julian.specs.declared.CalendarFields.{CalendarFields}
 use Rattle.julian.specs.declared.JulianDate.{JulianDate}
 use Rattle.julian.specs.declared.same_stamps.Stamp.{Stamp}
@@ -40,16 +42,16 @@ use Rattle.leap_table.specs.declared.judging.Triple.{Triple}
 use Rattle.leap_table.specs.declared.offsets.Rule.{Rule}
 use Rattle.leap_table.specs.declared.offsets.Rule.the-variants.{Drifting, Whole}
 use Rattle.leap_table.specs.declared.rows.AnnouncedRows.{AnnouncedRows}
-use Rattle.leap_table.specs.judging.Lists.{datesFrom, tripleAt, tripleIn}
+use Rattle.leap_table.specs.judging.Lists.{datesFrom, tripleAt}
 use Rattle.leap_table.specs.offsets.Leap.{leapAtEndOfDay}
 use Rattle.leap_table.specs.offsets.Offset.{inDay, taiUtcOffset, wholeF}
 use Rattle.leap_table.specs.offsets.Rule.{forget, offsetByRule, ruleOf}
 use Rattle.leap_table.specs.rows.Announced.{Decision, rowsOf, tableOf}
-use Rattle.leap_table.specs.rows.Table.{LastBegun, Row, fixed, starts}
+use Rattle.leap_table.specs.rows.Table.{LastBegun, Row, fixed, monthNumber, starts}
 use Rattle.leap_table.specs.walk.Due.{WalkDecision}
-use Rattle.leap_table.specs.walk.Lists.{walkOfBytes, walkOfNumbers}
+use Rattle.leap_table.specs.walk.Lists.{walkOfNumbers}
 use Rattle.leap_table.specs.walk.Rows.{compared, inTime, lastReached, withRowLeft}
-use Rattle.leap_table.specs.walk.Walk.{tripleOffset}
+use Rattle.leap_table.specs.walk.Walk.{monthIn, tripleOffset}
 use Rattle.leap_days.specs.Tables.{LeapOn}
 use Rattle.scales.specs.declared.gps_weeks.WeekTime.{WeekTime}
 use Rattle.scales.specs.gps_week_laws.Decisions.{FromWeek, ToWeek}
@@ -57,7 +59,7 @@ use Rattle.scales.specs.gps_week_laws.NearDate.{OfCount}
 use Rattle.scales.specs.gps_week_laws.OnCalendar.{OnCalendar}
 use Rattle.scales.specs.gps_weeks.FullWeek.{NearestWeek, Tie, fullWeek}
 use Rattle.scales.specs.gps_weeks.WeekDate.{partOfDay, weekDate}
-use Rattle.scales.specs.gps_weeks.WeekOf.{weekAt, weekOf, weekTime}
+use Rattle.scales.specs.gps_weeks.WeekOf.{dayMillis, weekOf, weekTime}
 use Rattle.scales.specs.laws.Ranges.{Held}
 use Rattle.utc_scales.specs.ByRule.{utcToTaiByRule}
 use Rattle.utc_scales.specs.UtcTai.{utcToTai}
@@ -73,6 +75,9 @@ use Rattle.utc.specs.iso_texts.ByRule.{textByRule}
 use Rattle.utc.specs.iso_texts.Expanded.{expandedForm, isoTextExpanded}
 use Rattle.utc.specs.iso_texts.HalfEven.{halfEvenForm, isoTextHalfEven}
 use Rattle.utc.specs.iso_texts.IsoText.{isoText, isoTextBy}
+use Rattle.utc.specs.declared.text.TextAnswer.{TextAnswer}
+use Rattle.utc.specs.text.Answer.{textOutcome}
+use Rattle.utc.specs.iso_texts.TextCall.{TextCall}
 use Rattle.utc.specs.iso_texts.TextForm.{TextForm}
 use Rattle.utc.specs.laws.Beside.{Beside}
 use Rattle.utc.specs.laws.OneText.{OneText}
@@ -81,7 +86,6 @@ use Rattle.utc.specs.text.Ascii.{asciiBytes}
 use Rattle.utc.specs.text.Expanded.{expandedText, expandedYear}
 use Rattle.utc.specs.text.Text.{afterYear, utcText, yearText}
 use Rattle.parsing.specs.Grammar.{AllBlank, Reads}
-use Rattle.parsing.specs.Judging.{quotient}
 use Rattle.parsing.specs.Parsed.{parsed, parsedUtc}
 use Rattle.parsing.specs.declared.ParsedDateTime.{ParsedDateTime}
 use Rattle.parsing.specs.scan.Written.{Written}
@@ -90,6 +94,7 @@ use Rattle.parsing_laws.specs.SixFields.{SixFields}
 use Rattle.parsing_laws.specs.UtcVerdict.{UtcVerdict}
 use Rattle.parsing_laws.specs.Verdict.{Verdict}
 use Rattle.reasons.specs.Decision.{SentenceDecision}
+use Rattle.reasons.specs.Sentence.{sentence}
 use Rattle.reasons.specs.declared.Values.{Values}
 use Rattle.reasons.specs.declared.sentences.Reason.{Reason}
 use Rattle.reasons.specs.sentences.Render.{floatDigits, render}
@@ -119,9 +124,8 @@ pub record Request1 (rows : List Row) : Type 0 where
   pub one-z : (s : List ℕ) (w : Written) (r : Reads true s w) → w .zulu ≡ false → r .pieces .after ≡ [] → parsed true (s ++ (90 ∷ [])) ≡ parsed true s
   -- "Blanks around a text are dropped if they are bytes 9 to 13 or 32"
   pub blanks : (utc : Bool) (s : List ℕ) (w : Written) → Reads utc s w → (b a : List ℕ) → AllBlank b → AllBlank a → parsed utc (b ++ (s ++ a)) ≡ parsed utc s
-  -- "The second is digits only, with a fraction, if any, of 1 to 13 digits, so it is one whole number divided once by a power of ten": the nearest float
-  pub divided-once : (n places : ℕ) → n ≤ 1000000000000000 → places ≤ 13 → quotient n places ≡ decimal n places
-  -- "The answer is the six fields; a UTC text must name what utc_from_calendar accepts and gives its date too."
+  -- "The second is digits only, with a fraction, if any, of 1 to 13 digits, so it is one whole number divided once by a power of ten"; "The answer is the six
+  -- fields; a UTC text must name what `utc_from_calendar` accepts and gives its date too."
   pub six-fields : (utc : Bool) (s : List ℕ) (f : ParsedDateTime) → parsed utc s ≡ answer f → SixFields utc s f
   pub read-utc : (s : List ℕ) → UtcVerdict rows s (parsedUtc rows s)
   -- "The accepted set is stated as a grammar apart from the reader, with one reading each."
@@ -141,14 +145,13 @@ pub record Request2 (t : AnnouncedRows) (rows : List Row) : Type 0 where
       → drop (length ds) after ≡ drop (length ds) before
   -- "the number of rows compared, equal to a definition's count and at most the dates plus 42. A row counts each time a date's month is held against the
   -- start of the next row not yet reached."
+  pub counted : (ds : List Triple) (d : Triple) (before after : List Float) (c : ℕ) → Walks t ds before c after → c ≡ compared (starts rows) (map monthIn ds)
   pub at-most : (months : List ℕ) → compared (starts fixed) months ≤ length months + 42
-  pub counted : (months : List ℕ) → T (inTime 0 months) → compared (starts rows) months ≡ lastReached (starts rows) 0 months + withRowLeft (starts rows) months
+  pub each-time : (months : List ℕ) → T (inTime 0 months) → compared (starts rows) months ≡ lastReached (starts rows) 0 months + withRowLeft (starts rows) months
   -- "Turned away: 14 for a broken triple, then 11 for fewer offset places than dates; then, date by date, a bad one by its own number, then 17 for one
   -- earlier than the one before it."
   pub decided : (l : List ℤ) (d : Triple) (places : ℕ)
       → WalkDecision rows (length l % 3) (datesFrom (tripleAt l) 0 (length l / 3)) d 1 places (walkOfNumbers rows l places)
-  pub decided-bytes : (s : List ℕ) (d : Triple) (room : ℕ)
-      → WalkDecision rows (length s % 12) (datesFrom (tripleIn s) 0 (length s / 12)) d 8 room (walkOfBytes rows s room)
 
 pub record Request3 : Type 0 where
   -- "The shifted number -1, which gives -02-30, is kept as its own case."
@@ -175,6 +178,7 @@ pub record Request4 (rows : List Row) : Type 0 where
 pub record Request5 (t : AnnouncedRows) (rows : List Row) : Type 0 where
   -- "The single lookup now also says which table row, counted from 0, gave the offset and whether it was absent (before 1960, no row), drifting (rows 0 to 13)
   -- or whole."
+  pub told : (y m d : ℤ) (f x : Float) (r : Rule) → offsetByRule rows y m d f ≡ answer (x, r) → ruleOf rows (monthNumber y (natAbs m)) ≡ r
   pub row : (n : ℕ) → RuleNames t rows n
   -- "UTC to TAI, UTC to UT1 and the text calls pass on that of the calendar's date at 0h."
   pub by-tai : (d x : JulianDate) (r : Rule) → utcToTaiByRule rows d ≡ answer (x, r) → ruleOfDate rows (keptParts d .larger) (keptParts d .smaller) ≡ answer r
@@ -211,7 +215,8 @@ pub record Request7 : Type 0 where
   pub rounded-once : (ms : ℕ) → ms ≤ 2 ^ 53 → div binary64 (ofInt binary64 (pos ms)) (decimal 86400000 0) ≡ partOfDay ms
   -- "The way back takes document 01's day and fraction, multiplies the fraction by 86,400,000 as floats and rounds that product halves up, carrying into the
   -- next day."
-  pub way-back : (count : ℕ) (t : WeekTime) → weekAt count ≡ answer t → OfCount count t
+  pub way-back : (d : JulianDate) (t : WeekTime) → weekOf d ≡ answer t → (n : DayNumber) × (k : ℕ) × (dayNumberAndFraction (d .jd1) (d .jd2) ≡ answer n)
+      × (n .day ≡ pos k) × OfCount (k * 86400000 + dayMillis (n .fraction)) t
   -- "The result is the week with those ten bits that lies nearest the reference and is not below 0."
   pub nearest : (bits reference w : ℕ) → fullWeek bits reference ≡ answer w → NearestWeek bits reference w × (w ≤ 99511)
   pub nearest-given : (bits reference w : ℕ) → bits < 1024 → reference ≤ 99000 → NearestWeek bits reference w → fullWeek bits reference ≡ answer w
@@ -249,11 +254,10 @@ pub record Request8 (t : AnnouncedRows) (rows : List Row) : Type 0 where
   pub table-first : (k : Twenty) (d : JulianDate) (n : ℕ) → readsTable k ≡ true → tableOf t ≡ refusal n → announcedAnswer t k d ≡ refusal n
 
 pub record Request9 : Type 0 where
-  -- "the same stamp means the same scale and both parts with the same bits, so 0.0 and -0.0 differ. A NaN with the same bits is the same stamp."
+  -- "the same stamp means the same scale and both parts with the same bits, so 0.0 and -0.0 differ. A NaN with the same bits is the same stamp.": a stamp
+  -- holds the patterns of its parts
   pub same-is : (a b : Stamp) → same a b ≡ true → a ≡ b
   pub is-same : (a b : Stamp) → a ≡ b → same a b ≡ true
-  pub patterns-apart : (m n : ℕ) → m < 2 ^ 64 → n < 2 ^ 64 → T (not (isNan (ofBits binary64 m))) → T (not (isNan (ofBits binary64 n)))
-      → ofBits binary64 m ≡ ofBits binary64 n → m ≡ n
   -- "Equal by this test and finite implies equal by 01's wherever 01's two-sum doesn't overflow."
   pub equal-too : (a b : Stamp) → same a b ≡ true → finiteParts (julianOf a) ≡ true → NoOverflow (julianOf a .jd1) (julianOf a .jd2)
       → equal (julianOf a) (julianOf b) ≡ true
@@ -304,6 +308,9 @@ pub record Request13 (rows : List Row) : Type 0 where
   -- "Two sentences are the same only if refusal number, field and value are the same, any NaN counting as any other."
   pub same-only-if : (r s : Reason) → 1 ≤ r .number → r .number ≤ 28 → OfMachine (r .named) → 1 ≤ s .number → s .number ≤ 28 → OfMachine (s .named)
       → render r ≡ render s → r ≡ s
+  -- "A sentence longer than its buffer is 11."
+  pub too-long : (k : ℕ) (v : Values) (s before after : List ℕ) (r : TextAnswer) → sentence k v ≡ answer s → length before < length s
+      → TextCall (sentence k v) before r after → textOutcome r ≡ refusal 11
   -- "A second listing program prints them in place of `refused` and the number, on stamp lines and after `block`, not in the header"
   pub header-shared : (how other : Reporting) (s : List ℕ) (n : ℕ) → blockOf s ≡ answer n → lineOf how rows (blockOf s) s 0 ≡ lineOf other rows (blockOf s) s 0
   -- "floats are shown as 16 hexadecimal digits of their bits, any NaN as 7ff8000000000000"
