@@ -4,7 +4,7 @@ use mathlib.Core.Path.{_≡_, refl, _∙_}
 use mathlib.Core.List.{List}
 use Prim.Native.Nat.{ℕ}
 use lib.IntN.{ℤ}
-use lib.Ieee.{Float, binary64, round, ofBits, ofInt, toSigned, add, sub, mul, div, neg, lt, le, eq}
+use lib.Ieee.{round, ofBits, ofInt, toSigned, add, sub, mul, div, neg, lt, le, eq}
 use Rattle.refusals.specs.Outcome.{Outcome, answer, onward}
 use Rattle.floats.specs.Whole.{abs, toWhole, nearestInt}
 use Rattle.constants.specs.Constants.{decimal, secondsPerDay}

@@ -6,9 +6,9 @@ use native.Mathlib.Omega.{arith}
 use lib.ListN.{length}
 use lib.IntN.{pos, negsuc}
 use mathlib.Core.Bool.{false}
-use lib.Ieee.{lt, ofBits}
+use lib.Ieee.{Float, lt, ofBits}
 use Rattle.refusals.specs.Outcome.{answer}
-use Rattle.floats.specs.Whole.{abs}
+use Rattle.floats.specs.Whole.{abs, away}
 use Rattle.calendar.specs.Gregorian.{gregorianDate}
 use Rattle.calendar.specs.Calendar.{date}
 use Rattle.calendar.proofs.laws.NoAnswerChanges.{no-answer-changes}
@@ -18,6 +18,7 @@ use Rattle.julian.proofs.same_stamps.Equal.{same-implies-equal}
 use Rattle.time_of_day.specs.ExactTime.{leap1959}
 use Rattle.time_of_day.specs.HalfEven.{dayIsWhole}
 use Rattle.time_of_day.specs.Milliseconds.{wholeLeap}
+use Rattle.time_of_day.specs.TimeShown.{countBy}
 use Rattle.time_of_day.proofs.EvenExact.{in-whole-numbers, whole-0, whole-1, whole-minus-1, not-1959}
 use Rattle.time_of_day.proofs.EvenFloat.{by-float}
 use Rattle.time_of_day.proofs.EvenSteps.{count-by-float}
@@ -51,6 +52,7 @@ use Rattle.utc_scales.proofs.Rules.{utc-to-tai-forgets}
 use Rattle.utc_scales.proofs.to_ut1.Rules.{utc-to-ut1-forgets}
 use Rattle.utc_scales.proofs.laws.AnnouncedCalls as Announced
 use Rattle.utc_scales.proofs.round_trip.RoundTrip as Back
+use Rattle.utc.specs.iso_texts.IsoText.{standardForm}
 use Rattle.utc.specs.iso_texts.Expanded.{isoTextExpanded}
 use Rattle.utc.proofs.iso_texts.TextRules.{text-forgets}
 use Rattle.utc.proofs.text.ExpandedLaws.{expanded-same, expanded-rest, expanded-1-before, expanded-12000}
@@ -96,6 +98,9 @@ use Rattle.promises.proofs.Terms.{field-named, none-named, rule-names}
 pub before-the-calendar : gregorianDate (negsuc 68569) ≡ date (negsuc 4899) 2 30
 unfolding gregorianDate
 before-the-calendar = refl
+
+pub halves-away : (f l : Float) → standardForm .count f l ≡ countBy away f l
+halves-away f l = refl
 
 -- the leap of 1959-12-31 counts, and is no whole second
 pub float-on-1959 : dayIsWhole (wholeLeap leap1959) ≡ false
@@ -188,6 +193,7 @@ module _ (t : AnnouncedRows) (rows : List Row) (e : tableOf t ≡ answer rows) w
     by-the-float = λ f x g i s h. sym (count-by-float f _ h) ∙ by-float f _ (in-units f g i) (within-one x s);
     not-1959 = float-on-1959;
     text = even-for-every-buffer t rows e;
+    halves-away = halves-away;
   }
 
   pub request-5 : R.Request5 t rows
@@ -222,6 +228,7 @@ module _ (t : AnnouncedRows) (rows : List Row) (e : tableOf t ≡ answer rows) w
     unread = λ u s. spare-unread t u (s .months-size) (s .seconds-size) (s .rows);
     from-bytes = table-back t;
     other-length = Bytes.other-length;
+    rising-rows = table-rises t rows e;
     no-rows = table-none t;
     same-answers = Announced.announced-none t;
     at-most = most-by-any t rows e;

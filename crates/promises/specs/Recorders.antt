@@ -13,7 +13,7 @@ use Rattle.utc_scales.specs.round_trip.Ranges.{HalfDaySplit}
 use Rattle.utc_scales.specs.round_trip.Recorders.{OneInstant, Agree}
 use Rattle.stamps.specs.Listing.{textAt, refusedIn}
 use Rattle.stamps.specs.listing_laws.NotFinite.{NotFinite, notFiniteIn}
-use Rattle.runs.specs.Run.{stampAnswer, convertedRun, runRefusal}
+use Rattle.runs.specs.Run.{stampAnswer, convertedRun}
 use Rattle.runs.specs.laws.Done.{StampDone}
 use Rattle.runs.specs.laws.NotFiniteStamps.{StampNotFinite, numberOfNotFinite, notZeroIn}
 use Rattle.ticks.specs.declared.places.PlacesAnswer.{PlacesAnswer}

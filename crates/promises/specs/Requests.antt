@@ -11,7 +11,7 @@ use lib.ListN.{drop, getD, length}
 use lib.Signed.{ltZ}
 use Rattle.refusals.specs.Outcome.{answer, refusal}
 use Rattle.numerals.specs.digits.Hexadecimal.{hex16}
-use Rattle.floats.specs.Whole.{nought, one}
+use Rattle.floats.specs.Whole.{away, nought, one}
 use Rattle.rounding.specs.Value.{InUnit, Val}
 use Rattle.constants.specs.Constants.{decimal}
 use Rattle.calendar.specs.Calendar.{date, dateOf}
@@ -47,7 +47,7 @@ use Rattle.leap_table.specs.offsets.Leap.{leapAtEndOfDay}
 use Rattle.leap_table.specs.offsets.Offset.{inDay, taiUtcOffset, wholeF}
 use Rattle.leap_table.specs.offsets.Rule.{forget, offsetByRule, ruleOf}
 use Rattle.leap_table.specs.rows.Announced.{Decision, rowsOf, tableOf}
-use Rattle.leap_table.specs.rows.Table.{LastBegun, Row, fixed, monthNumber, starts}
+use Rattle.leap_table.specs.rows.Table.{LastBegun, Row, fixed, monthNumber, rising, starts}
 use Rattle.leap_table.specs.walk.Due.{WalkDecision}
 use Rattle.leap_table.specs.walk.Lists.{walkOfNumbers}
 use Rattle.leap_table.specs.walk.Rows.{compared, inTime, lastReached, withRowLeft}
@@ -74,7 +74,7 @@ use Rattle.utc.specs.FromCalendar.{utcFromCalendar}
 use Rattle.utc.specs.iso_texts.ByRule.{textByRule}
 use Rattle.utc.specs.iso_texts.Expanded.{expandedForm, isoTextExpanded}
 use Rattle.utc.specs.iso_texts.HalfEven.{halfEvenForm, isoTextHalfEven}
-use Rattle.utc.specs.iso_texts.IsoText.{isoText, isoTextBy}
+use Rattle.utc.specs.iso_texts.IsoText.{isoText, isoTextBy, standardForm}
 use Rattle.utc.specs.declared.text.TextAnswer.{TextAnswer}
 use Rattle.utc.specs.text.Answer.{textOutcome}
 use Rattle.utc.specs.iso_texts.TextCall.{TextCall}
@@ -132,7 +132,8 @@ pub record Request1 (rows : List Row) : Type 0 where
   pub one-reading : (utc : Bool) (s : List ℕ) (v w : Written) → Reads utc s v → Reads utc s w → v ≡ w
   -- "Every UTC text that we write and whose shown year is 1972 to 9999 reads back as its fields."
   pub reads-back : (d : JulianDate) → Held d → (s : List ℕ) → YearShown s → EachText rows (λ text. text d ≡ answer s → ReadsBack rows s)
-  -- "Turned away: 15 for a text outside the grammar with any number of fraction digits from 1 up, first"; "16 (a difference too) for more than 13, next; then
+  -- "a sign, exponent, word or point at an end there is 15"; "Turned away: 15 for a text outside the grammar with any number of fraction digits from 1 up,
+  -- first"; "16 (a difference too) for more than 13, next; then
   -- 01's date and time numbers, where hour above 23, minute above 59 or second from 61 up are 4."
   pub read : (utc : Bool) (s : List ℕ) → Verdict utc s (parsed utc s)
 
@@ -174,6 +175,8 @@ pub record Request4 (rows : List Row) : Type 0 where
   pub not-1959 : dayIsWhole (wholeLeap leap1959) ≡ false
   -- "For this sheet the shown time is within 0.5 ms of the exact one on the grid, on days of those two lengths."
   pub text : (sum : ℤ) → GridSumInRange sum → OneText halfEvenForm evenPromise rows sum
+  -- "01's text call keeps halves away."
+  pub halves-away : (f l : Float) → standardForm .count f l ≡ countBy away f l
 
 pub record Request5 (t : AnnouncedRows) (rows : List Row) : Type 0 where
   -- "The single lookup now also says which table row, counted from 0, gave the offset and whether it was absent (before 1960, no row), drifting (rows 0 to 13)
@@ -222,7 +225,7 @@ pub record Request7 : Type 0 where
   pub nearest-given : (bits reference w : ℕ) → bits < 1024 → reference ≤ 99000 → NearestWeek bits reference w → fullWeek bits reference ≡ answer w
   -- "Week and millisecond turned into a date and back are the same pair."
   pub there-and-back : (week ms : ℕ) (d : JulianDate) → weekDate week ms ≡ answer d → weekOf d ≡ answer (weekTime week ms)
-  -- "Turned away: 9 and then 6 for a date as in 01; 18 for a field over its limit or a rounded date before the first week or past the last; then 19 where two
+  -- "A ten-bit week needs a reference week of at most 99,000."; "Turned away: 9 and then 6 for a date as in 01; 18 for a field over its limit or a rounded date before the first week or past the last; then 19 where two
   -- weeks not below 0 are equally near."
   pub to-week : (d : JulianDate) → ToWeek d (weekOf d)
   pub over : (bits reference : ℕ) → (1024 ≤ bits) ⊎ (99000 < reference) → fullWeek bits reference ≡ refusal 18
@@ -235,6 +238,8 @@ pub record Request8 (t : AnnouncedRows) (rows : List Row) : Type 0 where
   -- "From C it is these 136 bytes, little-endian; any other length is 14, before 20."
   pub from-bytes : MachineRecord t → tableBytes (recordBytes t) ≡ tableOf t
   pub other-length : (s : List ℕ) → (length s ≡ 136 → ⊥) → tableBytes s ≡ refusal 14
+  -- "the rising order and item 5's row numbers cover all its rows"
+  pub rising-rows : T (rising (starts rows))
   -- "With no lent rows every answer stays."
   pub no-rows : t .«months_size» ≡ 0 → t .«seconds_size» ≡ 0 → tableOf t ≡ answer fixed
   pub same-answers : t .«months_size» ≡ 0 → t .«seconds_size» ≡ 0 → (k : Twenty) (d : JulianDate) → announcedAnswer t k d ≡ answerOfAny fixed k d
@@ -286,7 +291,7 @@ pub record Request11 (rows : List Row) : Type 0 where
   -- "A date or time fault has `utc_from_calendar`'s number, a millisecond over 999 is 4, the start looked at before the end; years before 1972 are number 1."
   pub faults : (u : UtcTime) → ltZ (u .year) (pos 1972) ≡ false → u .millis ≤ 999 → u .second < 256 → faultOf (instant rows u) ≡ faultOf (asCalendar rows u)
   pub time : (u : UtcTime) → TimeDecision rows u
-  -- "Turned away after those: 26 for an end before the start; 27 for a number over its limit; 28 for both lengths 0."
+  -- "The rate is up to 1,000,000 cents, at most 1,000,000 quarters."; "metres of line, up to 1,000,000 each"; "Turned away after those: 26 for an end before the start; 27 for a number over its limit; 28 for both lengths 0."
   pub bill : (start end : UtcTime) (rate a b : ℕ) → BillMeaning rows start end rate a b (B.standbyBill rows start end rate a b)
 
 pub record Request12 (rows : List Row) : Type 0 where
