@@ -8,7 +8,7 @@ ghost use Rattle.floats.specs.ExponentField.{exponentField};
 ghost use Rattle.leap_table.specs.rows.Announced.{least};
 ghost use Rattle.utc.specs.text.Answer.{TextPut};
 ghost use Rattle.line_listing.specs.lines.StampLine.{stamps};
-ghost use Rattle.line_listing.specs.head.Counts.{notFinite, kindAt, countOf, firstEnd, secondEnd};
+ghost use Rattle.line_listing.specs.head.Counts.{notFinite, kindAt, kindsIn, firstEnd, secondEnd};
 ghost use Rattle.line_listing.specs.head.Head.{counted, blockEnd, runLine, runIfNamed, oneIfNamed, headText, endText};
 ghost use Rattle.line_listing.specs.head.Asked.{PlacedIn};
 use crate::lines::number_at;
@@ -60,7 +60,7 @@ fn one_if_same(a: u8, b: u8) -> usize
 // How many of the n stamps from `from` on are of a kind.
 fn count_of(jd1s: &[u8], jd2s: &[u8], numbers: &[u8], kind: u8, from: usize, n: usize) -> usize
     requires { ⌜ from + n < 18446744073709551616 ⌝ }
-    ensures { λ r. ⌜ (r ≡ countOf (now (jd1s .entry)) (now (jd2s .entry)) (now (numbers .entry)) kind from n) × (r ≤ n) ⌝ }
+    ensures { λ r. ⌜ (r ≡ kindsIn (now (jd1s .entry)) (now (jd2s .entry)) (now (numbers .entry)) kind from n) × (r ≤ n) ⌝ }
 {
     let mut count = 0;
     let mut i = 0;

@@ -9,7 +9,7 @@ ghost use Rattle.leap_table.specs.rows.Announced.{rowsIn, tableOf, least};
 ghost use Rattle.stamps.specs.Listing.{oneIfRefused};
 ghost use Rattle.utc_scales.specs.UtcTai.{taiToUtc};
 ghost use Rattle.utc.specs.iso_texts.Expanded.{isoTextExpanded};
-ghost use Rattle.line_listing.specs.lines.StampLine.{stamps, placeOf, recorder, indexIn, sentenceBehind, numberTold, noText, refused, stampTold};
+ghost use Rattle.line_listing.specs.lines.StampLine.{stamps, lineInOrder, recorder, indexIn, sentenceBehind, numberTold, noText, refused, stampTold};
 ghost use Rattle.line_listing.specs.lines.StampLine.{utcTold, lineBy, noTextCount};
 ghost use Rattle.line_listing.specs.lines.Parts.{longestLine, ListedCall};
 ghost use Rattle.line_listing.specs.lines.Asked.{answerBy, Gathered, Converted, ToldAt, LinesPlaced};

@@ -10,7 +10,7 @@ use lib.ListN.{getD}
 use borrow.Author.Tests.{eq-eqb, ne-eqb}
 use Rattle.numerals.specs.little_endian.LittleEndian.{u64At}
 use Rattle.floats.specs.ExponentField.{exponentField}
-use Rattle.line_listing.specs.head.Counts.{notFinite, kindAt, countOf}
+use Rattle.line_listing.specs.head.Counts.{notFinite, kindAt, kindsIn}
 
 module _ (js ks ns : List ℕ) (p k : ℕ) (number : k ≡ getD ns p 0) where
   pub is-ordered : k ≡ 0 → 0 ≡ kindAt js ks ns p
@@ -42,14 +42,14 @@ module _ (js ks ns : List ℕ) (p k : ℕ) (number : k ≡ getD ns p 0) where
       unfolding kindAt notFinite
       is-refused h g = sym (rw (not-ordered, not-left-out, h, g))
 
-pub counted-none : (js ks ns : List ℕ) (kind from : ℕ) → 0 ≡ countOf js ks ns kind from 0
-unfolding countOf
+pub counted-none : (js ks ns : List ℕ) (kind from : ℕ) → 0 ≡ kindsIn js ks ns kind from 0
+unfolding kindsIn
 counted-none js ks ns kind from = refl
 
 module _ (js ks ns : List ℕ) (kind from i : ℕ) where
-  pub counted-more : (c k r : ℕ) → c ≡ countOf js ks ns kind from i → k ≡ kindAt js ks ns (from + i) → r ≡ cond (eqb k kind) 1 0
-      → c + r ≡ countOf js ks ns kind from (i + 1)
-  unfolding countOf
+  pub counted-more : (c k r : ℕ) → c ≡ kindsIn js ks ns kind from i → k ≡ kindAt js ks ns (from + i) → r ≡ cond (eqb k kind) 1 0
+      → c + r ≡ kindsIn js ks ns kind from (i + 1)
+  unfolding kindsIn
   counted-more c k r e f g =
-      ap (λ (n : ℕ). n + r) e ∙ ap (λ (n : ℕ). countOf js ks ns kind from i + n) (g ∙ ap (λ (n : ℕ). cond (eqb n kind) 1 0) f)
-      ∙ ap (countOf js ks ns kind from) (sym (add-one i))
+      ap (λ (n : ℕ). n + r) e ∙ ap (λ (n : ℕ). kindsIn js ks ns kind from i + n) (g ∙ ap (λ (n : ℕ). cond (eqb n kind) 1 0) f)
+      ∙ ap (kindsIn js ks ns kind from) (sym (add-one i))

@@ -16,8 +16,8 @@ use Rattle.reasons.specs.sentences.Render.{render, namedText}
 use Rattle.reasons.specs.sentences.Texts.{fixedText, texts}
 use Rattle.reasons.specs.Sentence.{reasonOf, sentence}
 use Rattle.utc.specs.text.Ascii.{asciiBytes}
-use Rattle.line_listing.specs.lines.StampLine.{recorder, indexIn, behind, sentenceBehind, numberTold, refused, stampTold, lineBy}
-use Rattle.line_listing.specs.head.Counts.{notFinite, kindAt, countOf}
+use Rattle.line_listing.specs.lines.StampLine.{recorder, indexIn, asSentence, sentenceBehind, numberTold, refused, stampTold, lineBy}
+use Rattle.line_listing.specs.head.Counts.{notFinite, kindAt, kindsIn}
 use Rattle.line_listing.specs.head.Head.{counted, endText}
 
 -- of runs of 5 and 6 stamps, place 4 is the last of the GPS run, 5 the first of the TAI run, 10 its last, and 11 the first of the UTC run
@@ -46,7 +46,7 @@ left-out-line rows d = refl
 -- with sentences, of a NaN
 pub told-line : (rows : List Row) → lineBy true rows 5 6 5 (julian nan nan) 9
     ≡ asciiBytes "tai 0 refused 9: part or sum of a date is not finite: jd1 7ff8000000000000\n"
-unfolding lineBy recorder indexIn stampTold refused numberTold sentenceBehind behind sentence reasonOf onward offending partsField partField render namedText
+unfolding lineBy recorder indexIn stampTold refused numberTold sentenceBehind asSentence sentence reasonOf onward offending partsField partField render namedText
     fixedText texts hex16 hexDigits hexDigit toBits digitsOf digitsIn
 told-line rows = refl
 
@@ -62,7 +62,7 @@ pub kinds : (kindAt [] [] (0 ∷ 17 ∷ 9 ∷ []) 0 ≡ 0) × (kindAt [] [] (0 �
 unfolding kindAt notFinite u64At fourAt
 kinds = (refl, refl, refl, refl, refl, refl)
 
-pub counted-run : (countOf nanBytes [] (9 ∷ 17 ∷ 0 ∷ 6 ∷ 9 ∷ []) 1 0 5 ≡ 1) × (countOf nanBytes [] (9 ∷ 17 ∷ 0 ∷ 6 ∷ 9 ∷ []) 2 0 5 ≡ 2)
-    × (countOf nanBytes [] (9 ∷ 17 ∷ 0 ∷ 6 ∷ 9 ∷ []) 3 0 5 ≡ 1) × (countOf nanBytes [] (9 ∷ 17 ∷ 0 ∷ 6 ∷ 9 ∷ []) 0 0 5 ≡ 1)
-unfolding countOf kindAt notFinite u64At fourAt
+pub counted-run : (kindsIn nanBytes [] (9 ∷ 17 ∷ 0 ∷ 6 ∷ 9 ∷ []) 1 0 5 ≡ 1) × (kindsIn nanBytes [] (9 ∷ 17 ∷ 0 ∷ 6 ∷ 9 ∷ []) 2 0 5 ≡ 2)
+    × (kindsIn nanBytes [] (9 ∷ 17 ∷ 0 ∷ 6 ∷ 9 ∷ []) 3 0 5 ≡ 1) × (kindsIn nanBytes [] (9 ∷ 17 ∷ 0 ∷ 6 ∷ 9 ∷ []) 0 0 5 ≡ 1)
+unfolding kindsIn kindAt notFinite u64At fourAt
 counted-run = (refl, refl, refl, refl)

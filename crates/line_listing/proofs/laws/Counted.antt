@@ -7,7 +7,7 @@ use mathlib.Core.Bool.{Bool, true, false, cond}
 use mathlib.Core.List.{List}
 use lib.Dec.{eqb}
 use lib.ListN.{getD}
-use Rattle.line_listing.specs.head.Counts.{notFinite, kindAt, countOf}
+use Rattle.line_listing.specs.head.Counts.{notFinite, kindAt, kindsIn}
 
 abbrev four : ℕ → ℕ
 four k = cond (eqb k 0) 1 0 + cond (eqb k 1) 1 0 + cond (eqb k 2) 1 0 + cond (eqb k 3) 1 0
@@ -27,8 +27,8 @@ sums a b c d x y z w m n e f = omega arith
 
 -- NOT FINITE, REFUSED, LEFT OUT AND ORDERED are all
 pub counts-all : (js ks ns : List ℕ) (from n : ℕ)
-    → countOf js ks ns 0 from n + countOf js ks ns 1 from n + countOf js ks ns 2 from n + countOf js ks ns 3 from n ≡ n
-unfolding countOf
+    → kindsIn js ks ns 0 from n + kindsIn js ks ns 1 from n + kindsIn js ks ns 2 from n + kindsIn js ks ns 3 from n ≡ n
+unfolding kindsIn
 counts-all js ks ns from zero = refl
-counts-all js ks ns from (suc n) = sums (countOf js ks ns 0 from n) (countOf js ks ns 1 from n) (countOf js ks ns 2 from n) (countOf js ks ns 3 from n)
+counts-all js ks ns from (suc n) = sums (kindsIn js ks ns 0 from n) (kindsIn js ks ns 1 from n) (kindsIn js ks ns 2 from n) (kindsIn js ks ns 3 from n)
     _ _ _ _ 0 n (counts-all js ks ns from n) (kind-once js ks ns (from + n))

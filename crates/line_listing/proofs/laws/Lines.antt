@@ -9,7 +9,7 @@ use borrow.Author.Tests.{ne-eqb}
 use Rattle.numerals.specs.digits.Decimal.{digitsIn, digitsOf}
 use Rattle.utc.specs.text.Ascii.{asciiBytes}
 use Rattle.leap_table.specs.rows.Table.{Row}
-use Rattle.line_listing.specs.lines.StampLine.{Stamps, placeOf, dateOfPlace, numberOfPlace, recorder, indexIn}
+use Rattle.line_listing.specs.lines.StampLine.{Stamps, lineInOrder, dateOfPlace, numberOfPlace, recorder, indexIn}
 use Rattle.line_listing.specs.lines.StampLine.{sentenceBehind, numberTold, refused, stampTold, lineBy, placeLine}
 use Rattle.line_listing.specs.lines.Parts.{listedLines}
 
@@ -35,10 +35,10 @@ parts-join s rows all order line j zero =
     ap (listedLines s rows all order line) (let e : j + 0 ≡ j = omega arith in e) ∙ sym (append-nil (listedLines s rows all order line j))
 parts-join s rows all order line j (suc k) =
     ap (listedLines s rows all order line) (let e : j + suc k ≡ suc (j + k) = omega arith in e)
-    ∙ ap (λ (l : List ℕ). l ++ placeLine s rows all (placeOf order (line + (j + k)))) (parts-join s rows all order line j k)
-    ∙ ap (λ (n : ℕ). (listedLines s rows all order line j ++ listedLines s rows all order (line + j) k) ++ placeLine s rows all (placeOf order n))
+    ∙ ap (λ (l : List ℕ). l ++ placeLine s rows all (lineInOrder order (line + (j + k)))) (parts-join s rows all order line j k)
+    ∙ ap (λ (n : ℕ). (listedLines s rows all order line j ++ listedLines s rows all order (line + j) k) ++ placeLine s rows all (lineInOrder order n))
     (let e : line + (j + k) ≡ line + j + k = omega arith in e)
-    ∙ append-assoc (listedLines s rows all order line j) (listedLines s rows all order (line + j) k) (placeLine s rows all (placeOf order (line + j + k)))
+    ∙ append-assoc (listedLines s rows all order line j) (listedLines s rows all order (line + j) k) (placeLine s rows all (lineInOrder order (line + j + k)))
 
 -- A STAMP OF NUMBER 6 OR 9, as every one that is not finite has it (22.4 of docs/GUARANTEES.md), by whatever rows, in whatever order and runs
 pub six-told : (rows : List Row) (all : Stamps) (p : ℕ) → numberOfPlace all p ≡ 6 → stampTold false rows (dateOfPlace all p) (numberOfPlace all p) ≡

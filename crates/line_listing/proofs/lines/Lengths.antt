@@ -22,7 +22,7 @@ use Rattle.reasons.specs.sentences.Texts.{fixedText}
 use Rattle.reasons.specs.Sentence.{reasonOf, sentence}
 use Rattle.reasons.proofs.SentenceLengths.{reason-short}
 use Rattle.reasons.proofs.sentences.FixedTexts.{text-short}
-use Rattle.line_listing.specs.lines.StampLine.{behind, sentenceBehind, numberTold}
+use Rattle.line_listing.specs.lines.StampLine.{asSentence, sentenceBehind, numberTold}
 use Rattle.line_listing.specs.lines.Parts.{longestLine}
 
 pub room-low : (s : Bool) → 43 ≤ longestLine s
@@ -53,8 +53,8 @@ module _ (k : ℕ) (d : JulianDate) where
       let t = text-short k in
       rw (e, f) (omega (arith, length-append (fixedText k) []))
 
-  told : (b : Bool) → length (behind (onward (cond b (answer reason) (refusal 18)) (λ r. answer (render r)))) ≤ 2 + length (render reason)
-  unfolding behind onward
+  told : (b : Bool) → length (asSentence (onward (cond b (answer reason) (refusal 18)) (λ r. answer (render r)))) ≤ 2 + length (render reason)
+  unfolding asSentence onward
   told true = omega arith
   told false = omega arith
 

@@ -23,7 +23,7 @@ use Rattle.reasons.specs.declared.sentences.Reason.{Reason}
 use Rattle.reasons.specs.sentences.Render.{render}
 use Rattle.reasons.specs.Sentence.{reasonOf, reasonOutcome, sentence}
 use Rattle.utc.specs.iso_texts.Expanded.{isoTextExpanded}
-use Rattle.line_listing.specs.lines.StampLine.{recorder, indexIn, behind, sentenceBehind, noText}
+use Rattle.line_listing.specs.lines.StampLine.{recorder, indexIn, asSentence, sentenceBehind, noText}
 use Rattle.line_listing.specs.lines.StampLine.{refused, textTold, utcTold, stampTold, lineBy, noTextCount}
 use Rattle.line_listing.specs.lines.Asked.{answerBy, ToldAt}
 use Rattle.line_listing.specs.declared.lines.Told.{Told}
@@ -56,17 +56,17 @@ module _ (first second p : ℕ) where
 
 -- ---- the sentence behind a number
 module _ (k : ℕ) (d : JulianDate) (res : ReasonAnswer) (call : reasonOutcome res ≡ reasonOf k (Parts (d .jd1) (d .jd2))) where
-  from-reason : sentenceBehind true k d ≡ behind (onward (reasonOutcome res) (λ r. answer (render r)))
+  from-reason : sentenceBehind true k d ≡ asSentence (onward (reasonOutcome res) (λ r. answer (render r)))
   unfolding sentenceBehind sentence
-  from-reason = ap (λ (o : Outcome Reason). behind (onward o (λ r. answer (render r)))) (sym call)
+  from-reason = ap (λ (o : Outcome Reason). asSentence (onward o (λ r. answer (render r)))) (sym call)
 
   pub reason-told : (r : Reason) → res ≡ ToldReason r → asciiBytes ": " ++ render r ≡ sentenceBehind true k d
-  unfolding behind onward reasonOutcome
-  reason-told r e = sym (from-reason ∙ ap (λ (x : ReasonAnswer). behind (onward (reasonOutcome x) (λ y. answer (render y)))) e)
+  unfolding asSentence onward reasonOutcome
+  reason-told r e = sym (from-reason ∙ ap (λ (x : ReasonAnswer). asSentence (onward (reasonOutcome x) (λ y. answer (render y)))) e)
 
   pub no-reason : (n : ℕ) → res ≡ Refused n → [] ≡ sentenceBehind true k d
-  unfolding behind onward reasonOutcome
-  no-reason n e = sym (from-reason ∙ ap (λ (x : ReasonAnswer). behind (onward (reasonOutcome x) (λ y. answer (render y)))) e)
+  unfolding asSentence onward reasonOutcome
+  no-reason n e = sym (from-reason ∙ ap (λ (x : ReasonAnswer). asSentence (onward (reasonOutcome x) (λ y. answer (render y)))) e)
 
 -- ---- the mark of a conversion
 pub marked : (m : ℕ) (d : JulianDate) (o : Outcome JulianDate) → (m ≡ 0 → ⊥) → answerBy m d ≡ o → o ≡ refusal m

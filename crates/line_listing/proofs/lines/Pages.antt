@@ -37,7 +37,7 @@ use Rattle.numerals.proofs.little_endian.SetBytes.{set-outside, set-inside}
 use Rattle.runs.proofs.laws.Refusing.{stamp-held, way-refusals, beside-held}
 use Rattle.runs.proofs.laws.EachWay.{each-way}
 use Rattle.runs.proofs.laws.Theorems.{each-stamp}
-use Rattle.line_listing.specs.lines.StampLine.{placeOf}
+use Rattle.line_listing.specs.lines.StampLine.{lineInOrder}
 use Rattle.line_listing.specs.lines.Asked.{answerBy, Gathered, Converted}
 
 -- ---- eight bytes are one number
@@ -87,13 +87,13 @@ module _ (l : List ℕ) (i n : ℕ) (room : 8 * i + 8 ≤ length l) where
 
 -- ONE PART MORE is gathered
 pub gathered-more : (jds order : List ℕ) (line n : ℕ) (out out′ : List ℕ) (p x : ℕ) → 8 * n + 8 ≤ length out → Gathered jds order line n out
-    → p ≡ placeOf order (line + n) → x ≡ u64At jds (8 * p) → x < 18446744073709551616 → out′ ≡ withNth64 out n x → Gathered jds order line (n + 1) out′
+    → p ≡ lineInOrder order (line + n) → x ≡ u64At jds (8 * p) → x < 18446744073709551616 → out′ ≡ withNth64 out n x → Gathered jds order line (n + 1) out′
 gathered-more jds order line n out out′ p x room g e f small put i h = by (eq-or-lt-of-le (let w : i ≤ n = omega arith in w))
   where
-    by : (i ≡ n) ⊎ (i < n) → u64At out′ (8 * i) ≡ u64At jds (8 * placeOf order (line + i))
+    by : (i ≡ n) ⊎ (i < n) → u64At out′ (8 * i) ≡ u64At jds (8 * lineInOrder order (line + i))
     by (inl q) =
         ap (λ (j : ℕ). u64At out′ (8 * j)) q ∙ ap (λ (s : List ℕ). u64At s (8 * n)) put ∙ put-there out n x room small
-        ∙ f ∙ ap (λ (m : ℕ). u64At jds (8 * m)) (e ∙ ap (λ (j : ℕ). placeOf order (line + j)) (sym q))
+        ∙ f ∙ ap (λ (m : ℕ). u64At jds (8 * m)) (e ∙ ap (λ (j : ℕ). lineInOrder order (line + j)) (sym q))
     by (inr b) = ap (λ (s : List ℕ). u64At s (8 * i)) put ∙ put-other out n x room i b ∙ g i b
 
 -- ---- the UTC of a TAI that a float holds is held too
@@ -182,7 +182,7 @@ module _ (rows : List Row) (js ks order : List ℕ) (line : ℕ) (tai1 tai2 out1
   unfolding runRefusal isRunScale
   taken = rw (a, b, d, e, f) refl
 
-  same : (i : ℕ) → i < 256 → stampOf tai1 tai2 i ≡ stampOf js ks (placeOf order (line + i))
+  same : (i : ℕ) → i < 256 → stampOf tai1 tai2 i ≡ stampOf js ks (lineInOrder order (line + i))
   unfolding stampOf
   same i low = λ j. julian (ofBits binary64 (u i low j)) (ofBits binary64 (v i low j))
 

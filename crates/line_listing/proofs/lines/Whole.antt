@@ -22,14 +22,14 @@ use Rattle.leap_table.specs.rows.Table.{Row}
 use Rattle.line_listing.specs.declared.lines.Told.{Told}
 use Rattle.line_listing.specs.declared.lines.Part.{Part}
 use Rattle.line_listing.specs.declared.lines.PartAnswer.the-variants.{Lines, Refused}
-use Rattle.line_listing.specs.lines.StampLine.{Stamps, placeOf, dateOfPlace, numberOfPlace, lineBy, placeLine, noTextCount}
+use Rattle.line_listing.specs.lines.StampLine.{Stamps, lineInOrder, dateOfPlace, numberOfPlace, lineBy, placeLine, noTextCount}
 use Rattle.line_listing.specs.lines.Parts.{longestLine, listedLines, textlessFrom, listedCount, listedPart, partAnswered, listedOutcome, ListedCall}
 use Rattle.line_listing.specs.lines.Asked.{ToldAt, LinesPlaced}
 
 -- ---- one line more
-module _ (s : Bool) (rows : List Row) (all : Stamps) (order : List ℕ) (line i : ℕ) (p : ℕ) (d : JulianDate) (k : ℕ) (place : p ≡ placeOf order (line + i))
+module _ (s : Bool) (rows : List Row) (all : Stamps) (order : List ℕ) (line i : ℕ) (p : ℕ) (d : JulianDate) (k : ℕ) (place : p ≡ lineInOrder order (line + i))
     (date : d ≡ dateOfPlace all p) (number : k ≡ numberOfPlace all p) where
-  the-line : lineBy s rows (all .first) (all .second) p d k ≡ placeLine s rows all (placeOf order (line + i))
+  the-line : lineBy s rows (all .first) (all .second) p d k ≡ placeLine s rows all (lineInOrder order (line + i))
   unfolding placeLine
   the-line = rw (date, number, place)
 
@@ -39,7 +39,7 @@ module _ (s : Bool) (rows : List Row) (all : Stamps) (order : List ℕ) (line i 
   unfolding listedLines
   lines-more a b h = placed-as (ap (λ (l : List ℕ). listedLines s rows all order line i ++ l) the-line ∙ more) (then a b h)
     where
-      more : listedLines s rows all order line i ++ placeLine s rows all (placeOf order (line + i)) ≡ listedLines s rows all order line (i + 1)
+      more : listedLines s rows all order line i ++ placeLine s rows all (lineInOrder order (line + i)) ≡ listedLines s rows all order line (i + 1)
       more = ap (listedLines s rows all order line) (sym (add-one i))
 
   pub textless-more : (n m : ℕ) → n ≡ textlessFrom rows all order line i → m ≡ noTextCount rows d k → n + m ≡ textlessFrom rows all order line (i + 1)

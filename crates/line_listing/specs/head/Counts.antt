@@ -20,9 +20,9 @@ unfoldable pub kindAt : List ℕ → List ℕ → List ℕ → ℕ → ℕ
 kindAt js ks ns p = cond (eqb (getD ns p 0) 0) 0 (cond (eqb (getD ns p 0) 17) 3 (cond (notFinite js ks p) 1 2))
 
 -- how many of the n stamps from `from` on are of a kind
-unfoldable pub countOf : List ℕ → List ℕ → List ℕ → ℕ → ℕ → ℕ → ℕ
-countOf js ks ns kind from zero = 0
-countOf js ks ns kind from (suc n) = countOf js ks ns kind from n + cond (eqb (kindAt js ks ns (from + n)) kind) 1 0
+unfoldable pub kindsIn : List ℕ → List ℕ → List ℕ → ℕ → ℕ → ℕ → ℕ
+kindsIn js ks ns kind from zero = 0
+kindsIn js ks ns kind from (suc n) = kindsIn js ks ns kind from n + cond (eqb (kindAt js ks ns (from + n)) kind) 1 0
 
 -- ---- where the first run and the second end
 unfoldable pub firstEnd : Stamps → ℕ

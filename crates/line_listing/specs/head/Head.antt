@@ -10,7 +10,7 @@ use Rattle.numerals.specs.digits.Decimal.{digitsOf}
 use Rattle.utc.specs.text.Ascii.{asciiBytes}
 use Rattle.line_listing.specs.declared.head.RunEnd.{RunEnd}
 use Rattle.line_listing.specs.lines.StampLine.{Stamps}
-use Rattle.line_listing.specs.head.Counts.{countOf, firstEnd, secondEnd}
+use Rattle.line_listing.specs.head.Counts.{kindsIn, firstEnd, secondEnd}
 
 -- words and a number
 unfoldable pub counted : List ℕ → ℕ → List ℕ
@@ -23,8 +23,8 @@ blockEnd end = cond (eqb (end .refused) 0) [] (counted (asciiBytes " block ") (e
 -- the line of a run of n stamps from `from` on
 unfoldable pub runLine : List ℕ → RunEnd → List ℕ → List ℕ → List ℕ → ℕ → ℕ → List ℕ
 runLine name end js ks ns from n =
-    ((((counted name n ++ counted (asciiBytes " not finite ") (countOf js ks ns 1 from n)) ++ counted (asciiBytes " refused ") (countOf js ks ns 2 from n))
-    ++ counted (asciiBytes " left out ") (countOf js ks ns 3 from n))
+    ((((counted name n ++ counted (asciiBytes " not finite ") (kindsIn js ks ns 1 from n)) ++ counted (asciiBytes " refused ") (kindsIn js ks ns 2 from n))
+    ++ counted (asciiBytes " left out ") (kindsIn js ks ns 3 from n))
     ++ blockEnd end)
     ++ (10 ∷ [])
 

@@ -14,7 +14,7 @@ use Rattle.leap_table.specs.rows.Table.{Row}
 use Rattle.utc_scales.specs.UtcTai.{taiToUtc}
 use Rattle.line_listing.specs.declared.lines.Told.{Told}
 use Rattle.line_listing.specs.declared.lines.Part.{Part}
-use Rattle.line_listing.specs.lines.StampLine.{Stamps, placeOf, dateOfPlace}
+use Rattle.line_listing.specs.lines.StampLine.{Stamps, lineInOrder, dateOfPlace}
 use Rattle.line_listing.specs.lines.Parts.{listedLines, textlessFrom}
 
 -- the answer of a conversion by its number in one byte and its date
@@ -23,12 +23,12 @@ answerBy mark d = cond (eqb mark 0) (answer d) (refusal mark)
 
 -- the parts of the stamps of 256 lines from `line` on
 abbrev pub Gathered : List ℕ → List ℕ → ℕ → ℕ → List ℕ → Type 0
-Gathered jds order line n out = (i : ℕ) → i < n → u64At out (8 * i) ≡ u64At jds (8 * placeOf order (line + i))
+Gathered jds order line n out = (i : ℕ) → i < n → u64At out (8 * i) ≡ u64At jds (8 * lineInOrder order (line + i))
 
 -- the UTC of the stamps of 256 lines from `line` on
 abbrev pub Converted : List Row → List ℕ → List ℕ → List ℕ → ℕ → List ℕ → List ℕ → List ℕ → Type 0
 Converted rows js ks order line utc1 utc2 marks =
-    (i : ℕ) → i < 256 → answerBy (getD marks i 0) (stampOf utc1 utc2 i) ≡ taiToUtc rows (stampOf js ks (placeOf order (line + i)))
+    (i : ℕ) → i < 256 → answerBy (getD marks i 0) (stampOf utc1 utc2 i) ≡ taiToUtc rows (stampOf js ks (lineInOrder order (line + i)))
 
 -- t was written from `at` on, with so many more stamps without text
 pub record ToldAt (d : List ℕ) (at : ℕ) (t : List ℕ) (none : ℕ) (r : Told) (after : List ℕ) : Type 0 where

@@ -12,7 +12,7 @@ use Rattle.leap_table.specs.rows.Announced.{least}
 use Rattle.line_listing.specs.declared.lines.Part.{Part}
 use Rattle.line_listing.specs.declared.lines.PartAnswer.{PartAnswer}
 use Rattle.line_listing.specs.declared.lines.PartAnswer.the-variants.{Lines, Refused}
-use Rattle.line_listing.specs.lines.StampLine.{Stamps, placeOf, placeLine, noTextCount, dateOfPlace, numberOfPlace}
+use Rattle.line_listing.specs.lines.StampLine.{Stamps, lineInOrder, placeLine, noTextCount, dateOfPlace, numberOfPlace}
 
 -- the most bytes of a line
 unfoldable pub longestLine : Bool → ℕ
@@ -22,13 +22,13 @@ longestLine sentences = cond sentences 84 43
 unfoldable pub listedLines : Bool → List Row → Stamps → List ℕ → ℕ → ℕ → List ℕ
 listedLines sentences rows all order line zero = []
 listedLines sentences rows all order line (suc k) =
-    listedLines sentences rows all order line k ++ placeLine sentences rows all (placeOf order (line + k))
+    listedLines sentences rows all order line k ++ placeLine sentences rows all (lineInOrder order (line + k))
 
 -- how many of them are ordered and without text
 unfoldable pub textlessFrom : List Row → Stamps → List ℕ → ℕ → ℕ → ℕ
 textlessFrom rows all order line zero = 0
 textlessFrom rows all order line (suc k) =
-    textlessFrom rows all order line k + noTextCount rows (dateOfPlace all (placeOf order (line + k))) (numberOfPlace all (placeOf order (line + k)))
+    textlessFrom rows all order line k + noTextCount rows (dateOfPlace all (lineInOrder order (line + k))) (numberOfPlace all (lineInOrder order (line + k)))
 
 -- the lines that an order has
 unfoldable pub linesOfOrder : List ℕ → ℕ

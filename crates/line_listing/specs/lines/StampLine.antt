@@ -46,12 +46,12 @@ unfoldable pub indexIn : ℕ → ℕ → ℕ → ℕ
 indexIn first second p = cond (ltb p first) p (cond (ltb (p - first) second) (p - first) (p - first - second))
 
 -- ---- a number, and behind it its sentence where sentences are asked for and it has one
-unfoldable pub behind : Outcome (List ℕ) → List ℕ
-behind (answer t) = asciiBytes ": " ++ t
-behind (refusal k) = []
+unfoldable pub asSentence : Outcome (List ℕ) → List ℕ
+asSentence (answer t) = asciiBytes ": " ++ t
+asSentence (refusal k) = []
 
 unfoldable pub sentenceBehind : Bool → ℕ → JulianDate → List ℕ
-sentenceBehind sentences k d = cond sentences (behind (sentence k (Parts (d .jd1) (d .jd2)))) []
+sentenceBehind sentences k d = cond sentences (asSentence (sentence k (Parts (d .jd1) (d .jd2)))) []
 
 unfoldable pub numberTold : Bool → ℕ → JulianDate → List ℕ
 numberTold sentences k d = digitsOf k ++ sentenceBehind sentences k d
@@ -88,5 +88,5 @@ unfoldable pub noTextCount : List Row → JulianDate → ℕ → ℕ
 noTextCount rows d k = cond (eqb k 0) (oneIfRefused (onward (taiToUtc rows d) (isoTextExpanded rows))) 0
 
 -- ---- the place of the stamp of line i, by the order that is lent: four bytes for each line
-abbrev pub placeOf : List ℕ → ℕ → ℕ
-placeOf order i = u32At order (4 * i)
+abbrev pub lineInOrder : List ℕ → ℕ → ℕ
+lineInOrder order i = u32At order (4 * i)

@@ -2,14 +2,14 @@
 use Prim.Native.Nat.{ℕ, _+_, _-_, _≤_}
 use native.Mathlib.Omega.{arith}
 use mathlib.Core.Path.{_≡_, refl, sym, ap, _∙_}
-use Rattle.line_listing.specs.head.Counts.{countOf}
+use Rattle.line_listing.specs.head.Counts.{kindsIn}
 use Rattle.line_listing.proofs.head.Counting.{counted-more, counted-none}
 use borrow.Author.Needs.{needs}
 use Rattle.line_listing.proofs.head.count_of.Statement.{statement}
 use Rattle.line_listing.proofs.head.count_of.Tie as tie
 
 abbrev Inv-loop : tie.InvT-loop
-Inv-loop jd1s jd2s numbers kind from n count₀ i₀ count i = (i ≤ n) × (count ≡ countOf jd1s jd2s numbers kind from i) × (count ≤ i)
+Inv-loop jd1s jd2s numbers kind from n count₀ i₀ count i = (i ≤ n) × (count ≡ kindsIn jd1s jd2s numbers kind from i) × (count ≤ i)
 
 abbrev μ-loop : tie.MeasureT-loop
 μ-loop jd1s jd2s numbers kind from n count₀ i₀ count i = n - i
@@ -47,7 +47,7 @@ returns : tie.Need-returns Inv-loop μ-loop
 returns c =
     let l = c .before .loop in
     let e : l .i ≡ c .before .before .before .before .before .args .n = omega (arith, l .inv .0) in
-    (l .inv .1 ∙ ap (countOf _ _ _ _ _) e, omega (arith, l .inv .2, e))
+    (l .inv .1 ∙ ap (kindsIn _ _ _ _ _) e, omega (arith, l .inv .2, e))
 
 pub count-of-spec : {M : Type 1} → statement M
 count-of-spec =
