@@ -74,7 +74,6 @@ use Rattle.stamps.specs.declared.Reporting.{Reporting}
 use Rattle.stamps.specs.declared.Reporting.the-variants.{Numbers, Sentences}
 use Rattle.stamps.proofs.reason_laws.ReadBack.{same-sentence}
 use Rattle.stamps.proofs.listing_laws.Whole.{parts-alike}
-use Rattle.stamps.proofs.listing_laws.Sentences as Second
 use Rattle.stamps.proofs.listing_laws.Longest.{number-line-most, longest-line}
 use Rattle.ticks.specs.declared.TicksAnswer.{TicksAnswer}
 use Rattle.ticks.specs.Ticks.{TicksCall, placedTicks}
@@ -92,7 +91,7 @@ use Rattle.promises.specs.Requests as R
 use Rattle.promises.proofs.Demands.{demand-3}
 use Rattle.promises.proofs.HalfTexts.{old-half, new-half}
 use Rattle.promises.proofs.Terms.{tai-passes-on, ut1-passes-on, texts-pass-on, look-up-tells, rows-counted, too-long, short-day-ends}
-use Rattle.promises.proofs.Terms.{field-named, none-named, rule-names}
+use Rattle.promises.proofs.Terms.{field-named, none-named, sentences-printed, rule-names}
 
 -- -4900-02-30
 pub before-the-calendar : gregorianDate (negsuc 68569) ≡ date (negsuc 4899) 2 30
@@ -264,7 +263,7 @@ module _ (t : AnnouncedRows) (rows : List Row) (e : tableOf t ≡ answer rows) w
     no-name = none-named rows;
     same-only-if = same-sentence;
     too-long = too-long;
-    header-shared = λ how other. Second.header-shared how other rows;
+    printed = sentences-printed rows;
     nan-shown = nan-digits;
     hex-shown = hex-order;
   }

@@ -46,8 +46,9 @@ use Rattle.utc.specs.iso_texts.TextForm.{TextForm}
 use Rattle.utc.specs.iso_texts.ByRule.{textByRule}
 use Rattle.reasons.specs.declared.Values.{Values}
 use Rattle.reasons.specs.Sentence.{sentence}
+use Rattle.stamps.proofs.listing_laws.Sentences as Second
 use Rattle.stamps.proofs.reason_laws.Names as Reported
-use Rattle.promises.specs.Terms.{Walks, RuleNames, FieldNamed, NoneNamed}
+use Rattle.promises.specs.Terms.{Walks, RuleNames, FieldNamed, NoneNamed, SentencesPrinted}
 
 -- ---- a rule passed on is that of the calendar's date
 module _ (rows : List Row) where
@@ -170,6 +171,17 @@ none-named rows = record {
   parts = Reported.parts-pass;
   offset = Reported.offset-passes;
   block = Reported.block-passes;
+}
+
+pub sentences-printed : (rows : List Row) → SentencesPrinted rows
+sentences-printed rows = record {
+  stamp-by-6 = λ m s n i. Second.sum-line m rows s n i;
+  stamp-by-1 = λ m s n i. Second.year-line m rows s n i;
+  block-by-12 = λ m s line. Second.second-size-line m rows s line;
+  block-by-13 = λ m s line. Second.size-line m rows s line;
+  block-by-14 = Second.length-line rows;
+  with-text = λ how other. Second.text-line-shared how other rows;
+  header = λ how other. Second.header-shared how other rows;
 }
 
 -- ---- rules

@@ -117,7 +117,7 @@ use Rattle.standby_laws.specs.Verdict.{asCalendar, faultOf}
 use Rattle.c_answers.specs.table.RecordBytes.{MachineRecord, recordBytes}
 use Rattle.c_answers.specs.table.TableBytes.{tableBytes}
 use Rattle.promises.specs.Demands.{Demand3}
-use Rattle.promises.specs.Terms.{EachText, FieldNamed, NoneNamed, RuleNames, SameRows, Walks, three-2048ths}
+use Rattle.promises.specs.Terms.{EachText, FieldNamed, NoneNamed, RuleNames, SameRows, SentencesPrinted, Walks, three-2048ths}
 
 pub record Request1 (rows : List Row) : Type 0 where
   -- "a UTC text may also have one Z directly after its seconds"
@@ -317,7 +317,7 @@ pub record Request13 (rows : List Row) : Type 0 where
   pub too-long : (k : ℕ) (v : Values) (s before after : List ℕ) (r : TextAnswer) → sentence k v ≡ answer s → length before < length s
       → TextCall (sentence k v) before r after → textOutcome r ≡ refusal 11
   -- "A second listing program prints them in place of `refused` and the number, on stamp lines and after `block`, not in the header"
-  pub header-shared : (how other : Reporting) (s : List ℕ) (n : ℕ) → blockOf s ≡ answer n → lineOf how rows (blockOf s) s 0 ≡ lineOf other rows (blockOf s) s 0
+  pub printed : SentencesPrinted rows
   -- "floats are shown as 16 hexadecimal digits of their bits, any NaN as 7ff8000000000000"
   pub nan-shown : floatDigits nan ≡ asciiBytes "7ff8000000000000"
   pub hex-shown : hex16 0x0123_4567_89ab_cdef ≡ asciiBytes "0123456789abcdef"

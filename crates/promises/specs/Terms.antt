@@ -1,7 +1,7 @@
 -- Words that the promises use: premises and groups of statements under a name. `rows` are those of a table that is taken. Assumes nothing.
 use Prim.Native.Nat.{_<_, ℕ, _≤_}
 use mathlib.Core.Bool.{false, true}
-use mathlib.Core.List.{List}
+use mathlib.Core.List.{List, [], _∷_, _++_}
 use mathlib.Core.Logic.{_⊎_}
 use mathlib.Core.Path.{_≡_}
 use lib.Dec.{T}
@@ -17,6 +17,8 @@ use Rattle.julian.specs.DayFraction.{dayFraction}
 use Rattle.julian.specs.Finite.{finiteArg, finiteJd}
 use Rattle.julian.specs.JulianDate.{julian, roundedSum}
 use Rattle.julian.specs.day_number.Answer.{dayNumberAndFraction}
+use Rattle.julian.specs.Calendar.{julianToCalendar}
+use Rattle.julian.specs.declared.CalendarFields.{CalendarFields}
 use Rattle.julian.specs.declared.JulianDate.{JulianDate}
 use Rattle.julian.specs.declared.day_number.DayNumber.{DayNumber}
 use Rattle.leap_table.specs.declared.judging.Triple.{Triple}
@@ -36,12 +38,17 @@ use Rattle.utc.specs.iso_texts.HalfEven.{isoTextHalfEven}
 use Rattle.utc.specs.iso_texts.IsoText.{isoText}
 use Rattle.reasons.specs.Offending.{offending, timeField}
 use Rattle.reasons.specs.Sentence.{reasonOf}
+use Rattle.reasons.specs.sentences.Render.{render}
 use Rattle.reasons.specs.declared.Values.{Values}
 use Rattle.reasons.specs.declared.Values.the-variants.{Block, Count, Date, Number, Parts, Time}
 use Rattle.reasons.specs.declared.sentences.Named.{Named}
 use Rattle.reasons.specs.declared.sentences.Named.the-variants.{Day, FirstPart, Fraction, Hour, Minute, Month, Nanos, NoField, Offset, Second}
 use Rattle.reasons.specs.declared.sentences.Named.the-variants.{SecondPart, SecondSize, Size, Sum, WholeLength, Year}
-use Rattle.stamps.specs.Block.{blockOf}
+use Rattle.stamps.specs.declared.Reporting.{Reporting}
+use Rattle.stamps.specs.declared.Reporting.the-variants.{Sentences}
+use Rattle.stamps.specs.Block.{blockOf, stampAt}
+use Rattle.stamps.specs.Listing.{blockWord, numeral, stampLine, textAt}
+use Rattle.stamps.specs.Parts.{lineOf}
 use Rattle.stamps.specs.reason_laws.Groups.{reads}
 
 -- P holds of each of the three text calls: document 01's, to even, and with expanded years
@@ -113,3 +120,24 @@ pub record NoneNamed (rows : List Row) : Type 0 where
   pub parts : (d : JulianDate) → finiteJd d ≡ answer d → offending 9 (Parts (d .jd1) (d .jd2)) ≡ NoField
   pub offset : (x : Float) → finiteArg x ≡ answer x → offending 10 (Number x) ≡ NoField
   pub block : (s : List ℕ) (k n : ℕ) → blockOf s ≡ answer n → offending k (valuesOfBlock s) ≡ NoField
+
+-- the sentence of number k with the field f
+abbrev pub told : ℕ → Named → List ℕ
+told k f = render (record { number = k; named = f })
+
+-- what the second listing prints: for a refused stamp its index and the sentence, for a refused block `block` and the sentence, else what the first does
+pub record SentencesPrinted (rows : List Row) : Type 0 where
+  pub stamp-by-6 : (m : ℕ) (s : List ℕ) (n i : ℕ) → textAt rows s n i ≡ refusal 6
+      → stampLine (Sentences m) rows s n i ≡ ((numeral i ++ (32 ∷ [])) ++ told 6 (Sum (roundedSum (stampAt s n i)))) ++ (10 ∷ [])
+  pub stamp-by-1 : (m : ℕ) (s : List ℕ) (n i : ℕ) → textAt rows s n i ≡ refusal 1
+      → (c : CalendarFields) × (julianToCalendar (stampAt s n i .jd1) (stampAt s n i .jd2) ≡ answer c)
+      × (stampLine (Sentences m) rows s n i ≡ ((numeral i ++ (32 ∷ [])) ++ told 1 (Year (c .date .year))) ++ (10 ∷ []))
+  pub block-by-12 : (m : ℕ) (s : List ℕ) (line : ℕ) → blockOf s ≡ refusal 12
+      → lineOf (Sentences m) rows (blockOf s) s line ≡ (blockWord ++ told 12 (SecondSize (u32At s 4))) ++ (10 ∷ [])
+  pub block-by-13 : (m : ℕ) (s : List ℕ) (line : ℕ) → blockOf s ≡ refusal 13
+      → lineOf (Sentences m) rows (blockOf s) s line ≡ (blockWord ++ told 13 (Size (u32At s 0))) ++ (10 ∷ [])
+  pub block-by-14 : (s : List ℕ) (line : ℕ) → blockOf s ≡ refusal 14
+      → lineOf (Sentences (length s)) rows (blockOf s) s line ≡ (blockWord ++ told 14 (WholeLength (length s))) ++ (10 ∷ [])
+  pub with-text : (how other : Reporting) (s : List ℕ) (n i : ℕ) (t : List ℕ) → textAt rows s n i ≡ answer t
+      → stampLine how rows s n i ≡ stampLine other rows s n i
+  pub header : (how other : Reporting) (s : List ℕ) (n : ℕ) → blockOf s ≡ answer n → lineOf how rows (blockOf s) s 0 ≡ lineOf other rows (blockOf s) s 0
