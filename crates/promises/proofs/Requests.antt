@@ -29,10 +29,7 @@ use Rattle.leap_table.specs.rows.Table.{Row}
 use Rattle.leap_table.specs.rows.Announced.{tableOf}
 use Rattle.leap_table.proofs.rows.TableLaws.{table-decided, table-rises, spare-unread}
 use Rattle.leap_table.proofs.rows.TablesTaken.{table-none}
-use Rattle.leap_table.proofs.offsets.RuleLaws.{drifting-last-begun, whole-last-begun}
-use Rattle.leap_table.proofs.offsets.Rules.{offset-forgets}
 use Rattle.leap_table.proofs.walk.Counts.{most-by-fixed, most-by-any, compared-closed}
-use Rattle.leap_table.proofs.walk.OfCall.{numbers-offset, numbers-behind}
 use Rattle.leap_table.proofs.walk.Due.{numbers-decided}
 use Rattle.leap_days.proofs.TableLeaps.{table-leap-on}
 use Rattle.julian.specs.declared.day_number.DayNumber.{DayNumber}
@@ -48,13 +45,10 @@ use Rattle.scales.proofs.gps_week_laws.CalendarDates.{on-calendar}
 use Rattle.scales.proofs.gps_week_laws.NearDates.{of-day}
 use Rattle.scales.proofs.gps_week_laws.Refusals.{from-week-decided, to-week-decided}
 use Rattle.scales.proofs.gps_week_laws.RoundTrip as Weeks
-use Rattle.utc_scales.proofs.Rules.{utc-to-tai-forgets}
-use Rattle.utc_scales.proofs.to_ut1.Rules.{utc-to-ut1-forgets}
 use Rattle.utc_scales.proofs.laws.AnnouncedCalls as Announced
 use Rattle.utc_scales.proofs.round_trip.RoundTrip as Back
 use Rattle.utc.specs.iso_texts.IsoText.{standardForm}
 use Rattle.utc.specs.iso_texts.Expanded.{isoTextExpanded}
-use Rattle.utc.proofs.iso_texts.TextRules.{text-forgets}
 use Rattle.utc.proofs.text.ExpandedLaws.{expanded-same, expanded-rest, expanded-1-before, expanded-12000}
 use Rattle.utc.proofs.laws.ShortDays.{short-day-refused}
 use Rattle.utc.proofs.laws.HalfEvenTexts.{even-for-every-buffer}
@@ -89,9 +83,9 @@ use Rattle.c_answers.proofs.table.Laws as Bytes
 use Rattle.promises.specs.Terms.{EachText}
 use Rattle.promises.specs.Requests as R
 use Rattle.promises.proofs.Demands.{demand-3}
+use Rattle.promises.proofs.Terms.{walk-right, look-up-tells, rule-names, passed-on, without-rule, last-begun, short-day-ends, field-named, none-named}
+use Rattle.promises.proofs.Terms.{too-long, sentences-printed}
 use Rattle.promises.proofs.HalfTexts.{old-half, new-half}
-use Rattle.promises.proofs.Terms.{tai-passes-on, ut1-passes-on, texts-pass-on, look-up-tells, rows-counted, too-long, short-day-ends}
-use Rattle.promises.proofs.Terms.{field-named, none-named, sentences-printed, rule-names}
 
 -- -4900-02-30
 pub before-the-calendar : gregorianDate (negsuc 68569) ≡ date (negsuc 4899) 2 30
@@ -175,10 +169,8 @@ module _ (t : AnnouncedRows) (rows : List Row) (e : tableOf t ≡ answer rows) w
 
   pub request-2 : R.Request2 t rows
   request-2 = record {
-    offsets = λ ds d before after c call. numbers-offset t ds d before after c call;
-    spare = λ ds d before after c call. numbers-behind t ds d before after c call;
+    call = walk-right t rows e;
     at-most = most-by-fixed;
-    counted = rows-counted t rows e;
     each-time = compared-closed _ (table-rises t rows e);
     decided = numbers-decided rows;
   }
@@ -199,15 +191,9 @@ module _ (t : AnnouncedRows) (rows : List Row) (e : tableOf t ≡ answer rows) w
   request-5 = record {
     told = look-up-tells rows;
     row = rule-names t rows e;
-    by-tai = tai-passes-on rows;
-    by-ut1 = ut1-passes-on rows;
-    by-texts = texts-pass-on rows;
-    same-offset = offset-forgets rows;
-    same-tai = utc-to-tai-forgets rows;
-    same-ut1 = utc-to-ut1-forgets rows;
-    same-text = λ form. text-forgets form rows;
-    drifting-last = drifting-last-begun rows;
-    whole-last = whole-last-begun rows;
+    passed-on = passed-on rows;
+    as-before = without-rule rows;
+    last-begun = last-begun rows;
   }
 
   pub request-6 : R.Request6 rows

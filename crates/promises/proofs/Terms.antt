@@ -1,6 +1,7 @@
 -- WHICH ROW A RULE NAMES, WHICH FIELD A SENTENCE NAMES, and what a rule passed on is, for every table that is taken. Assumes nothing.
 use mathlib.Core.Path.{_≡_, refl, sym, ap, _∙_}
 use mathlib.Core.Bool.{Bool, true, false, cond}
+use mathlib.Core.Logic.{_⊎_, inl, inr}
 use mathlib.Core.List.{List, map}
 use Prim.Native.Nat.{ℕ, _+_, _*_, _<_}
 use native.Mathlib.Omega.{arith}
@@ -15,9 +16,10 @@ use Rattle.julian.specs.declared.CalendarFields.{CalendarFields}
 use Rattle.julian.specs.declared.JulianDate.{JulianDate}
 use Rattle.julian.specs.Calendar.{julianToCalendar}
 use Rattle.leap_table.specs.declared.offsets.Rule.{Rule}
+use Rattle.leap_table.specs.declared.offsets.Rule.the-variants.{Drifting, Whole}
 use Rattle.leap_table.specs.declared.rows.AnnouncedRows.{AnnouncedRows}
 use Rattle.leap_table.specs.declared.judging.Triple.{Triple}
-use Rattle.leap_table.specs.rows.Table.{Row, starts, monthNumber}
+use Rattle.leap_table.specs.rows.Table.{Row, starts, monthNumber, LastBegun}
 use Rattle.leap_table.specs.rows.Announced.{tableOf}
 use Rattle.leap_table.specs.offsets.Offset.{taiUtcOffset}
 use Rattle.leap_table.specs.offsets.Rule.{ruleOf, ruleAt, ruleOn, withRule, offsetByRule}
@@ -27,8 +29,9 @@ use Rattle.leap_table.specs.walk.Rows.{compared}
 use Rattle.leap_table.specs.walk.Lists.{walkOfNumbers}
 use Rattle.leap_table.specs.walk.Due.{tripleNumbers}
 use Rattle.leap_table.specs.walk.Call.{walkOutcome}
-use Rattle.leap_table.proofs.walk.OfCall.{walk-of-numbers}
+use Rattle.leap_table.proofs.walk.OfCall.{walk-of-numbers, numbers-offset, numbers-behind}
 use Rattle.leap_table.proofs.offsets.RuleLaws as Rules
+use Rattle.leap_table.proofs.offsets.Rules.{offset-forgets}
 use Rattle.time_of_day.specs.declared.TimeOfDay.{TimeOfDay}
 use Rattle.time_of_day.specs.ExactTime.{GoodTime, minus-one-f}
 use Rattle.utc_scales.specs.ByRule.{utcToTaiByRule}
@@ -38,17 +41,20 @@ use Rattle.utc_scales.specs.days.LargerPart.{keptParts}
 use Rattle.utc_scales.specs.to_ut1.ByRule.{utcToUt1ByRule}
 use Rattle.utc_scales.specs.to_ut1.UtcUt1.{utcToUt1}
 use Rattle.utc_scales.proofs.days.Rules.{taken-apart}
+use Rattle.utc_scales.proofs.Rules.{utc-to-tai-forgets}
+use Rattle.utc_scales.proofs.to_ut1.Rules.{utc-to-ut1-forgets}
 use Rattle.utc.specs.declared.text.TextAnswer.{TextAnswer}
 use Rattle.utc.specs.text.Answer.{textOutcome, textWritten}
 use Rattle.utc.specs.iso_texts.TextCall.{written, TextCall}
 use Rattle.utc.specs.iso_texts.IsoText.{dayTextBy}
 use Rattle.utc.specs.iso_texts.TextForm.{TextForm}
 use Rattle.utc.specs.iso_texts.ByRule.{textByRule}
+use Rattle.utc.proofs.iso_texts.TextRules.{text-forgets}
 use Rattle.reasons.specs.declared.Values.{Values}
 use Rattle.reasons.specs.Sentence.{sentence}
 use Rattle.stamps.proofs.listing_laws.Sentences as Second
 use Rattle.stamps.proofs.reason_laws.Names as Reported
-use Rattle.promises.specs.Terms.{Walks, RuleNames, FieldNamed, NoneNamed, SentencesPrinted}
+use Rattle.promises.specs.Terms.{Walks, WalkRight, PassedOn, WithoutRule, RuleNames, FieldNamed, NoneNamed, SentencesPrinted}
 
 -- ---- a rule passed on is that of the calendar's date
 module _ (rows : List Row) where
@@ -65,7 +71,8 @@ module _ (rows : List Row) where
       → ruleOfDate rows (d .jd1) (d .jd2) ≡ answer r
   unfolding textByRule withRule ruleOfDate onward
   texts-pass-on form d s r e =
-      let (c, p, q) = came (julianToCalendar (d .jd1) (d .jd2)) (λ c. withRule (dayTextBy form rows (c .date) (c .fraction)) (ruleOn rows (c .date))) (s, r) e in
+      let (c, p, q) =
+      came (julianToCalendar (d .jd1) (d .jd2)) (λ c. withRule (dayTextBy form rows (c .date) (c .fraction)) (ruleOn rows (c .date))) (s, r) e in
       let (a, u, v) = came (dayTextBy form rows (c .date) (c .fraction)) (λ a. answer (a, ruleOn rows (c .date))) (s, r) q in
       went (λ (f : CalendarFields). answer (ruleOn rows (f .date))) p ∙ ap (λ (o : Outcome (List ℕ × Rule)). onward o (λ w. answer (w .1))) v
 
@@ -94,7 +101,8 @@ module _ (t : AnnouncedRows) (rows : List Row) (e : tableOf t ≡ answer rows) w
           ap (λ (k : Walked). k .rowsCompared) y
       go false q = let z : _≡_ {A = ℕ} 0 1 = cc in absurd (omega arith)
 
-  pub rows-counted : (ds : List Triple) (d : Triple) (before after : List Float) (c : ℕ) → Walks t ds before c after → c ≡ compared (starts rows) (map monthIn ds)
+  pub rows-counted : (ds : List Triple) (d : Triple) (before after : List Float) (c : ℕ) → Walks t ds before c after
+      → c ≡ compared (starts rows) (map monthIn ds)
   unfolding walkOutcome
   rows-counted ds d before after c call =
       let next : List Row → Outcome Walked = λ l. walkOfNumbers l (tripleNumbers ds) (length before) in
@@ -184,7 +192,31 @@ sentences-printed rows = record {
   header = λ how other. Second.header-shared how other rows;
 }
 
+-- ---- walks
+pub walk-right : (t : AnnouncedRows) (rows : List Row) → tableOf t ≡ answer rows → (ds : List Triple) (d : Triple) (before after : List Float) (c : ℕ)
+    → Walks t ds before c after → WalkRight t rows ds d before after c
+walk-right t rows e ds d before after c call = record {
+  offset = numbers-offset t ds d before after c call;
+  spare = numbers-behind t ds d before after c call;
+  counted = rows-counted t rows e ds d before after c call;
+}
+
 -- ---- rules
+pub passed-on : (rows : List Row) → PassedOn rows
+passed-on rows = record { by-tai = tai-passes-on rows; by-ut1 = ut1-passes-on rows; by-texts = texts-pass-on rows }
+
+pub without-rule : (rows : List Row) → WithoutRule rows
+without-rule rows = record {
+  offset = offset-forgets rows;
+  tai = utc-to-tai-forgets rows;
+  ut1 = utc-to-ut1-forgets rows;
+  text = λ form. text-forgets form rows;
+}
+
+pub last-begun : (rows : List Row) (n i : ℕ) → (ruleOf rows n ≡ Drifting i) ⊎ (ruleOf rows n ≡ Whole i) → LastBegun (starts rows) n i
+last-begun rows n i (inl e) = Rules.drifting-last-begun rows n i e
+last-begun rows n i (inr e) = Rules.whole-last-begun rows n i e
+
 pub rule-names : (t : AnnouncedRows) (rows : List Row) → tableOf t ≡ answer rows → (n : ℕ) → RuleNames t rows n
 rule-names t rows e n = record {
   before-1960 = Rules.before-1960-absent t rows e n;

@@ -1,13 +1,13 @@
 -- The fourteen requests, sentence by sentence. `rows` are those of a table that is taken. Written from document 02. Assumes nothing.
 use Prim.Native.Nat.{_%_, _*_, _+_, _/_, _<_, _^_, ℕ, _≤_}
 use mathlib.Core.Bool.{_&&_, Bool, false, true}
-use mathlib.Core.List.{List, [], _∷_, _++_, map}
+use mathlib.Core.List.{List, [], _∷_, _++_}
 use mathlib.Core.Logic.{_⊎_}
 use mathlib.Core.Path.{_≡_}
 use lib.Dec.{T}
 use lib.Ieee.{Float, binary64, div, fits, le, lt, nan, ofInt}
 use lib.IntN.{natAbs, negsuc, pos, ℤ}
-use lib.ListN.{drop, getD, length}
+use lib.ListN.{length}
 use lib.Signed.{ltZ}
 use Rattle.refusals.specs.Outcome.{answer, refusal}
 use Rattle.numerals.specs.digits.Hexadecimal.{hex16}
@@ -45,13 +45,12 @@ use Rattle.leap_table.specs.declared.rows.AnnouncedRows.{AnnouncedRows}
 use Rattle.leap_table.specs.judging.Lists.{datesFrom, tripleAt}
 use Rattle.leap_table.specs.offsets.Leap.{leapAtEndOfDay}
 use Rattle.leap_table.specs.offsets.Offset.{inDay, taiUtcOffset, wholeF}
-use Rattle.leap_table.specs.offsets.Rule.{forget, offsetByRule, ruleOf}
-use Rattle.leap_table.specs.rows.Announced.{Decision, rowsOf, tableOf}
+use Rattle.leap_table.specs.offsets.Rule.{offsetByRule, ruleOf}
+use Rattle.leap_table.specs.rows.Announced.{Decision, tableOf}
 use Rattle.leap_table.specs.rows.Table.{LastBegun, Row, fixed, monthNumber, rising, starts}
 use Rattle.leap_table.specs.walk.Due.{WalkDecision}
 use Rattle.leap_table.specs.walk.Lists.{walkOfNumbers}
 use Rattle.leap_table.specs.walk.Rows.{compared, inTime, lastReached, withRowLeft}
-use Rattle.leap_table.specs.walk.Walk.{monthIn, tripleOffset}
 use Rattle.leap_days.specs.Tables.{LeapOn}
 use Rattle.scales.specs.declared.gps_weeks.WeekTime.{WeekTime}
 use Rattle.scales.specs.gps_week_laws.Decisions.{FromWeek, ToWeek}
@@ -61,24 +60,16 @@ use Rattle.scales.specs.gps_weeks.FullWeek.{NearestWeek, Tie, fullWeek}
 use Rattle.scales.specs.gps_weeks.WeekDate.{partOfDay, weekDate}
 use Rattle.scales.specs.gps_weeks.WeekOf.{dayMillis, weekOf, weekTime}
 use Rattle.scales.specs.laws.Ranges.{Held}
-use Rattle.utc_scales.specs.ByRule.{utcToTaiByRule}
-use Rattle.utc_scales.specs.UtcTai.{utcToTai}
-use Rattle.utc_scales.specs.days.DateRule.{ruleOfDate}
-use Rattle.utc_scales.specs.days.LargerPart.{keptParts}
 use Rattle.utc_scales.specs.laws.Twenty.{Twenty, announcedAnswer, answerOfAny, readsTable}
 use Rattle.utc_scales.specs.round_trip.Ranges.{HalfDaySplit}
 use Rattle.utc_scales.specs.round_trip.RoundTrip.{ThereAndBack}
-use Rattle.utc_scales.specs.to_ut1.ByRule.{utcToUt1ByRule}
-use Rattle.utc_scales.specs.to_ut1.UtcUt1.{utcToUt1}
 use Rattle.utc.specs.FromCalendar.{utcFromCalendar}
-use Rattle.utc.specs.iso_texts.ByRule.{textByRule}
 use Rattle.utc.specs.iso_texts.Expanded.{expandedForm, isoTextExpanded}
 use Rattle.utc.specs.iso_texts.HalfEven.{halfEvenForm, isoTextHalfEven}
-use Rattle.utc.specs.iso_texts.IsoText.{isoText, isoTextBy, standardForm}
+use Rattle.utc.specs.iso_texts.IsoText.{isoText, standardForm}
 use Rattle.utc.specs.declared.text.TextAnswer.{TextAnswer}
 use Rattle.utc.specs.text.Answer.{textOutcome}
 use Rattle.utc.specs.iso_texts.TextCall.{TextCall}
-use Rattle.utc.specs.iso_texts.TextForm.{TextForm}
 use Rattle.utc.specs.laws.Beside.{Beside}
 use Rattle.utc.specs.laws.OneText.{OneText}
 use Rattle.utc.specs.laws.Promises.{evenPromise, expandedPromise}
@@ -117,7 +108,8 @@ use Rattle.standby_laws.specs.Verdict.{asCalendar, faultOf}
 use Rattle.c_answers.specs.table.RecordBytes.{MachineRecord, recordBytes}
 use Rattle.c_answers.specs.table.TableBytes.{tableBytes}
 use Rattle.promises.specs.Demands.{Demand3}
-use Rattle.promises.specs.Terms.{EachText, FieldNamed, NoneNamed, RuleNames, SameRows, SentencesPrinted, Walks, three-2048ths}
+use Rattle.promises.specs.Terms.{EachText, FieldNamed, NoneNamed, PassedOn, RuleNames, SameRows, SentencesPrinted, WalkRight, Walks}
+use Rattle.promises.specs.Terms.{WithoutRule, three-2048ths}
 
 pub record Request1 (rows : List Row) : Type 0 where
   -- "a UTC text may also have one Z directly after its seconds"
@@ -138,17 +130,13 @@ pub record Request1 (rows : List Row) : Type 0 where
   pub read : (utc : Bool) (s : List ℕ) → Verdict utc s (parsed utc s)
 
 pub record Request2 (t : AnnouncedRows) (rows : List Row) : Type 0 where
-  -- "Give the offsets at 0h for a slice of signed 32-bit numbers, year, month, day triples"; "Each offset is that of 01's single lookup."
-  pub offsets : (ds : List Triple) (d : Triple) (before after : List Float) (c : ℕ) → Walks t ds before c after → (i : ℕ) → i < length ds
-      → taiUtcOffset (rowsOf t) (getD ds i d .year) (getD ds i d .month) (getD ds i d .day) nought ≡ answer (getD after i (tripleOffset (rowsOf t) d))
-  -- "spare places of a lent list stay"
-  pub spare : (ds : List Triple) (d : Triple) (before after : List Float) (c : ℕ) → Walks t ds before c after
-      → drop (length ds) after ≡ drop (length ds) before
-  -- "the number of rows compared, equal to a definition's count and at most the dates plus 42. A row counts each time a date's month is held against the
-  -- start of the next row not yet reached."
-  pub counted : (ds : List Triple) (d : Triple) (before after : List Float) (c : ℕ) → Walks t ds before c after → c ≡ compared (starts rows) (map monthIn ds)
+  -- "Give the offsets at 0h for a slice of signed 32-bit numbers, year, month, day triples, while walking the table forward; spare places of a lent list
+  -- stay"; "the number of rows compared, equal to a definition's count and at most the dates plus 42. A row counts each time a date's month is held against the
+  -- start of the next row not yet reached. Each offset is that of 01's single lookup."
+  pub call : (ds : List Triple) (d : Triple) (before after : List Float) (c : ℕ) → Walks t ds before c after → WalkRight t rows ds d before after c
   pub at-most : (months : List ℕ) → compared (starts fixed) months ≤ length months + 42
-  pub each-time : (months : List ℕ) → T (inTime 0 months) → compared (starts rows) months ≡ lastReached (starts rows) 0 months + withRowLeft (starts rows) months
+  pub each-time : (months : List ℕ) → T (inTime 0 months)
+      → compared (starts rows) months ≡ lastReached (starts rows) 0 months + withRowLeft (starts rows) months
   -- "Turned away: 14 for a broken triple, then 11 for fewer offset places than dates; then, date by date, a bad one by its own number, then 17 for one
   -- earlier than the one before it."
   pub decided : (l : List ℤ) (d : Triple) (places : ℕ)
@@ -184,16 +172,10 @@ pub record Request5 (t : AnnouncedRows) (rows : List Row) : Type 0 where
   pub told : (y m d : ℤ) (f x : Float) (r : Rule) → offsetByRule rows y m d f ≡ answer (x, r) → ruleOf rows (monthNumber y (natAbs m)) ≡ r
   pub row : (n : ℕ) → RuleNames t rows n
   -- "UTC to TAI, UTC to UT1 and the text calls pass on that of the calendar's date at 0h."
-  pub by-tai : (d x : JulianDate) (r : Rule) → utcToTaiByRule rows d ≡ answer (x, r) → ruleOfDate rows (keptParts d .larger) (keptParts d .smaller) ≡ answer r
-  pub by-ut1 : (d x : JulianDate) (s : Float) (r : Rule) → utcToUt1ByRule rows d s ≡ answer (x, r) → ruleOfDate rows (d .jd1) (d .jd2) ≡ answer r
-  pub by-texts : (form : TextForm) (d : JulianDate) (s : List ℕ) (r : Rule) → textByRule form rows d ≡ answer (s, r) → ruleOfDate rows (d .jd1) (d .jd2) ≡ answer r
+  pub passed-on : PassedOn rows
   -- "All numbers and refusals match those of before, and the row named is the last whose month has begun."
-  pub same-offset : (y m d : ℤ) (f : Float) → forget (offsetByRule rows y m d f) ≡ taiUtcOffset rows y m d f
-  pub same-tai : (d : JulianDate) → forget (utcToTaiByRule rows d) ≡ utcToTai rows d
-  pub same-ut1 : (d : JulianDate) (s : Float) → forget (utcToUt1ByRule rows d s) ≡ utcToUt1 rows d s
-  pub same-text : (form : TextForm) (d : JulianDate) → forget (textByRule form rows d) ≡ isoTextBy form rows d
-  pub drifting-last : (n i : ℕ) → ruleOf rows n ≡ Drifting i → LastBegun (starts rows) n i
-  pub whole-last : (n i : ℕ) → ruleOf rows n ≡ Whole i → LastBegun (starts rows) n i
+  pub as-before : WithoutRule rows
+  pub last-begun : (n i : ℕ) → (ruleOf rows n ≡ Drifting i) ⊎ (ruleOf rows n ≡ Whole i) → LastBegun (starts rows) n i
 
 pub record Request6 (rows : List Row) : Type 0 where
   -- "Add a text call like 01's that writes such years as a sign and seven digits, so -1 is `-0000001` and 12000 is `+0012000`."
@@ -225,8 +207,8 @@ pub record Request7 : Type 0 where
   pub nearest-given : (bits reference w : ℕ) → bits < 1024 → reference ≤ 99000 → NearestWeek bits reference w → fullWeek bits reference ≡ answer w
   -- "Week and millisecond turned into a date and back are the same pair."
   pub there-and-back : (week ms : ℕ) (d : JulianDate) → weekDate week ms ≡ answer d → weekOf d ≡ answer (weekTime week ms)
-  -- "A ten-bit week needs a reference week of at most 99,000."; "Turned away: 9 and then 6 for a date as in 01; 18 for a field over its limit or a rounded date before the first week or past the last; then 19 where two
-  -- weeks not below 0 are equally near."
+  -- "A ten-bit week needs a reference week of at most 99,000."; "Turned away: 9 and then 6 for a date as in 01; 18 for a field over its limit or a rounded date
+  -- before the first week or past the last; then 19 where two weeks not below 0 are equally near."
   pub to-week : (d : JulianDate) → ToWeek d (weekOf d)
   pub over : (bits reference : ℕ) → (1024 ≤ bits) ⊎ (99000 < reference) → fullWeek bits reference ≡ refusal 18
   pub tied : (bits reference : ℕ) → bits < 1024 → reference ≤ 99000 → Tie bits reference → fullWeek bits reference ≡ refusal 19
@@ -291,7 +273,8 @@ pub record Request11 (rows : List Row) : Type 0 where
   -- "A date or time fault has `utc_from_calendar`'s number, a millisecond over 999 is 4, the start looked at before the end; years before 1972 are number 1."
   pub faults : (u : UtcTime) → ltZ (u .year) (pos 1972) ≡ false → u .millis ≤ 999 → u .second < 256 → faultOf (instant rows u) ≡ faultOf (asCalendar rows u)
   pub time : (u : UtcTime) → TimeDecision rows u
-  -- "The rate is up to 1,000,000 cents, at most 1,000,000 quarters."; "metres of line, up to 1,000,000 each"; "Turned away after those: 26 for an end before the start; 27 for a number over its limit; 28 for both lengths 0."
+  -- "The rate is up to 1,000,000 cents, at most 1,000,000 quarters."; "metres of line, up to 1,000,000 each"; "Turned away after those: 26 for an end before
+  -- the start; 27 for a number over its limit; 28 for both lengths 0."
   pub bill : (start end : UtcTime) (rate a b : ℕ) → BillMeaning rows start end rate a b (B.standbyBill rows start end rate a b)
 
 pub record Request12 (rows : List Row) : Type 0 where
@@ -323,8 +306,8 @@ pub record Request13 (rows : List Row) : Type 0 where
   pub hex-shown : hex16 0x0123_4567_89ab_cdef ≡ asciiBytes "0123456789abcdef"
 
 pub record Request14 (rows : List Row) : Type 0 where
-  -- "For a TAI date whose jd1 is a multiple of 0.5 from 2441319.5 to 5000000.5 and whose jd2 is at most 1 in size, show that UTC and back lies within 1 ns of it,
-  -- leap days included, for the fixed table."; by every table within 173 ps
+  -- "For a TAI date whose jd1 is a multiple of 0.5 from 2441319.5 to 5000000.5 and whose jd2 is at most 1 in size, show that UTC and back lies within 1 ns of
+  -- it, leap days included, for the fixed table."; by every table within 173 ps
   pub one-nanosecond : {d : JulianDate} → HalfDaySplit d → ThereAndBack fixed 1000 d
   pub there-and-back : {d : JulianDate} → HalfDaySplit d → ThereAndBack rows 173 d
   -- "for any two parts under 2^52 in size that the calendar accepts, on the grid or off it, day number plus fraction is within 2^-51 day of the exact sum plus

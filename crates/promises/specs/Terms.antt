@@ -1,14 +1,14 @@
 -- Words that the promises use: premises and groups of statements under a name. `rows` are those of a table that is taken. Assumes nothing.
 use Prim.Native.Nat.{_<_, ℕ, _≤_}
 use mathlib.Core.Bool.{false, true}
-use mathlib.Core.List.{List, [], _∷_, _++_}
+use mathlib.Core.List.{List, [], _∷_, _++_, map}
 use mathlib.Core.Logic.{_⊎_}
 use mathlib.Core.Path.{_≡_}
 use lib.Dec.{T}
 use lib.Ieee.{Float, binary64, fits, le, ofBits}
 use lib.Ieee.Scale.{finite}
 use lib.IntN.{pos, ℤ}
-use lib.ListN.{getD, length}
+use lib.ListN.{drop, getD, length}
 use Rattle.refusals.specs.Outcome.{Outcome, answer, onward, refusal}
 use Rattle.numerals.specs.little_endian.LittleEndian.{u32At}
 use Rattle.floats.specs.Whole.{abs, nought, one}
@@ -26,16 +26,27 @@ use Rattle.leap_table.specs.declared.offsets.Rule.the-variants.{Absent, Driftin
 use Rattle.leap_table.specs.declared.rows.AnnouncedRows.{AnnouncedRows}
 use Rattle.leap_table.specs.declared.walk.WalkAnswer.the-variants.{Compared}
 use Rattle.leap_table.specs.offsets.Offset.{byRow, offsetAt, taiUtcOffset}
-use Rattle.leap_table.specs.offsets.Rule.{ruleOf}
+use Rattle.leap_table.specs.declared.offsets.Rule.{Rule}
+use Rattle.leap_table.specs.offsets.Rule.{forget, offsetByRule, ruleOf}
 use Rattle.leap_table.specs.rows.Announced.{announcedSize, rowsOf, tableOf}
-use Rattle.leap_table.specs.rows.Table.{Row, none}
+use Rattle.leap_table.specs.rows.Table.{Row, none, starts}
 use Rattle.leap_table.specs.walk.Call.{WalkCall, asFloats}
 use Rattle.leap_table.specs.walk.Due.{tripleNumbers}
+use Rattle.leap_table.specs.walk.Rows.{compared}
+use Rattle.leap_table.specs.walk.Walk.{monthIn, tripleOffset}
 use Rattle.leap_table.specs.walk.Lists.{walkOfNumbers}
+use Rattle.utc_scales.specs.ByRule.{utcToTaiByRule}
+use Rattle.utc_scales.specs.UtcTai.{utcToTai}
+use Rattle.utc_scales.specs.days.DateRule.{ruleOfDate}
+use Rattle.utc_scales.specs.days.LargerPart.{keptParts}
+use Rattle.utc_scales.specs.to_ut1.ByRule.{utcToUt1ByRule}
+use Rattle.utc_scales.specs.to_ut1.UtcUt1.{utcToUt1}
 use Rattle.utc.specs.UnixTime.{utcNew}
+use Rattle.utc.specs.iso_texts.TextForm.{TextForm}
+use Rattle.utc.specs.iso_texts.ByRule.{textByRule}
 use Rattle.utc.specs.iso_texts.Expanded.{isoTextExpanded}
 use Rattle.utc.specs.iso_texts.HalfEven.{isoTextHalfEven}
-use Rattle.utc.specs.iso_texts.IsoText.{isoText}
+use Rattle.utc.specs.iso_texts.IsoText.{isoText, isoTextBy}
 use Rattle.reasons.specs.Offending.{offending, timeField}
 use Rattle.reasons.specs.Sentence.{reasonOf}
 use Rattle.reasons.specs.sentences.Render.{render}
@@ -63,6 +74,13 @@ SmallDut1 x = T (fits binary64 x) × T (le (abs x) one)
 abbrev pub Walks : AnnouncedRows → List Triple → List Float → ℕ → List Float → Type 0
 Walks t ds before c after = WalkCall asFloats (onward (tableOf t) (λ l. walkOfNumbers l (tripleNumbers ds) (length before))) before (Compared c) after
 
+-- at place i the offset that the look-up gives for date i at 0h, what lies behind as it was, and the rows compared by the definition
+pub record WalkRight (t : AnnouncedRows) (rows : List Row) (ds : List Triple) (d : Triple) (before after : List Float) (c : ℕ) : Type 0 where
+  pub offset : (i : ℕ) → i < length ds
+      → taiUtcOffset (rowsOf t) (getD ds i d .year) (getD ds i d .month) (getD ds i d .day) nought ≡ answer (getD after i (tripleOffset (rowsOf t) d))
+  pub spare : drop (length ds) after ≡ drop (length ds) before
+  pub counted : c ≡ compared (starts rows) (map monthIn ds)
+
 -- 3 / 2048
 abbrev pub three-2048ths : Float
 three-2048ths = ofBits binary64 0x3f58_0000_0000_0000
@@ -71,7 +89,8 @@ three-2048ths = ofBits binary64 0x3f58_0000_0000_0000
 pub record SameRows (t u : AnnouncedRows) : Type 0 where
   pub months-size : t .«months_size» ≡ u .«months_size»
   pub seconds-size : t .«seconds_size» ≡ u .«seconds_size»
-  pub rows : (i : ℕ) → i < announcedSize t → (getD (t .months) i (pos 0) ≡ getD (u .months) i (pos 0)) × (getD (t .seconds) i (pos 0) ≡ getD (u .seconds) i (pos 0))
+  pub rows : (i : ℕ) → i < announcedSize t
+      → (getD (t .months) i (pos 0) ≡ getD (u .months) i (pos 0)) × (getD (t .seconds) i (pos 0) ≡ getD (u .seconds) i (pos 0))
 
 -- which row a rule names in month n (January 1960 is month 23520), and that the offset is that row's
 pub record RuleNames (t : AnnouncedRows) (rows : List Row) (n : ℕ) : Type 0 where
@@ -82,6 +101,20 @@ pub record RuleNames (t : AnnouncedRows) (rows : List Row) (n : ℕ) : Type 0 wh
   pub none-given : ruleOf rows n ≡ Absent → (mjd f : Float) → offsetAt rows n mjd f ≡ nought
   pub drifting-given : (i : ℕ) → ruleOf rows n ≡ Drifting i → (mjd f : Float) → offsetAt rows n mjd f ≡ byRow (getD rows i none) mjd f
   pub whole-given : (i : ℕ) → ruleOf rows n ≡ Whole i → (mjd f : Float) → offsetAt rows n mjd f ≡ byRow (getD rows i none) mjd f
+
+-- the rule passed on is that of the calendar's date: of the larger and the smaller part, of jd1 and jd2, and of the date before a text's carry
+pub record PassedOn (rows : List Row) : Type 0 where
+  pub by-tai : (d x : JulianDate) (r : Rule) → utcToTaiByRule rows d ≡ answer (x, r) → ruleOfDate rows (keptParts d .larger) (keptParts d .smaller) ≡ answer r
+  pub by-ut1 : (d x : JulianDate) (s : Float) (r : Rule) → utcToUt1ByRule rows d s ≡ answer (x, r) → ruleOfDate rows (d .jd1) (d .jd2) ≡ answer r
+  pub by-texts : (form : TextForm) (d : JulianDate) (s : List ℕ) (r : Rule) → textByRule form rows d ≡ answer (s, r)
+      → ruleOfDate rows (d .jd1) (d .jd2) ≡ answer r
+
+-- without its rule each call is the one of before
+pub record WithoutRule (rows : List Row) : Type 0 where
+  pub offset : (y m d : ℤ) (f : Float) → forget (offsetByRule rows y m d f) ≡ taiUtcOffset rows y m d f
+  pub tai : (d : JulianDate) → forget (utcToTaiByRule rows d) ≡ utcToTai rows d
+  pub ut1 : (d : JulianDate) (s : Float) → forget (utcToUt1ByRule rows d s) ≡ utcToUt1 rows d s
+  pub text : (form : TextForm) (d : JulianDate) → forget (textByRule form rows d) ≡ isoTextBy form rows d
 
 -- number k names the field f of the values v
 abbrev pub Names : ℕ → Values → Named → Type 0
