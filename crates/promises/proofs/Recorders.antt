@@ -15,7 +15,12 @@ use Rattle.line_up.proofs.laws.Theorems as Lines
 use Rattle.ticks.specs.declared.places.PlacesAnswer.{PlacesAnswer}
 use Rattle.ticks.specs.places.Places.{placesOutcome, placesCall, placedRun}
 use Rattle.ticks.proofs.laws.Readings.{readings-mean, readings-near}
-use Rattle.promises.specs.Recorders.{Recorders, ConvertedRun, Line, Places}
+use Rattle.since_launch.proofs.laws.OnGrid.{on-grid-nearest}
+use Rattle.since_launch.proofs.laws.Anywhere.{anywhere-near}
+use Rattle.since_launch.proofs.laws.Weeks.{own-millisecond}
+use Rattle.since_launch.proofs.laws.WeeksTai.{own-millisecond-tai}
+use Rattle.since_launch.proofs.laws.Refusing.{not-finite-is-9}
+use Rattle.promises.specs.Recorders.{Recorders, ConvertedRun, Line, Places, SinceLaunch}
 
 pub recorders : (t : AnnouncedRows) (rows : List Row) → tableOf t ≡ answer rows → Recorders rows
 recorders t rows e = record {
@@ -40,4 +45,13 @@ pub places : (ps ls ms ns before ns' after : List ℕ) (r : PlacesAnswer) → pl
 places ps ls ms ns before ns' after r e = record {
   call = readings-mean ps ls ms ns before ns' after r e;
   over-both = readings-near ps ls ms ns before ns' after r e;
+}
+
+pub since-launch : SinceLaunch
+since-launch = record {
+  nearest = on-grid-nearest;
+  near = anywhere-near;
+  own = own-millisecond;
+  own-tai = own-millisecond-tai;
+  not-finite = not-finite-is-9;
 }

@@ -1,14 +1,26 @@
 -- What three recorders, their runs, their line and the places of their readings promise beyond the requests. `rows` are those of a table that is taken. From
 -- the mission's first sentences: "Each tool will carry three recorders, one on GPS time, one on TAI, one on UTC. I am the data analyst who lines them up".
 -- Assumes nothing.
-use Prim.Native.Nat.{ℕ, _/_, _≤_, _<_}
+use Prim.Native.Nat.{ℕ, _+_, _/_, _≤_, _<_}
 use mathlib.Core.Path.{_≡_}
 use mathlib.Core.List.{List}
 use lib.ListN.{length, getD}
 use Rattle.refusals.specs.Outcome.{answer, refusal}
+use lib.Ieee.{binary64, ofBits}
+use Rattle.rounding.specs.Value.{L, plusZ, minusZ}
 use Rattle.julian.specs.declared.JulianDate.{JulianDate}
+use Rattle.julian.specs.JulianDate.{julian}
+use Rattle.julian.specs.Worth.{Worth, SmallParts}
 use Rattle.leap_table.specs.rows.Table.{Row}
 use Rattle.scales.specs.laws.Ranges.{Practical}
+use Rattle.scales.specs.Conversions.{gps-tai, answerOf}
+use Rattle.scales.specs.gps_weeks.WeekDate.{weekDate}
+use Rattle.since_launch.specs.Millis.{millisFromTo}
+use Rattle.since_launch.specs.laws.GridDates.{GridDate, sumOf}
+use Rattle.since_launch.specs.laws.NearestMillis.{MillisDecided}
+use Rattle.since_launch.specs.laws.NearSums.{NearMillis}
+use Rattle.since_launch.specs.laws.OwnMillis.{Own, weekMillis}
+use Rattle.since_launch.specs.laws.Refusals.{OneNotFinite}
 use Rattle.utc_scales.specs.round_trip.Ranges.{HalfDaySplit}
 use Rattle.utc_scales.specs.round_trip.Recorders.{OneInstant, Agree}
 use Rattle.stamps.specs.Listing.{textAt, refusedIn}
@@ -53,3 +65,20 @@ pub record Places (ps ls ms ns before : List ℕ) (r : PlacesAnswer) (ns' after 
   -- over both steps, by passes nowhere steeper than rise / run mm a ms: a reading whose millisecond is within b ms of its exact time is placed at most b * rise
   -- / run above the exact line at that time, and less than 1 mm more below
   pub over-both : (n : ℕ) → r ≡ Written n → (rise run : ℕ) → SlopeAtMost (passesOf ps ls) rise run → ReadingsNear ps ls ms ns' after rise run
+
+-- whole milliseconds from the launch to a stamp of the same uniform scale
+pub record SinceLaunch : Type 0 where
+  -- on the grid the nearest, halves up, and 18 exactly where it is not 0 to 2^40 - 1
+  pub nearest : (from to : JulianDate) (a : GridDate from) (b : GridDate to)
+      → MillisDecided (plusZ (sumOf b) + minusZ (sumOf a)) (minusZ (sumOf b) + plusZ (sumOf a)) (millisFromTo from to)
+  -- and of any dates with parts under 2^52 within half a millisecond and 96 ps of the exact ones
+  pub near : (from to : JulianDate) (P N P' N' : ℕ) → SmallParts from → SmallParts to → Worth from P N L → Worth to P' N' L → (r : ℕ)
+      → millisFromTo from to ≡ answer r → NearMillis P N P' N' r
+  -- two dates made of GPS weeks and milliseconds give the difference of their milliseconds, and so do their TAI
+  pub own : (week ms week' ms' : ℕ) (d d' : JulianDate) → weekDate week ms ≡ answer d → weekDate week' ms' ≡ answer d'
+      → Own (weekMillis week ms) (weekMillis week' ms') (millisFromTo d d')
+  pub own-tai : (week ms week' ms' : ℕ) (d d' t t' : JulianDate) → weekDate week ms ≡ answer d → weekDate week' ms' ≡ answer d'
+      → answerOf gps-tai d ≡ answer t → answerOf gps-tai d' ≡ answer t' → Own (weekMillis week ms) (weekMillis week' ms') (millisFromTo t t')
+  -- a part that is not finite, by its bits, is 9, whatever the rest
+  pub not-finite : (a b c d : ℕ) → OneNotFinite a b c d
+      → millisFromTo (julian (ofBits binary64 a) (ofBits binary64 b)) (julian (ofBits binary64 c) (ofBits binary64 d)) ≡ refusal 9

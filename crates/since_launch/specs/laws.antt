@@ -6,3 +6,4 @@ pub mod Refusals
 pub mod RunDone
 -- OwnMillis: milliseconds that stamps were made of.
 pub mod OwnMillis
+pub mod GridDates

@@ -23,21 +23,10 @@ use Rattle.time_of_day.specs.HalfEven.{gridUnits}
 use Rattle.time_of_day.proofs.EvenExact.{units-are}
 use Rattle.since_launch.specs.declared.Place.{Place}
 use Rattle.since_launch.specs.Millis.{placeOf, placeIn, unitsOf, countOf, millisFromTo}
+use Rattle.since_launch.specs.laws.GridDates.{GridDate, sumOf}
 use Rattle.since_launch.specs.laws.NearestMillis.{NearestMillis, MillisDecided}
 use Rattle.since_launch.proofs.Places.{days-are}
 use Rattle.since_launch.proofs.laws.MillisDecided.{count-decided, decided-move, answered-nearest}
-
--- a date on the grid, in document 01's range
-pub record GridDate (d : JulianDate) : Type 0 where
-  pub held1 : T (fits binary64 (d .jd1))
-  pub held2 : T (fits binary64 (d .jd2))
-  pub first : OnGrid (d .jd1)
-  pub second : OnGrid (d .jd2)
-  pub range : GridSumInRange (gridSum first second)
-
--- its exact sum, in units
-abbrev pub sumOf : {d : JulianDate} → GridDate d → ℤ
-sumOf g = gridSum (g .first) (g .second)
 
 -- its place is its exact sum and 68570.5 days
 module _ (d : JulianDate) (g : GridDate d) where
