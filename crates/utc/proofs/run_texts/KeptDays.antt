@@ -42,7 +42,7 @@ use Rattle.time_of_day.specs.declared.TimeOfDay.{TimeOfDay}
 use Rattle.time_of_day.specs.TimeShown.{timeOf, shownBy}
 use Rattle.time_of_day.proofs.ByCount.{at-time}
 use Rattle.utc.specs.declared.iso_texts.NamedForm.{NamedForm}
-use Rattle.utc.specs.declared.iso_texts.NamedForm.the-variants.{Document01, HalfEven, Expanded}
+use Rattle.utc.specs.declared.iso_texts.NamedForm.the-variants.{Standard, HalfEven, Expanded}
 use Rattle.utc.specs.declared.run_texts.kept_day.KeptDay.{KeptDay}
 use Rattle.utc.specs.text.Text.{last, four, five, six, seven, afterYear, yearText, utcText}
 use Rattle.utc.specs.text.Expanded.{expandedYear, expandedText}
@@ -77,7 +77,7 @@ module _ (y : ℕ) (basic : y < 10000) (d : CalendarDate) (e : d .year ≡ pos y
 
   written : (textForm : NamedForm) → formNamed textForm .write d t ≡ dateCharacters y (d .month) (d .day) ++ timeCharacters t
   unfolding formNamed
-  written Document01 = plain-year
+  written Standard = plain-year
   written HalfEven = plain-year
   written Expanded = expanded-year
 

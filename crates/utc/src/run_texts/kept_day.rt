@@ -178,7 +178,7 @@ fn count_of(textForm: NamedForm, fraction: f64, leap: f64) -> u64
     ensures { λ r. ⌜ r ≡ formNamed textForm .count fraction leap ⌝ }
 {
     match textForm {
-        NamedForm::Document01 => crate::shown::millis_shown(fraction, leap),
+        NamedForm::Standard => crate::shown::millis_shown(fraction, leap),
         NamedForm::HalfEven => crate::shown::even_count(fraction, leap),
         NamedForm::Expanded => crate::shown::millis_shown(fraction, leap),
     }
