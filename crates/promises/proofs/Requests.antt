@@ -40,7 +40,7 @@ use Rattle.scales.specs.gps_week_laws.NearDate.{OfCount}
 use Rattle.scales.specs.laws.Ranges.{Held}
 use Rattle.scales.proofs.gps_weeks.FullWeeks.{nearest-if, nearest-only-if, tie-exactly, over-exactly}
 use Rattle.scales.proofs.gps_weeks.Parts.{part-is}
-use Rattle.scales.proofs.gps_week_laws.Cases.{first-day-is-1980-01-06}
+use Rattle.scales.proofs.gps_week_laws.Cases.{first-day-is-1980-01-06, up-from-a-half}
 use Rattle.scales.proofs.gps_week_laws.CalendarDates.{on-calendar}
 use Rattle.scales.proofs.gps_week_laws.NearDates.{of-day}
 use Rattle.scales.proofs.gps_week_laws.Refusals.{from-week-decided, to-week-decided}
@@ -114,6 +114,7 @@ request-7 = record {
   on-its-day = on-calendar;
   rounded-once = part-is;
   way-back = counted-back;
+  halves-up = up-from-a-half;
   nearest = nearest-if;
   nearest-given = nearest-only-if;
   there-and-back = Weeks.round-trip;

@@ -5,7 +5,7 @@ use mathlib.Core.List.{List, [], _∷_, _++_}
 use mathlib.Core.Logic.{_⊎_}
 use mathlib.Core.Path.{_≡_}
 use lib.Dec.{T}
-use lib.Ieee.{Float, binary64, div, fits, le, lt, nan, ofInt}
+use lib.Ieee.{Float, binary64, div, fits, le, lt, nan, ofBits, ofInt}
 use lib.IntN.{natAbs, negsuc, pos, ℤ}
 use lib.ListN.{length}
 use lib.Signed.{ltZ}
@@ -57,7 +57,7 @@ use Rattle.scales.specs.gps_week_laws.Decisions.{FromWeek, ToWeek}
 use Rattle.scales.specs.gps_week_laws.NearDate.{OfCount}
 use Rattle.scales.specs.gps_week_laws.OnCalendar.{OnCalendar}
 use Rattle.scales.specs.gps_weeks.FullWeek.{NearestWeek, Tie, fullWeek}
-use Rattle.scales.specs.gps_weeks.WeekDate.{partOfDay, weekDate}
+use Rattle.scales.specs.gps_weeks.WeekDate.{dayIn, partOfDay, weekDate}
 use Rattle.scales.specs.gps_weeks.WeekOf.{dayMillis, weekOf, weekTime}
 use Rattle.scales.specs.laws.Ranges.{Held}
 use Rattle.utc_scales.specs.laws.Twenty.{Twenty, announcedAnswer, answerOfAny, readsTable}
@@ -194,14 +194,15 @@ pub record Request6 (rows : List Row) : Type 0 where
 pub record Request7 : Type 0 where
   -- "counted from 1980-01-06 0h GPS"; "whole weeks up to 100,000, milliseconds below 604,800,000. The date's jd1 is its day's midnight, jd2 the day's
   -- milliseconds / 86,400,000, rounded once."
-  pub first-day : dateOf (pos 2444245) ≡ date (pos 1980) 1 6
+  pub first-day : dateOf (pos (dayIn 0 0)) ≡ date (pos 1980) 1 6
   pub to-date : (week ms : ℕ) → FromWeek week ms (weekDate week ms)
   pub on-its-day : (week ms : ℕ) (d : JulianDate) → weekDate week ms ≡ answer d → OnCalendar week ms d
   pub rounded-once : (ms : ℕ) → ms ≤ 2 ^ 53 → div binary64 (ofInt binary64 (pos ms)) (decimal 86400000 0) ≡ partOfDay ms
   -- "The way back takes document 01's day and fraction, multiplies the fraction by 86,400,000 as floats and rounds that product halves up, carrying into the
-  -- next day."
+  -- next day."; half a millisecond after the first midnight
   pub way-back : (d : JulianDate) (t : WeekTime) → weekOf d ≡ answer t → (n : DayNumber) × (k : ℕ) × (dayNumberAndFraction (d .jd1) (d .jd2) ≡ answer n)
       × (n .day ≡ pos k) × OfCount (k * 86400000 + dayMillis (n .fraction)) t
+  pub halves-up : weekOf (julian (ofBits binary64 0x4142_a5ea_4000_0000) (ofBits binary64 0x3e38_daea_1d7f_4cf7)) ≡ answer (weekTime 0 1)
   -- "The result is the week with those ten bits that lies nearest the reference and is not below 0."
   pub nearest : (bits reference w : ℕ) → fullWeek bits reference ≡ answer w → NearestWeek bits reference w × (w ≤ 99511)
   pub nearest-given : (bits reference w : ℕ) → bits < 1024 → reference ≤ 99000 → NearestWeek bits reference w → fullWeek bits reference ≡ answer w
