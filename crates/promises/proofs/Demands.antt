@@ -5,7 +5,7 @@ use mathlib.Core.List.{List}
 use Prim.Native.Nat.{ℕ}
 use lib.Ieee.{Float}
 use lib.Ieee.Scale.{finite}
-use Rattle.refusals.specs.Outcome.{Outcome, answer, refusal}
+use Rattle.refusals.specs.Outcome.{Outcome, answer, refusal, onward}
 use Rattle.refusals.proofs.Onward.{stopped}
 use Rattle.julian.specs.declared.JulianDate.{JulianDate}
 use Rattle.julian.specs.Finite.{finiteParts}
@@ -41,6 +41,13 @@ use Rattle.utc_scales.proofs.round_trip.UtcMeant.{table-tai-to-utc-means}
 use Rattle.utc_scales.proofs.round_trip.Steps.{steps-are, rates-are}
 use Rattle.utc_scales.proofs.ut1_laws.Ut1.{table-utc-to-ut1-means}
 use Rattle.utc_scales.proofs.ut1_laws.Back.{table-ut1-to-utc-means}
+use Rattle.leap_table.specs.declared.offsets.Rule.{Rule}
+use Rattle.leap_table.specs.offsets.Rule.{forget}
+use Rattle.utc.specs.declared.text.TextAnswer.the-variants.{Refused}
+use Rattle.utc.specs.declared.iso_texts.TextByRule.the-variants as Ruled
+use Rattle.utc.specs.text.Answer.{textOutcome}
+use Rattle.utc.specs.iso_texts.ByRule.{TextRuleCall, textByRuleOutcome}
+use Rattle.utc.proofs.iso_texts.TextRules.{rule-call-forgets}
 use Rattle.utc.proofs.laws.Numbers as Text
 use Rattle.utc.proofs.laws.HalfEvenTexts.{even-not-finite}
 use Rattle.utc.proofs.laws.ExpandedTexts.{expanded-not-finite}
@@ -114,6 +121,10 @@ pub calendar-not-finite : (x y : Float) → finite x && finite y ≡ false → j
 unfolding julianToCalendar
 calendar-not-finite x y h = stopped _ (DayNumber.not-finite x y h)
 
+pub refused-stays : (o : Outcome (List ℕ × Rule)) (before after : List ℕ) (n : ℕ) → TextRuleCall o before (Ruled.Refused n) after → after ≡ before
+unfolding textOutcome textByRuleOutcome forget onward
+refused-stays o before after n c = nothing-written (forget o) before after n (rule-call-forgets o before after (Ruled.Refused n) (Refused n) refl c)
+
 -- ---- the demands
 module _ (t : AnnouncedRows) (rows : List Row) (e : tableOf t ≡ answer rows) where
   pub any-refuses : (k : Twenty) (d : JulianDate) → Held d → finiteParts d && finite (givenOffset k) ≡ false → Refuses (announcedAnswer t k d)
@@ -131,7 +142,7 @@ module _ (t : AnnouncedRows) (rows : List Row) (e : tableOf t ≡ answer rows) w
     leap-answers = leap-decided t;
     fields-answer = from-calendar-decided t;
     unix-answers = new-decided t;
-    text-stays = λ o before after n c. nothing-written o before after n c;
+    text-stays = refused-stays;
     finite-answers = announced-no-nan-no-infinity t;
   }
 

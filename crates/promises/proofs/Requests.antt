@@ -50,7 +50,7 @@ use Rattle.utc_scales.proofs.round_trip.RoundTrip as Back
 use Rattle.utc.specs.iso_texts.IsoText.{standardForm}
 use Rattle.utc.specs.iso_texts.Expanded.{isoTextExpanded}
 use Rattle.utc.proofs.text.ExpandedLaws.{expanded-same, expanded-rest, expanded-1-before, expanded-12000}
-use Rattle.utc.proofs.laws.ShortDays.{short-day-refused}
+use Rattle.utc.proofs.laws.ShortDays.{short-day-refused, short-day-taken}
 use Rattle.utc.proofs.laws.HalfEvenTexts.{even-for-every-buffer}
 use Rattle.utc.proofs.laws.ExpandedTexts.{expanded-for-every-buffer, beside, expanded-text-length}
 use Rattle.parsing_laws.specs.Shown.{YearShown, ReadsBack}
@@ -219,7 +219,8 @@ module _ (t : AnnouncedRows) (rows : List Row) (e : tableOf t ≡ answer rows) w
     same-answers = Announced.announced-none t;
     at-most = most-by-any t rows e;
     short-text = short-day-ends;
-    short-minute = short-day-refused rows;
+    short-minute = λ y m d h. short-day-refused rows y m d (h .0) (h .1);
+    up-to-59 = λ y m d h second b. (_, short-day-taken rows y m d (h .0) (h .1) second b);
     every-leap = table-leap-on t rows e;
     all-of-demand-3 = demand-3 t rows e;
     law-of-item-1 = request-1;

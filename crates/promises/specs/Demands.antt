@@ -25,6 +25,7 @@ use Rattle.julian.specs.Finite.{finiteParts}
 use Rattle.julian.specs.Worth.{SmallParts}
 use Rattle.julian.specs.day_number.ExactDay.{GridSumInRange, OnGrid, exactDay, exactFraction, fractionOf, gridSum}
 use Rattle.julian.specs.declared.JulianDate.{JulianDate}
+use Rattle.leap_table.specs.declared.offsets.Rule.{Rule}
 use Rattle.leap_table.specs.declared.rows.AnnouncedRows.{AnnouncedRows}
 use Rattle.leap_table.specs.offsets.Leap.{leapAtEndOfDay}
 use Rattle.leap_table.specs.offsets.Offset.{rowAt, taiUtcOffset}
@@ -47,10 +48,9 @@ use Rattle.utc_scales.specs.ut1_laws.Ut1.{RightUt1}
 use Rattle.utc.specs.FromCalendar.{utcFromCalendar}
 use Rattle.utc.specs.UnixTime.{utcNew}
 use Rattle.utc.specs.declared.iso_texts.TextByRule.{TextByRule}
-use Rattle.utc.specs.declared.text.TextAnswer.the-variants.{Refused}
+use Rattle.utc.specs.declared.iso_texts.TextByRule.the-variants as Ruled
 use Rattle.utc.specs.iso_texts.ByRule.{TextRuleCall, textByRule, textByRuleOutcome}
 use Rattle.utc.specs.iso_texts.IsoText.{standardForm}
-use Rattle.utc.specs.iso_texts.TextCall.{TextCall}
 use Rattle.utc.specs.iso_texts.TextForm.{TextForm}
 use Rattle.utc.specs.laws.Ladder.{Decided}
 use Rattle.utc.specs.laws.Ladders.{fromCalendarLadder, leapLadder, newLadder, offsetLadder, textCallLadder}
@@ -77,7 +77,7 @@ pub record Demand1 (t : AnnouncedRows) (rows : List Row) : Type 0 where
       → Decided (onward (tableOf t) (λ l. utcFromCalendar l y m d hour minute second)) (fromCalendarLadder t y m d hour minute second)
   pub unix-answers : (z : ℤ) (nanos : ℕ) → SFits w64 z → Decided (onward (tableOf t) (λ l. utcNew l z nanos)) (newLadder t z nanos)
   -- "and a refused text call changes no byte of its buffer."
-  pub text-stays : (o : Outcome (List ℕ)) (before after : List ℕ) (n : ℕ) → TextCall o before (Refused n) after → after ≡ before
+  pub text-stays : (o : Outcome (List ℕ × Rule)) (before after : List ℕ) (n : ℕ) → TextRuleCall o before (Ruled.Refused n) after → after ≡ before
   -- "Where both parts are under 2^52 in size and offsets at most 10^9 s in size, no conversion hands out a NaN or an infinity."
   pub finite-answers : (k : Twenty) (d : JulianDate) → SmallParts d → Billion (givenOffset k)
       → Holds FiniteParts (WithTable (readsTable k) SixOrOne) (announcedAnswer t k d)
@@ -100,8 +100,7 @@ pub record Demand2 (t : AnnouncedRows) (rows : List Row) : Type 0 where
   pub table : EveryTable t rows
   pub drift : (y : ℕ) (m d : ℤ) (f x : Float) → 1960 ≤ y → y ≤ 1971 → T (fits binary64 f) → taiUtcOffset fixed (pos y) m d f ≡ answer x
       → (j : ℕ) × (mjdOf (pos y) m d ≡ answer (pos j)) × NearFormula (rowAt (reached (starts fixed) (monthOf y (natAbs m)))) j f x
-  -- "and SOFA": to picoseconds of SOFA's relations in exact fractions; those that read the table from 1972 on, UT1 to
-  -- UTC where no leap second is near
+  -- "and SOFA": to picoseconds of SOFA's relations in exact fractions; those that read the table from 1972 on, UT1 to UTC where no leap second is near
   pub formulas : (k : Conversion) (d : JulianDate) → Practical d → HalfDay (offsetOf k) → Right k d
   pub utc-to-tai : {d : JulianDate} → HalfDaySplit d → RightTai rows 77 d
   pub tai-to-utc : {d : JulianDate} → HalfDaySplit d → RightUtc rows 173 d
@@ -114,13 +113,13 @@ pub record Demand2 (t : AnnouncedRows) (rows : List Row) : Type 0 where
 
 -- 3. one answer for all divisions of a date
 pub record Demand3 (rows : List Row) : Type 0 where
-  -- "Whichever two parts a Julian date is divided into, if both are multiples of 2^-52 day under 2^52 in size and their exact sum is from -68569.5 to 10^9,
-  -- the calendar answer is that sum's exact day and exact fraction."
+  -- "Whichever two parts a Julian date is divided into, if both are multiples of 2^-52 day under 2^52 in size and their exact sum is from -68569.5 to 10^9, the
+  -- calendar answer is that sum's exact day and exact fraction."
   pub calendar : (x y : Float) → T (fits binary64 x) → T (fits binary64 y) → (a : OnGrid x) (b : OnGrid y) → GridSumInRange (gridSum a b)
       → julianToCalendar x y ≡ answer (fields (dateOf (exactDay (gridSum a b))) (fractionOf (exactFraction (gridSum a b))))
   -- "All such divisions of one date are alike in UTC text for buffers of one length: the same text, or the same refusal, which is 1 exactly when the exact
-  -- day's year is before -4799, otherwise 11 exactly when the text is longer than the buffer, and none other of document 01's numbers. The text shows the
-  -- exact day or the next day's midnight, and the time shown is within 0.501 ms of the exact one, counted on document 01's day length."
+  -- day's year is before -4799, otherwise 11 exactly when the text is longer than the buffer, and none other of document 01's numbers. The text shows the exact
+  -- day or the next day's midnight, and the time shown is within 0.501 ms of the exact one, counted on document 01's day length."
   pub text : (sum : ℤ) → GridSumInRange sum → OneText standardForm promise01 rows sum
 
 -- document 01's sixteen starred cases: what each call answers is what the paper says

@@ -108,7 +108,7 @@ use Rattle.standby_laws.specs.Verdict.{asCalendar, faultOf}
 use Rattle.c_answers.specs.table.RecordBytes.{MachineRecord, recordBytes}
 use Rattle.c_answers.specs.table.TableBytes.{tableBytes}
 use Rattle.promises.specs.Demands.{Demand3}
-use Rattle.promises.specs.Terms.{EachText, FieldNamed, NoneNamed, PassedOn, RuleNames, SameRows, SentencesPrinted, WalkRight, Walks}
+use Rattle.promises.specs.Terms.{EachText, EndsEarly, FieldNamed, NoneNamed, PassedOn, RuleNames, SameRows, SentencesPrinted, WalkRight, Walks}
 use Rattle.promises.specs.Terms.{WithoutRule, three-2048ths}
 
 pub record Request1 (rows : List Row) : Type 0 where
@@ -125,25 +125,24 @@ pub record Request1 (rows : List Row) : Type 0 where
   -- "Every UTC text that we write and whose shown year is 1972 to 9999 reads back as its fields."
   pub reads-back : (d : JulianDate) → Held d → (s : List ℕ) → YearShown s → EachText rows (λ text. text d ≡ answer s → ReadsBack rows s)
   -- "a sign, exponent, word or point at an end there is 15"; "Turned away: 15 for a text outside the grammar with any number of fraction digits from 1 up,
-  -- first"; "16 (a difference too) for more than 13, next; then
-  -- 01's date and time numbers, where hour above 23, minute above 59 or second from 61 up are 4."
+  -- first"; "16 (a difference too) for more than 13, next; then 01's date and time numbers, where hour above 23, minute above 59 or second from 61 up are 4."
   pub read : (utc : Bool) (s : List ℕ) → Verdict utc s (parsed utc s)
 
 pub record Request2 (t : AnnouncedRows) (rows : List Row) : Type 0 where
-  -- "Give the offsets at 0h for a slice of signed 32-bit numbers, year, month, day triples, while walking the table forward; spare places of a lent list
-  -- stay"; "the number of rows compared, equal to a definition's count and at most the dates plus 42. A row counts each time a date's month is held against the
-  -- start of the next row not yet reached. Each offset is that of 01's single lookup."
+  -- "Give the offsets at 0h for a slice of signed 32-bit numbers, year, month, day triples"; "spare places of a lent list stay"; "the number of rows compared,
+  -- equal to a definition's count and at most the dates plus 42. A row counts each time a date's month is held against the start of the next row not yet
+  -- reached. Each offset is that of 01's single lookup."
   pub call : (ds : List Triple) (d : Triple) (before after : List Float) (c : ℕ) → Walks t ds before c after → WalkRight t rows ds d before after c
   pub at-most : (months : List ℕ) → compared (starts fixed) months ≤ length months + 42
   pub each-time : (months : List ℕ) → T (inTime 0 months)
       → compared (starts rows) months ≡ lastReached (starts rows) 0 months + withRowLeft (starts rows) months
-  -- "Turned away: 14 for a broken triple, then 11 for fewer offset places than dates; then, date by date, a bad one by its own number, then 17 for one
-  -- earlier than the one before it."
+  -- "Turned away: 14 for a broken triple, then 11 for fewer offset places than dates; then, date by date, a bad one by its own number, then 17 for one earlier
+  -- than the one before it."
   pub decided : (l : List ℤ) (d : Triple) (places : ℕ)
       → WalkDecision rows (length l % 3) (datesFrom (tripleAt l) 0 (length l / 3)) d 1 places (walkOfNumbers rows l places)
 
 pub record Request3 : Type 0 where
-  -- "The shifted number -1, which gives -02-30, is kept as its own case."
+  -- "The shifted number -1, which gives -02-30": day -68570
   pub own-case : gregorianDate (negsuc 68569) ≡ date (negsuc 4899) 2 30
   -- "No answer changes."
   pub same : (n : ℤ) → ltZ n (negsuc 68569) ≡ false → ltZ (pos 1000000000) n ≡ false → rustDate n ≡
@@ -228,10 +227,12 @@ pub record Request8 (t : AnnouncedRows) (rows : List Row) : Type 0 where
   pub same-answers : t .«months_size» ≡ 0 → t .«seconds_size» ≡ 0 → (k : Twenty) (d : JulianDate) → announcedAnswer t k d ≡ answerOfAny fixed k d
   -- "The walk of item 2 may then compare at most the dates plus 58 rows."
   pub at-most : (months : List ℕ) → compared (starts rows) months ≤ length months + 58
-  -- "A step of -1 s makes the day's text end at 86,399,000 ms and its last minute end below 59 s."
+  -- "A step of -1 s makes the day's text end at 86,399,000 ms and its last minute end below 59 s.": the text of demand 3 shows a good time or the next midnight
   pub short-text : (u : TimeOfDay) → GoodTime u minus-one-f → 3600000 * u .hour + 60000 * u .minute + 1000 * u .second + u .milli < 86399000
-  pub short-minute : (y : ℤ) (m d : ℕ) → validDate y (pos m) (pos d) ≡ answer tt → leapAtEndOfDay rows y (pos m) (pos d) ≡ answer minus-one-f
-      → (second : Float) → le nought second && lt second (decimal 59 0) ≡ false → utcFromCalendar rows y m d 23 59 second ≡ refusal 4
+  pub short-minute : (y : ℤ) (m d : ℕ) → EndsEarly rows y m d → (second : Float) → le nought second && lt second (decimal 59 0) ≡ false
+      → utcFromCalendar rows y m d 23 59 second ≡ refusal 4
+  pub up-to-59 : (y : ℤ) (m d : ℕ) → EndsEarly rows y m d → (second : Float) → le nought second && lt second (decimal 59 0) ≡ true
+      → (x : JulianDate) × (utcFromCalendar rows y m d 23 59 second ≡ answer x)
   -- "The exact day length follows the table, and for each table that isn't turned away all of demand 3 holds, and item 1's law under one table."
   pub every-leap : (y m d : ℤ) (x : Float) → leapAtEndOfDay rows y m d ≡ answer x → LeapOn rows y m d x
   pub all-of-demand-3 : Demand3 rows
@@ -242,8 +243,8 @@ pub record Request8 (t : AnnouncedRows) (rows : List Row) : Type 0 where
   pub table-first : (k : Twenty) (d : JulianDate) (n : ℕ) → readsTable k ≡ true → tableOf t ≡ refusal n → announcedAnswer t k d ≡ refusal n
 
 pub record Request9 : Type 0 where
-  -- "the same stamp means the same scale and both parts with the same bits, so 0.0 and -0.0 differ. A NaN with the same bits is the same stamp.": a stamp
-  -- holds the patterns of its parts
+  -- "the same stamp means the same scale and both parts with the same bits, so 0.0 and -0.0 differ. A NaN with the same bits is the same stamp.": a stamp holds
+  -- the patterns of its parts
   pub same-is : (a b : Stamp) → same a b ≡ true → a ≡ b
   pub is-same : (a b : Stamp) → a ≡ b → same a b ≡ true
   -- "Equal by this test and finite implies equal by 01's wherever 01's two-sum doesn't overflow."

@@ -25,6 +25,8 @@ use Rattle.leap_table.specs.declared.judging.Triple.{Triple}
 use Rattle.leap_table.specs.declared.offsets.Rule.the-variants.{Absent, Drifting, Whole}
 use Rattle.leap_table.specs.declared.rows.AnnouncedRows.{AnnouncedRows}
 use Rattle.leap_table.specs.declared.walk.WalkAnswer.the-variants.{Compared}
+use Rattle.time_of_day.specs.ExactTime.{minus-one-f}
+use Rattle.leap_table.specs.offsets.Leap.{leapAtEndOfDay}
 use Rattle.leap_table.specs.offsets.Offset.{byRow, offsetAt, taiUtcOffset}
 use Rattle.leap_table.specs.declared.offsets.Rule.{Rule}
 use Rattle.leap_table.specs.offsets.Rule.{forget, offsetByRule, ruleOf}
@@ -80,6 +82,10 @@ pub record WalkRight (t : AnnouncedRows) (rows : List Row) (ds : List Triple) (d
       → taiUtcOffset (rowsOf t) (getD ds i d .year) (getD ds i d .month) (getD ds i d .day) nought ≡ answer (getD after i (tripleOffset (rowsOf t) d))
   pub spare : drop (length ds) after ≡ drop (length ds) before
   pub counted : c ≡ compared (starts rows) (map monthIn ds)
+
+-- the day of a date ends a second early
+abbrev pub EndsEarly : List Row → ℤ → ℕ → ℕ → Type 0
+EndsEarly rows y m d = (validDate y (pos m) (pos d) ≡ answer tt) × (leapAtEndOfDay rows y (pos m) (pos d) ≡ answer minus-one-f)
 
 -- 3 / 2048
 abbrev pub three-2048ths : Float
