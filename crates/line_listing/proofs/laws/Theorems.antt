@@ -25,7 +25,8 @@ use Rattle.line_up.proofs.Places.{after-length}
 use Rattle.line_up.proofs.Testing.{tested-length}
 use Rattle.line_up.proofs.laws.Pairwise.{each-of-timesIn}
 use Rattle.line_up.proofs.laws.Due.{due-answered, answered-due, none-refused}
-use Rattle.line_up.proofs.laws.Written.{place-back, listed-stamp}
+use Rattle.line_up.proofs.laws.Written.{place-back}
+use Rattle.julian.proofs.stamp_lists.Written.{stamps-of-lists}
 use Rattle.line_listing.specs.order.Order.{lineOrder, orderWritten, putInOrder, linesInOrder}
 use Rattle.line_listing.specs.order.Asked.{Below}
 use Rattle.line_listing.specs.laws.Places.{EveryLine, AllListed}
@@ -209,7 +210,7 @@ module _ (js ks ns : List ℕ) (first second : ℕ) (out : List ℕ) (work1 work
   order-of-lists =
       let dates : stampOf (allBytes eightBytes js) (allBytes eightBytes ks)
       ≡ (λ (i : ℕ). julian (ofBits binary64 (getD js i 0)) (ofBits binary64 (getD ks i 0))) =
-      (λ j i. listed-stamp js ks (firsts ∙ sym seconds) first-bits second-bits i j) in
+      (λ j i. stamps-of-lists js ks first-bits second-bits i j) in
       subst (λ (date : ℕ → JulianDate).
       AllListed date ns first second out (linesInOrder (allBytes eightBytes js) (allBytes eightBytes ks) ns first second out work1 work2)) dates
       (listed-order (allBytes eightBytes js) (allBytes eightBytes ks) ns first second out work1 work2 (record {
