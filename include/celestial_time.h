@@ -262,7 +262,7 @@ int64_t ct_check_table(const uint8_t *table, size_t table_len);
    A line of the text is one of four. Empty, or a comment, which a # begins. A month and TAI-UTC from its
    first day on, as `2027-01 38`: 4 digits, a hyphen, 2 digits, spaces or tabs, 1 to 9 digits. The same as the
    IERS's file leap-seconds.list has it: the NTP seconds (since 1900-01-01, 86,400 a day, 1 to 12 digits) of
-   the midnight that begins a month. Or an expiry: `#@`, spaces or tabs, NTP seconds. Spaces, tabs and
+   the midnight that begins a month, to December 9999. Or an expiry: `#@`, spaces or tabs, NTP seconds. Spaces, tabs and
    carriage returns may stand before and behind each, and a comment behind it. A newline ends a line.
    A row that is not later than the library's last must be one that the library has; the later ones are lent.
    Refuses the first line at fault, which ct_table_fault tells: 15 outside these; 22 for a row not later than

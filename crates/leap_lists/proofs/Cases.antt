@@ -65,7 +65,7 @@ others =
     asciiBytes "2272060800 10s" ∷
     asciiBytes "2272060800,10" ∷
     asciiBytes "1234567890123 10" ∷
-    asciiBytes "255611203200 10" ∷
+    asciiBytes "255611289600 10" ∷
     asciiBytes "#@" ∷
     asciiBytes "#@ " ∷
     asciiBytes "#@3928521600" ∷

@@ -1,9 +1,16 @@
 -- THREE RECORDERS, THEIR RUNS, THEIR LINE AND THEIR PLACES, for every table that is taken. Assumes nothing.
-use mathlib.Core.Path.{_≡_}
+use mathlib.Core.Path.{_≡_, refl, sym, ap, _∙_}
 use mathlib.Core.List.{List}
-use Prim.Native.Nat.{ℕ}
+use Prim.Native.Nat.{ℕ, _+_, _-_, _*_, _^_, _≤_}
+use native.Mathlib.Omega.{arith}
+use native.Mathlib.Nat.{mul-add, mul-assoc, mul-comm, mul-le-mul-left, mul-pos}
+use lib.Dec.{lit<}
 use lib.ListN.{length}
 use Rattle.refusals.specs.Outcome.{answer}
+use Rattle.rounding.specs.Value.{L}
+use Rattle.rounding.proofs.Value.{L-pos}
+use Rattle.ticks.specs.judging.Refusing.{numberAt}
+use Rattle.ticks.specs.laws.Slopes.{NearTime}
 use Rattle.leap_table.specs.declared.rows.AnnouncedRows.{AnnouncedRows}
 use Rattle.leap_table.specs.rows.Table.{Row}
 use Rattle.leap_table.specs.rows.Announced.{tableOf}
@@ -20,7 +27,7 @@ use Rattle.since_launch.proofs.laws.Anywhere.{anywhere-near}
 use Rattle.since_launch.proofs.laws.Weeks.{own-millisecond}
 use Rattle.since_launch.proofs.laws.WeeksTai.{own-millisecond-tai}
 use Rattle.since_launch.proofs.laws.Refusing.{not-finite-is-9}
-use Rattle.promises.specs.Recorders.{Recorders, ConvertedRun, Line, Places, SinceLaunch}
+use Rattle.promises.specs.Recorders.{Recorders, ConvertedRun, Line, Places, SinceLaunch, launchTime, StampPlaced}
 
 pub recorders : (t : AnnouncedRows) (rows : List Row) → tableOf t ≡ answer rows → Recorders rows
 recorders t rows e = record {
@@ -55,3 +62,18 @@ since-launch = record {
   own-tai = own-millisecond-tai;
   not-finite = not-finite-is-9;
 }
+
+-- ---- from stamp to place: within half a millisecond and 96 ps is near in time
+near-time : (D m r l A B e : ℕ) → D * (r * l + m * B) ≤ D * (m * A) + e → D * (m * A) ≤ D * (r * l + m * B) + e → B ≤ A
+    → NearTime r (D * (m * A) - D * (m * B)) (D * l) e
+near-time D m r l A B e over under h =
+    let parted : D * (r * l + m * B) ≡ D * (r * l) + D * (m * B) = mul-add D (r * l) (m * B) in
+    let turned : r * (D * l) ≡ D * (r * l) = sym (mul-assoc r D l) ∙ ap (λ (n : ℕ). n * l) (mul-comm r D) ∙ mul-assoc D r l in
+    let low : D * (m * B) ≤ D * (m * A) = mul-le-mul-left D (mul-le-mul-left m h) in
+    record { not-late = omega (arith, parted, turned, low, over, under); not-early = omega (arith, parted, turned, low, over, under) }
+
+pub stamp-placed : StampPlaced
+stamp-placed ps ls ms ns before ns' after r placed n e rise run slope i has from to P N P' N' s s' w w' given h j between =
+    let near = anywhere-near from to P N P' N' s s' w w' (numberAt ms i) given in
+    placed .over-both n e rise run slope .each i has (launchTime P N P' N') (2 ^ 43 * L) ((2 ^ 42 + 10 * 84375) * L) j (mul-pos (lit< tt) L-pos) between
+    (near-time (2 ^ 43) 86400000 (numberAt ms i) L (P' + N) (N' + P) ((2 ^ 42 + 10 * 84375) * L) (near .over) (near .under) h)

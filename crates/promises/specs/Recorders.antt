@@ -1,7 +1,7 @@
 -- What three recorders, their runs, their line and the places of their readings promise beyond the requests. `rows` are those of a table that is taken. From
 -- the mission's first sentences: "Each tool will carry three recorders, one on GPS time, one on TAI, one on UTC. I am the data analyst who lines them up".
 -- Assumes nothing.
-use Prim.Native.Nat.{ℕ, _+_, _/_, _≤_, _<_}
+use Prim.Native.Nat.{ℕ, _+_, _-_, _*_, _/_, _^_, _≤_, _<_}
 use mathlib.Core.Path.{_≡_}
 use mathlib.Core.List.{List}
 use lib.ListN.{length, getD}
@@ -31,8 +31,9 @@ use Rattle.runs.specs.laws.NotFiniteStamps.{StampNotFinite, numberOfNotFinite, 
 use Rattle.ticks.specs.declared.places.PlacesAnswer.{PlacesAnswer}
 use Rattle.ticks.specs.declared.places.PlacesAnswer.the-variants.{Written}
 use Rattle.ticks.specs.Ticks.{passesOf}
-use Rattle.ticks.specs.laws.Readings.{ReadingsMeaning}
-use Rattle.ticks.specs.laws.Slopes.{SlopeAtMost, ReadingsNear}
+use Rattle.ticks.specs.laws.Readings.{ReadingsMeaning, IsPlaced}
+use Rattle.ticks.specs.laws.Slopes.{SlopeAtMost, TimeBetween, NearExact, ReadingsNear}
+use Rattle.ticks.specs.judging.Refusing.{numberAt}
 use Rattle.line_up.specs.LineUp.{linedUp, lineRefusal, leastRoom}
 use Rattle.line_up.specs.laws.Claims.{Lined}
 
@@ -82,3 +83,15 @@ pub record SinceLaunch : Type 0 where
   -- a part that is not finite, by its bits, is 9, whatever the rest
   pub not-finite : (a b c d : ℕ) → OneNotFinite a b c d
       → millisFromTo (julian (ofBits binary64 a) (ofBits binary64 b)) (julian (ofBits binary64 c) (ofBits binary64 d)) ≡ refusal 9
+
+-- From stamp to place: a reading whose stamp is worth (P' - N') / L days, from a launch of (P - N) / L, at exact time a / d ms between pass j and the next, is
+-- placed at most (1/2 ms and 96 ps) * rise / run above the exact line at that time, and less than 1 mm more below.
+abbrev pub launchTime : ℕ → ℕ → ℕ → ℕ → ℕ
+launchTime P N P' N' = 2 ^ 43 * (86400000 * (P' + N)) - 2 ^ 43 * (86400000 * (N' + P))
+
+abbrev pub StampPlaced : Type 0
+StampPlaced = (ps ls ms ns before ns' after : List ℕ) (r : PlacesAnswer) → Places ps ls ms ns before r ns' after → (n : ℕ) → r ≡ Written n
+    → (rise run : ℕ) → SlopeAtMost (passesOf ps ls) rise run → (i : ℕ) → IsPlaced ms ns' i → (from to : JulianDate) (P N P' N' : ℕ)
+    → SmallParts from → SmallParts to → Worth from P N L → Worth to P' N' L → millisFromTo from to ≡ answer (numberAt ms i) → N' + P ≤ P' + N
+    → (j : ℕ) → TimeBetween (passesOf ps ls) (launchTime P N P' N') (2 ^ 43 * L) j
+    → NearExact (passesOf ps ls) rise run (launchTime P N P' N') (2 ^ 43 * L) ((2 ^ 42 + 10 * 84375) * L) j (numberAt after i)
