@@ -233,7 +233,7 @@ class Command(unittest.TestCase):
             ([], 2, "no run is named"), (RUNS, 2, "no passes are named"), ([*RUNS, PASSES, PASSES], 2, "there twice"), ([*RUNS, PASSES, "ut1=x"], 2, "not understood"),
             ([*RUNS, "passes=none.csv"], 2, "none.csv"), ([RUNS[0] + "x", PASSES], 2, "gps.csvx"), ([*RUNS, f"passes={PIPE}/gps.csv"], 2, "no column metres"),
             ([f"utc={PIPE}/gps.csv", PASSES], 2, "no time of scale utc"), ([*RUNS, PASSES, "readings=speed"], 2, "no recorder has a column speed"), ([*RUNS, f"passes={bad}"], 1, "pass 1: refused 15"),
-            ([*RUNS, PASSES, f"table={rows}"], 1, "refused 21"), ([*RUNS, PASSES, "-o", self.at / "none" / "o.csv"], 2, "none/o.csv"), ([*RUNS, PASSES, "-p"], 2, "not understood"),
+            ([*RUNS, PASSES, f"table={rows}"], 1, "refused 22"), ([*RUNS, PASSES, "-o", self.at / "none" / "o.csv"], 2, "none/o.csv"), ([*RUNS, PASSES, "-p"], 2, "not understood"),
         ):
             done = run(*words)
             self.assertEqual((done.returncode, done.stdout), (status, b""), words)
