@@ -112,7 +112,7 @@ def rows(count: int) -> list[Row]:
     any1, any2 = utc1[chance], utc2[chance]
     launch = 2457750.5, 0.0
     begun = Time(*launch, format="jd", scale="tai")
-    millis = ct.milliseconds(launch, (tai1, tai2)).millis
+    millis = ct.milliseconds(launch, (tai1, tai2), scale="tai").millis
     same([millis], [erfa_millis(launch, tai1, tai2)], "milliseconds")
     marks = np.linspace(0, 8 * 86400000, 200).astype(int), np.arange(200) * 250.0
     utc = lambda: Time(utc1, utc2, format="jd", scale="utc")
@@ -133,7 +133,7 @@ def rows(count: int) -> list[Row]:
         ("UTC to TAI, in random order", lambda: ct.utctai(any1, any2), lambda: erfa.utctai(any1, any2), None),
         ("UTC text, in random order", lambda: ct.to_iso8601(any1, any2), lambda: erfa_texts(any1, any2), None),
         ("UTC text, read", lambda: ct.from_iso8601(texts), None, lambda: Time(texts, format="isot", scale="utc").jd2),
-        ("milliseconds since a launch", lambda: ct.milliseconds(launch, (tai1, tai2)), lambda: erfa_millis(launch, tai1, tai2), lambda: (tai() - begun).sec),
+        ("milliseconds since a launch", lambda: ct.milliseconds(launch, (tai1, tai2), scale="tai"), lambda: erfa_millis(launch, tai1, tai2), lambda: (tai() - begun).sec),
         ("places between 200 passes", lambda: ct.place(millis, marks), lambda: np.interp(millis, *marks), None),
         ("three runs put in order", lambda: ct.line_up(tai1, tai2, counts), None, lambda: tai().argsort()),
         ("three recorders, to TAI and in order", lambda: ct.line_up_recorders(*recorders), lambda: erfa_order(recorders), lambda: astropy_order(recorders)),

@@ -133,7 +133,7 @@ def tai_of_texts_pyerfa(g: Given) -> Any:
 
 def since_launch_ours(g: Given) -> Any:
     launch = ct.utctai(g.utc1[0], g.utc2[0])
-    return ct.milliseconds(launch, ct.utctai(g.utc1, g.utc2)).millis
+    return ct.milliseconds(launch, ct.utctai(g.utc1, g.utc2), scale="tai").millis
 
 
 def since_launch_astropy(g: Given) -> Any:

@@ -7,7 +7,8 @@ python3 -m celestial_time --help | --version
   lineup    the stamps of up to three recorders in one line by their TAI, with their UTC, as the program line_up lists them
             -r: and one page for a browser, with the runs' figures, the leap rows, the refused and left out stamps, and a picture
   place     a row for each reading of up to three recorders' CSV files: its UTC and its metres along the pipe, from the marker passes beside it,
-            or the number and the sentence by which it has none
+            or the number and the sentence by which it has none; how many have none is said on standard error, and so is a table whose expiry
+            is before the last reading
             -o: the table to this file; -p: a picture over metres; -r: and one page for a browser, with figures, sentences and the picture
   table     announced leap rows, a line for each, as 2027-01 38
 
@@ -113,6 +114,9 @@ def _place(words: list[str]) -> int:
     else:
         for part in placed.csv(readings):
             sys.stdout.buffer.write(part)
+        sys.stdout.flush()  # where nobody reads on it ends here, without a word
+    for note in placed.notes():
+        _say(note)
     return DONE
 
 

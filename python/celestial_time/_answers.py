@@ -206,7 +206,7 @@ class Ticks(NamedTuple):
 class Milliseconds(NamedTuple):
     """Whole milliseconds since a launch, of 64 bits signed; NO_LONG in the places of refused stamps.
 
-    >>> milliseconds((2457754.5, 0.0), (2457754.5, [0.5])).millis
+    >>> milliseconds((2457754.5, 0.0), (2457754.5, [0.5]), scale='tai').millis
     array([43200000])
     """
 

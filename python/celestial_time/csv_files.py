@@ -5,6 +5,7 @@ import csv
 import io
 import itertools
 import os
+import re
 from typing import IO, Any, Dict, NamedTuple, Sequence, Union
 
 import numpy as np
@@ -22,9 +23,12 @@ HELP = """  A recorder's file is CSV, with a head line. The columns that say the
     seconds             since the scale's epoch, 0h of 1980-01-06 (gps) or 1958-01-01 (tai), or Unix time (utc)
     time                ISO 8601 text of the scale's clock, as 2016-12-31T23:59:60.250Z
     jd1, jd2            the two parts of a Julian date
-  The passes' file has them too, and metres or millimetres along the pipe; scale says whose clock: gps, tai or utc, and is utc without it. A time that is
-  missing or no number is refused at its place. All other columns of a recorder are carried on, or those alone that readings= names."""
+  The passes' file has them too, metres or millimetres along the pipe, and no others but scale, which says whose clock: gps, tai or utc; without it that is
+  gps where week and millisecond are there, and else utc. A time that is missing or no number is refused at its place. All other columns of a recorder are
+  carried on, or those alone that readings= names; a scale among them must be the recorder's own. Names are as they stand here: Time or jd 1 is an error."""
 FORMS = (("week", "millisecond"), ("seconds",), ("time",), ("jd1", "jd2"))
+SCALE = "scale"
+TIMES = (*(name for form in FORMS for name in form), SCALE)
 EPOCHS = {"gps": (1980, 1, 6), "tai": (1958, 1, 1)}
 Cells = NDArray[np.bytes_]
 Columns = Dict[str, Cells]
@@ -32,6 +36,7 @@ File = Union[str, "os.PathLike[str]", IO[str], IO[bytes]]
 # A float of so many digits and a power of ten up to 22 are both exact, so that their quotient is the float nearest to the decimal.
 _EXACT_DIGITS = 15
 _LONGEST = 1 << 10
+_LONE_RETURN = re.compile(rb"\r(?!\n)")
 
 
 class Readings(NamedTuple):
@@ -49,21 +54,37 @@ class Readings(NamedTuple):
 
 
 def read_columns(source: File) -> Columns:
-    """The columns of a CSV file by the names of its head line, as byte strings; a cell that a short row lacks is empty, and so are lines without a byte.
+    """The columns of a CSV file by the names of its head line, as byte strings; a cell that a short row lacks is empty, and lines without a byte are left
+    out. A row with more cells than the head is an error.
 
     >>> import io
     >>> read_columns(io.StringIO('week, millisecond\\n1930,16500\\n1930\\n'))
     {'week': array([b'1930', b'1930'], dtype='|S4'), 'millisecond': array([b'16500', b''], dtype='|S5')}
+    >>> read_columns(io.StringIO('week,millisecond\\n1930,16,500\\n'))
+    Traceback (most recent call last):
+    ValueError: a file: line 2 has 3 cells, and the head line has 2
     """
     room = _read(source)
+    try:
+        return _columns_of(room)
+    except (ValueError, csv.Error) as error:
+        raise ValueError(f"{name_of(source)}: {error}") from None
+
+
+def _columns_of(room: bytearray) -> Columns:
+    """The columns of what was read; an error says the line alone."""
     size = len(room) - _LONGEST
     first = 3 if room.startswith(b"\xef\xbb\xbf") else 0
     end = room.find(b"\n", first, size)
     body = size if end < 0 else end + 1
+    plain = not any(room.find(mark, 0, size) >= 0 for mark in (b'"', b"\0"))
+    lone = _LONE_RETURN.search(room) if plain else None
+    if lone:
+        line = room.count(b"\n", 0, lone.start()) + 1
+        raise ValueError(f"line {line} has a carriage return that no line feed follows: a line ends by a line feed, or by both")
     names = [name.strip() for name in next(csv.reader([room[first:body].decode("utf-8", "surrogateescape")]), [])]
     if not names or len(set(names)) < len(names) or "" in names:
-        raise ValueError(f"{name_of(source)}: a head line is due, of columns that have each its name")
-    plain = not any(room.find(mark, 0, size) >= 0 for mark in (b'"', b"\0"))
+        raise ValueError("a head line is due, of columns that have each its name")
     cells = _of_even_rows(np.frombuffer(room, "u1")[body:], len(names), b"\r" in room) if plain else None
     return dict(zip(names, _of_any_rows(room[first:size], len(names)) if cells is None else cells))
 
@@ -118,7 +139,18 @@ def _cells(room: NDArray[np.uint8], starts: NDArray[Any], lengths: NDArray[Any])
 
 def _of_any_rows(data: bytearray, count: int) -> list[Cells]:
     """The columns by Python's reader: of cells in quotes, and of rows that are short."""
-    rows = [row[:count] for row in csv.reader(io.StringIO(data.decode("utf-8", "surrogateescape"), newline="")) if row][1:]
+    reader = csv.reader(io.StringIO(data.decode("utf-8", "surrogateescape"), newline="\n"))
+    rows, line = [], 1
+    try:
+        for row in reader:
+            if len(row) > count:
+                raise ValueError(f"line {line} has {len(row)} cells, and the head line has {count}")
+            if row:
+                rows.append(row)
+            line = reader.line_num + 1
+    except csv.Error as error:
+        raise ValueError(f"line {line}: {error}") from None
+    del rows[0]
     held = list(itertools.zip_longest(*rows, fillvalue=""))
     held += [("",) * len(rows)] * (count - len(held))
     made = [[cell.replace("\0", "\x01").encode("utf-8", "surrogateescape") for cell in column] for column in held]
@@ -134,11 +166,40 @@ def read_readings(scale: str, source: File, *, table: Table | None = None) -> Re
     """
     columns = read_columns(source)
     try:
+        _check_names(columns)
+        _check_scale(scale, columns)
         form = form_of(scale, columns)
         dates = dates_of(scale, {name: columns.pop(name) for name in form}, table=table)
     except ValueError as error:
         raise ValueError(f"{name_of(source)}: {error}") from None
     return Readings(scale, name_of(source), dates, columns)
+
+
+def _check_names(columns: Columns) -> None:
+    """A name that is a time's or scale's but for its case or blanks is an error: the column would be carried on, and another be read."""
+    for name in columns:
+        meant = "".join(name.split()).lower()
+        if meant in TIMES and name != meant:
+            raise ValueError(f"a column is named {name!r}, which is {meant} but for its case or blanks: name it so, or otherwise")
+
+
+def _check_scale(scale: str, columns: Columns) -> None:
+    """A column that names the readings' scale must name the one that they are read by, or nothing."""
+    if SCALE in columns:
+        told = scales_of(columns[SCALE])
+        others = np.flatnonzero((told != scale) & (told != ""))
+        if len(others):
+            raise ValueError(f"the file is read as {scale}, and its column {SCALE} has {str(told[others[0]])!r} for reading {others[0]}")
+
+
+def scales_of(cells: Cells) -> NDArray[np.str_]:
+    """The names of scales, of a column: in small letters, without blanks around them.
+
+    >>> scales_of(np.array([b'TAI ', b'']))
+    array(['tai', ''], dtype='<U4')
+    """
+    made: NDArray[np.str_] = np.char.lower(np.char.strip(np.char.decode(cells, "utf-8", "replace")))
+    return made
 
 
 def form_of(scale: str, columns: Columns) -> tuple[str, ...]:

@@ -7,18 +7,22 @@ import numpy as np
 from numpy.typing import NDArray
 
 from ._answers import Dates, Places
+from ._arrays import counts
 from .calendars import cal2jd, jd2cal
 from .csv_files import (
-    Cells, Columns, File, Readings, csv_head, csv_of, dates_of, digits_of, form_of, name_of, numbers_of, quoted, read_columns, read_readings, values_of,
+    FORMS, SCALE, TIMES, Cells, Columns, File, Readings, csv_head, csv_of, dates_of, digits_of, form_of, name_of, numbers_of, quoted, read_columns,
+    read_readings, scales_of, values_of,
 )
-from .placing import milliseconds, place
-from .refusals import Refused, reason
-from .scales import convert
+from .placing import millimetres_of, milliseconds, place
+from .refusals import OUTSIDE, Refused, reason
+from .scales import convert, taiutc
 from .tables import Table
 from .texts import utc_texts
 
 SCALES = ("gps", "tai", "utc")
+UNITS = {"metres": "m", "millimetres": "mm"}
 _PAGE = 1 << 15
+_MJD = 2400000.5
 
 
 class Passes(NamedTuple):
@@ -127,6 +131,40 @@ class Placed(NamedTuple):
                 yield csv_of([*columns, *(column[page] for column in others)])
 
 
+    def notes(self) -> list[str]:
+        """What a reader of the table should know before: of each file how many readings have no place, where there are any, and that the announced leap rows
+        are known until a day before the last reading.
+
+        >>> import io
+        >>> passes = io.StringIO('time,metres\\n2017-01-01T00:00:00Z,0\\n2017-01-01T00:00:10Z,31.5\\n')
+        >>> place_files({'utc': io.StringIO('time\\nlate\\n2017-01-01T00:00:11\\n2017-01-01T00:00:04\\n')}, passes).notes()
+        ['a file: 2 of 3 readings have no place: 1 refused, 1 outside the passes']
+        """
+        said = []
+        for recorder, places in zip(self.recorders, self.places):
+            every, without = len(places.numbers), int(np.count_nonzero(places.numbers))
+            outside = int(np.count_nonzero(places.numbers == OUTSIDE))
+            kinds = [f"{count} {kind}" for count, kind in ((without - outside, "refused"), (outside, "outside the passes")) if count]
+            if without:
+                said.append(f"{recorder.file}: {without} of {every} readings have no place: {', '.join(kinds)}")
+        return [*said, *self._expired()]
+
+    def _expired(self) -> Iterator[str]:
+        """A sentence where the leap rows were lent with an expiry, and a reading is later."""
+        known = self.rows.known_until if self.rows is not None else 0
+        if not known:
+            return
+        jd1, jd2 = (np.concatenate([tai[part][tai.numbers == 0] for tai in self.tai]) for part in (0, 1))
+        if not len(jd1):
+            return
+        last = [int(np.argmax((jd1 - _MJD) + jd2))]
+        utc = taiutc(jd1[last], jd2[last], table=self.rows)
+        if not utc.numbers[0] and (utc.jd1[0] - _MJD) + utc.jd2[0] > known:
+            day, text = jd2cal(_MJD, float(known)), utc_texts("utc", utc.jd1, utc.jd2, form="expanded", table=self.rows, as_str=True).text[0]
+            until = f"{day.year:04d}-{day.month:02d}-{day.day:02d}"
+            yield f"the table is known until {until}, and the last reading is of {text}: a leap second between is not known"
+
+
 def _sentences() -> Cells:
     """The sentence of each number, of 0 none."""
     return np.array([b"", *(reason(number).encode("ascii") for number in range(1, 29))])
@@ -146,27 +184,36 @@ def read_passes(source: File, *, table: Table | None = None) -> Passes:
     """
     columns = read_columns(source)
     unit = "metres" if "metres" in columns else "millimetres"
-    if unit not in columns:
-        raise ValueError(f"{name_of(source)}: no column metres or millimetres: the columns are {', '.join(columns)}")
     try:
+        _check_columns(columns)
         tai = _pass_dates(columns, table)
     except ValueError as error:
         raise ValueError(f"{name_of(source)}: {error}") from None
     if tai.numbers.any():
         at = int(np.flatnonzero(tai.numbers)[0])
         raise Refused(int(tai.numbers[at]), f"{name_of(source)}: pass {at}")
-    places = numbers_of(columns[unit]) * (1000.0 if unit == "metres" else 1.0)
-    mm = np.rint(places)
-    broken = ~(np.abs(places - mm) <= 1e-6 * np.maximum(np.abs(mm), 1.0) / 1000.0)
+    mm, broken = millimetres_of(numbers_of(columns[unit]), UNITS[unit])
     if broken.any():
         at = int(broken.argmax())
         raise ValueError(f"{name_of(source)}: {unit} of pass {at}, {columns[unit][at].decode('utf-8', 'replace')!r}, is no whole number of millimetres")
     if not len(mm):
         raise Refused(23, f"{name_of(source)}")
-    day = jd2cal(float(tai.jd1[0]), float(tai.jd2[0]))
+    # Counted from before the earliest, which need not be the first: whether they rise is for the library to say.
+    earliest = int(np.argmin((tai.jd1 - _MJD) + tai.jd2))
+    day = jd2cal(float(tai.jd1[earliest]), float(tai.jd2[earliest]))
     midnight = cal2jd(day.year, day.month, day.day)
     launch = Dates(midnight.jd1, midnight.jd2 - 1.0, midnight.numbers)
-    return Passes(launch, milliseconds(launch, tai).millis, mm.astype(np.int64))
+    return Passes(launch, milliseconds(launch, tai, scale="tai").millis, counts("places", mm))
+
+
+def _check_columns(columns: Columns) -> None:
+    """Places are due, and what else is there must be known: nothing of a pass is carried on, and a scale by another name would be passed over."""
+    if not set(UNITS) & set(columns):
+        raise ValueError(f"no column metres or millimetres: the columns are {', '.join(columns)}")
+    known = *TIMES, *UNITS
+    others = [repr(name) for name in columns if name not in known]
+    if others:
+        raise ValueError(f"not known of passes: {', '.join(others)}; the columns may be {', '.join(known)}")
 
 
 def _pass_dates(columns: Columns, table: Table | None) -> Dates:
@@ -175,8 +222,7 @@ def _pass_dates(columns: Columns, table: Table | None) -> Dates:
     made = Dates(np.full(count, np.nan), np.full(count, np.nan), np.zeros(count, "u1"))
     if not count:
         return made
-    told = columns.get("scale", np.full(count, "gps" if "week" in columns else "utc", "S3"))
-    scales = np.char.lower(np.char.strip(np.char.decode(told, "utf-8", "replace")))
+    scales = scales_of(columns.get(SCALE, np.full(count, "gps" if set(FORMS[0]) <= set(columns) else "utc", "S3")))
     for scale in np.unique(scales).tolist():
         at = np.flatnonzero(scales == scale)
         if scale not in SCALES:
@@ -213,5 +259,5 @@ def place_files(files: Mapping[str, File], passes: File, *, table: Table | None 
     recorders = tuple(read_readings(scale, files[scale], table=table) for scale in SCALES if scale in files)
     tai = tuple(to_tai(recorder.scale, recorder.dates, table) for recorder in recorders)
     lists = markers.millis, markers.mm
-    places = tuple(place(milliseconds(markers.launch, one), lists, unit="mm") for one in tai)
+    places = tuple(place(milliseconds(markers.launch, one, scale="tai"), lists, unit="mm") for one in tai)
     return Placed(recorders, tai, places, markers, table)

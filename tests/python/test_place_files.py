@@ -23,6 +23,8 @@ ROOT = pathlib.Path(__file__).resolve().parents[2]
 PIPE = ROOT / "python" / "examples" / "pipe"
 RUNS = [f"{scale}={PIPE}/{scale}.csv" for scale in ("gps", "tai", "utc")]
 PASSES = f"passes={PIPE}/passes.csv"
+SAID = "".join(f"celestial_time: {PIPE}/{scale}.csv: {without} of {every} readings have no place: 2 refused, {without - 2} outside the passes\n"
+               for scale, without, every in (("gps", 27, 500), ("tai", 22, 400), ("utc", 12, 200))).encode()
 
 
 def run(*words, **keywords):
@@ -54,6 +56,23 @@ class Columns(unittest.TestCase):
         for wrong in (b"", b"\n1,2\n", b"a,a\n1,2\n", b"a,,b\n"):
             with self.assertRaises(ValueError):
                 csv_files.read_columns(io.BytesIO(wrong))
+
+    def test_wrong_rows(self):
+        """A row with more cells than the head, or a carriage return alone, is an error that names the file and the line; in quotes a return is a byte like others."""
+        for data, said in (
+            (b"a,b\n1,2\n3,4,5\n", "line 3 has 3 cells, and the head line has 2"), (b"a,b\r\n1,2\r\n\r\n3,4,\r\n", "line 4 has 3 cells"), (b"a\n1,5\n2\n", "line 2 has 2 cells, and the head line has 1"),
+            (b'a,b\n"1\n\n",2\n3,"4,5",6', "line 5 has 3 cells"), (b"a,b\n1,2,3\n4\n", "line 2 has 3 cells"), (b'\xef\xbb\xbf"a",b\n1,2,3\n', "line 2 has 3 cells"),
+            (b"a,b\r1,2\r3,4\r", "line 1 has a carriage return"), (b"a,b\r1,2\r3,4", "line 1 has a carriage return"), (b"a,b\n1,2\n3\r,4\n", "line 3 has a carriage return"),
+            (b'a,b\r"1",2\r', "new-line"), (b'a,b\n"1",2\n3,4\r5,6\n', "line 3: new-line"),
+        ):
+            file = io.BytesIO(data)
+            file.name = "wall.csv"
+            with self.assertRaises(ValueError) as raised:
+                csv_files.read_columns(file)
+            self.assertTrue(str(raised.exception).startswith("wall.csv: "), raised.exception)
+            self.assertIn(said, str(raised.exception))
+        got = csv_files.read_columns(io.BytesIO(b'a,b\n"1\r2","3\r\n4"\n5,6\r'))
+        self.assertEqual([cells.tolist() for cells in got.values()], [[b"1\r2", b"5"], [b"3\r\n4", b"6"]])
 
     def test_numbers(self):
         """Decimals are the floats that Python reads, however many digits; what is none is a NaN."""
@@ -129,6 +148,51 @@ class Forms(unittest.TestCase):
         with self.assertRaises(ValueError):
             ct.place_files({"tt": text_file("time")}, marks())
 
+    def test_passes_clock(self):
+        """Without a column scale the clock is that of GPS where week and millisecond are both there, and else UTC."""
+        rows = "2017-01-01T00:00:00Z,0", "2017-01-01T00:00:10Z,31.5"
+        due = ct.read_passes(text_file("time,metres", *rows))
+        for head, lines in (("week,time,metres", [f"1930,{row}" for row in rows]), ("millisecond,time,metres", [f"18000,{row}" for row in rows]),
+                            ("week,millisecond,metres", ["1930,18000,0", "1930,28000,31.5"]), ("week,millisecond,time,metres", ["1930,18000,x,0", "1930,28000,x,31.5"])):
+            self.assertEqual(ct.read_passes(text_file(head, *lines)).millis.tolist(), due.millis.tolist(), head)
+
+    def test_passes_columns(self):
+        """A column of passes that is not known is an error, which names it and those that are: by another name a scale would be passed over."""
+        for name in ("Scale", "SCALE", "clock", "marker", "Time", "metre"):
+            with self.assertRaises(ValueError) as raised:
+                ct.read_passes(text_file(f"{name},time,metres", "tai,2017-01-01T00:00:37,0", "tai,2017-01-01T00:00:47,31.5"))
+            self.assertIn(f"not known of passes: '{name}'; the columns may be week, millisecond, seconds, time, jd1, jd2, scale, metres, millimetres", str(raised.exception))
+        with self.assertRaisesRegex(ValueError, "'clock', 'wall'"):
+            ct.read_passes(text_file("clock,time,metres,wall", "tai,2017-01-01T00:00:37,0,1"))
+
+    def test_readings_columns(self):
+        """Other columns are carried on, but for names that are a time's or scale's but for case and blanks, and a scale that is not the recorder's."""
+        row = "2017-01-01T00:00:04"
+        for name, meant in (("Time", "time"), ("Scale", "scale"), ("WEEK", "week"), ("milli second", "millisecond"), ("jd 1", "jd1"), ("JD2", "jd2"), ("Seconds", "seconds"), ("s cale", "scale")):
+            with self.assertRaises(ValueError) as raised:
+                ct.place_files({"utc": text_file(f"time,{name}", f"{row},x")}, marks())
+            self.assertIn(f"a file: a column is named {name!r}, which is {meant} but for its case or blanks", str(raised.exception))
+        for name in ("timer", "wall", "Scales", "Metres", "local time", "week"):
+            self.assertEqual(ct.place_files({"utc": text_file(f"time,{name}", f"{row},x")}, marks()).names(), [name])
+        with self.assertRaisesRegex(ValueError, "the file is read as utc, and its column scale has 'tai' for reading 1"):
+            ct.place_files({"utc": text_file("time,scale", f"{row},UTC", f"{row},TAI ")}, marks())
+        self.assertEqual(ct.place_files({"utc": text_file("time,scale", f"{row},UTC ", f"{row},")}, marks()).table()["scale"].tolist(), ["UTC ", ""])
+
+    def test_passes_far(self):
+        """Half a millimetre is an error however far the pass; passes that fall are the library's 24, by a day and more too."""
+        for metres, unit in (("600000.0005", "metres"), ("600000000.5", "millimetres"), ("1.0000005", "metres"), ("nan", "metres"), ("1e308", "metres")):
+            with self.assertRaisesRegex(ValueError, f"a file: {unit} of pass 1, '{metres}', is no whole number of millimetres"):
+                ct.read_passes(text_file(f"time,{unit}", "2017-01-01T00:00:00Z,0", f"2017-01-01T00:00:10Z,{metres}"))
+        self.assertEqual(ct.read_passes(text_file("time,metres", "2017-01-01T00:00:00Z,0", "2017-01-01T00:00:10Z,600000.001")).mm.tolist(), [0, 600000001])
+        for first, then, number in (("2017-01-05T00:00:00Z", "2017-01-01T00:00:00Z", 24), ("2017-01-03T00:00:00Z", "2017-01-01T12:00:00Z", 24), ("2030-01-01T00:00:00Z", "2017-01-01T00:00:00Z", 24),
+                                    ("2060-01-01T00:00:00Z", "2017-01-01T00:00:00Z", 23), ("2017-01-01T00:00:00Z", "2060-01-01T00:00:00Z", 23)):
+            with self.assertRaises(ct.Refused) as raised:
+                ct.place_files({"utc": text_file("time", "2017-01-01T00:00:04")}, text_file("time,metres", f"{first},0", f"{then},5"))
+            self.assertEqual(raised.exception.number, number, first)
+        with self.assertRaises(ct.Refused) as raised:
+            ct.place_files({"utc": text_file("time", "2017-01-01T00:00:04")}, text_file("time,metres", "2017-01-01T00:00:00Z,0", "2017-01-01T00:00:10Z,1e30"))
+        self.assertEqual(raised.exception.number, 23)
+
 
 def ct_seconds(scale):
     """Seconds of 2017-01-01T00:00:41.250 since the scale's epoch, by Python's own calendar."""
@@ -153,9 +217,9 @@ class Command(unittest.TestCase):
     def test_table(self):
         """A row for each reading, to standard output or a file, as `table` has them; the carried column as it stands."""
         done = run(*RUNS, PASSES)
-        self.assertEqual((done.returncode, done.stderr), (0, b""))
+        self.assertEqual((done.returncode, done.stderr), (0, SAID))
         held = run(*RUNS, PASSES, "-o", self.at / "out.csv", "readings=wall_mm")
-        self.assertEqual((held.returncode, held.stdout, (self.at / "out.csv").read_bytes()), (0, b"", done.stdout))
+        self.assertEqual((held.returncode, held.stdout, held.stderr, (self.at / "out.csv").read_bytes()), (0, b"", SAID, done.stdout))
         rows = list(csv.DictReader(io.StringIO(done.stdout.decode())))
         got = ct.place_files({scale: PIPE / f"{scale}.csv" for scale in ("gps", "tai", "utc")}, PIPE / "passes.csv")
         table = got.table()
@@ -176,7 +240,7 @@ class Command(unittest.TestCase):
         fastest = np.max(np.diff(got.passes.mm) / np.diff(got.passes.millis))
         thinnest = []
         for recorder, tai, places in zip(got.recorders, got.tai, got.places):
-            millis = ct.milliseconds(got.passes.launch, tai).millis
+            millis = ct.milliseconds(got.passes.launch, tai, scale="tai").millis
             for milli, mm, number in zip(millis.tolist(), places.mm.tolist(), places.numbers.tolist()):
                 if number == 0:
                     self.assertEqual(every.setdefault(milli, mm), mm)
@@ -192,7 +256,7 @@ class Command(unittest.TestCase):
     def test_picture_and_page(self):
         """Well formed, by the data: the panel in metres, the markers, what has no place; the page's figures are the table's."""
         done = run(*RUNS, PASSES, "-p", self.at / "p.svg", "-r", self.at / "p.html", "-o", self.at / "o.csv")
-        self.assertEqual((done.returncode, done.stderr), (0, b""))
+        self.assertEqual((done.returncode, done.stderr), (0, SAID))
         self.assertEqual((self.at / "p.svg").read_bytes(), (PIPE.parent / "pipe.svg").read_bytes())
         picture = xml.etree.ElementTree.parse(self.at / "p.svg").getroot()
         kinds = [one.get("class") for one in picture.iter() if one.get("class")]
@@ -227,20 +291,48 @@ class Command(unittest.TestCase):
         """Status 2 and a message for words and files that are not as they are due, 1 where passes or the table are refused; nothing is written then."""
         bad = self.at / "bad.csv"
         bad.write_text("time,metres\n2017-01-01T00:00:00Z,0\nnoon,5\n")
+        returns, wide = self.at / "returns.csv", self.at / "wide.csv"
+        returns.write_bytes(b"time,metres\r2017-01-01T00:00:00Z,0\r2017-01-01T00:00:10Z,31.5\r")
+        wide.write_text("time,metres\n2017-01-01T00:00:00Z,0\n2017-01-01T00:10:00Z,1,600\n")
         rows = self.at / "rows"
         rows.write_text("2016-01 50\n")
         for words, status, said in (
             ([], 2, "no run is named"), (RUNS, 2, "no passes are named"), ([*RUNS, PASSES, PASSES], 2, "there twice"), ([*RUNS, PASSES, "ut1=x"], 2, "not understood"),
             ([*RUNS, "passes=none.csv"], 2, "none.csv"), ([RUNS[0] + "x", PASSES], 2, "gps.csvx"), ([*RUNS, f"passes={PIPE}/gps.csv"], 2, "no column metres"),
             ([f"utc={PIPE}/gps.csv", PASSES], 2, "no time of scale utc"), ([*RUNS, PASSES, "readings=speed"], 2, "no recorder has a column speed"), ([*RUNS, f"passes={bad}"], 1, "pass 1: refused 15"),
-            ([*RUNS, PASSES, f"table={rows}"], 1, "refused 22"), ([*RUNS, PASSES, "-o", self.at / "none" / "o.csv"], 2, "none/o.csv"), ([*RUNS, PASSES, "-p"], 2, "not understood"),
+            ([*RUNS, f"passes={returns}"], 2, "returns.csv: line 1 has a carriage return"), ([f"utc={returns}", PASSES], 2, "returns.csv: line 1 has a carriage return"),
+            ([*RUNS, f"passes={wide}"], 2, "wide.csv: line 3 has 3 cells"), ([f"utc={wide}", PASSES], 2, "wide.csv: line 3 has 3 cells"),
+            ([*RUNS, PASSES, f"table={rows}"], 1, "line 1: refused 22"), ([*RUNS, PASSES, "-o", self.at / "none" / "o.csv"], 2, "none/o.csv"), ([*RUNS, PASSES, "-p"], 2, "not understood"),
         ):
             done = run(*words)
             self.assertEqual((done.returncode, done.stdout), (status, b""), words)
             self.assertIn(said, done.stderr.decode(), words)
             self.assertTrue(done.stderr.startswith(b"celestial_time: "))
             self.assertNotIn(b"Traceback", done.stderr)
-        self.assertEqual(sorted(path.name for path in self.at.iterdir()), ["bad.csv", "rows"])
+        self.assertEqual(sorted(path.name for path in self.at.iterdir()), ["bad.csv", "returns.csv", "rows", "wide.csv"])
+
+    def test_notes(self):
+        """How many readings have no place is said, with every one of them too, and nothing where each has one; and so is a table that is older than the readings."""
+        utc, passes, rows = (self.at / name for name in ("utc.csv", "passes.csv", "rows"))
+        passes.write_text("time,metres\n2027-01-01T00:00:00Z,0\n2027-01-01T00:00:10Z,31.5\n")
+        good, late, dead = "2027-01-01T00:00:04", "2027-01-01T00:00:11", "dead"
+        for readings, said in (
+            ([good], ""), ([], ""), ([dead, dead], "2 of 2 readings have no place: 2 refused"), ([late], "1 of 1 readings have no place: 1 outside the passes"),
+            ([good, late, dead, dead], "3 of 4 readings have no place: 2 refused, 1 outside the passes"),
+        ):
+            utc.write_text("".join(f"{line}\n" for line in ("time,wall", *(f"{one},1" for one in readings))))
+            done = run(f"utc={utc}", f"passes={passes}")
+            self.assertEqual((done.returncode, done.stderr.decode()), (0, f"celestial_time: {utc}: {said}\n" if said else ""))
+            self.assertEqual(len(done.stdout.splitlines()), len(readings) + 1)
+        old = "the table is known until 2027-01-01, and the last reading is of 2027-01-01T00:00:04.000: a leap second between is not known"
+        for mjd, readings, said in ((61406, [good], old), (61407, [good], ""), (61407, [dead], None), (None, [good], ""), (61406, ["2026-12-31T23:59:59"], None), (61406, [dead], None)):
+            expiry = "" if mjd is None else f"#@ {(mjd - 15020) * 86400}\n"
+            rows.write_text(f"{expiry}2017-01 37\n")
+            utc.write_text("".join(f"{line}\n" for line in ("time", *readings)))
+            done = run(f"utc={utc}", f"passes={passes}", f"table={rows}")
+            self.assertEqual((done.returncode, "known until" in done.stderr.decode()), (0, bool(said)), (mjd, readings))
+            if said is not None:
+                self.assertEqual(done.stderr.decode(), f"celestial_time: {said}\n" if said else "")
 
     def test_help_and_rows(self):
         """--help names the columns, and announced leap rows are read by."""
