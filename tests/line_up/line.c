@@ -2,23 +2,8 @@
    A case is eight numbers of 4 bytes (the bytes of jd1, jd2 and numbers, of the lent places and of the two work areas, and the first two counts), then the bytes of the
    three lists; an answer is the first call's code in 8 bytes, all numbers, and all of the lent places, which are filled with aa before the call, as the work areas are, and
    then the same of the second call; a byte behind one of those is looked after here. Numbers have the lowest byte first. */
+#include "../cases.h"
 #include "celestial_time.h"
-#include <stdio.h>
-#include <stdlib.h>
-
-static uint8_t *some(size_t n)
-{
-    uint8_t *p = malloc(n + 1);
-    if (!p) exit(2);
-    return p;
-}
-
-static uint8_t *read_bytes(size_t n)
-{
-    uint8_t *p = some(n);
-    if (fread(p, 1, n, stdin) != n) exit(2);
-    return p;
-}
 
 typedef int64_t line_call(const uint8_t *, size_t, const uint8_t *, size_t, uint8_t *, size_t, uint64_t, uint64_t, uint8_t *, size_t, uint8_t *, size_t,
                           uint8_t *, size_t);
@@ -26,14 +11,13 @@ typedef int64_t line_call(const uint8_t *, size_t, const uint8_t *, size_t, uint
 /* A call on a case, and its answer. */
 static void ask(line_call *call, const size_t *n, uint8_t **list)
 {
-    uint8_t code[8], *numbers = some(n[2]), *lent[3];
-    uint64_t answer;
+    uint8_t *numbers = some(n[2]), *lent[3];
     int i;
     memcpy(numbers, list[2], n[2]);
     for (i = 0; i < 3; i++) memset(lent[i] = some(n[3 + i]), 0xaa, n[3 + i] + 1);
-    answer = (uint64_t)call(list[0], n[0], list[1], n[1], numbers, n[2], n[6], n[7], lent[0], n[3], lent[1], n[4], lent[2], n[5]);
-    for (i = 0; i < 8; i++) code[i] = (uint8_t)(answer >> 8 * i);
-    if (fwrite(code, 1, 8, stdout) != 8 || fwrite(numbers, 1, n[2], stdout) != n[2] || fwrite(lent[0], 1, n[3], stdout) != n[3]) exit(2);
+    put_code(call(list[0], n[0], list[1], n[1], numbers, n[2], n[6], n[7], lent[0], n[3], lent[1], n[4], lent[2], n[5]));
+    put(numbers, n[2]);
+    put(lent[0], n[3]);
     for (i = 0; i < 3; i++)
         if (lent[i][n[3 + i]] != 0xaa) exit(3);
     free(numbers);

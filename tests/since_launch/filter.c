@@ -2,37 +2,10 @@
    A case is the launch, 16 bytes, a number of stamps, 4 bytes, all first parts and all second parts; an answer is the code of the single call for each
    stamp, 8 bytes each, the run's code in 8 bytes, and its two lent lists with SPARE bytes behind each, filled with aa before the call. Numbers have the
    lowest byte first. */
+#include "../cases.h"
 #include "celestial_time.h"
-#include <stdio.h>
-#include <stdlib.h>
 
 enum { SPARE = 5 };
-
-static uint8_t *some(size_t n)
-{
-    uint8_t *p = malloc(n + 1);
-    if (!p) exit(2);
-    return p;
-}
-
-static uint8_t *read_bytes(size_t n)
-{
-    uint8_t *p = some(n);
-    if (fread(p, 1, n, stdin) != n) exit(2);
-    return p;
-}
-
-static void put(const uint8_t *bytes, size_t n)
-{
-    if (fwrite(bytes, 1, n, stdout) != n) exit(2);
-}
-
-static void put_code(int64_t code)
-{
-    uint8_t bytes[8];
-    for (int k = 0; k < 8; k++) bytes[k] = (uint8_t)((uint64_t)code >> 8 * k);
-    put(bytes, 8);
-}
 
 int main(void)
 {
