@@ -12,9 +12,9 @@ use mir.Val.{Fits, SFits, to_z, of_z}
 use mir.Facts.{to_z-of_z, to_z_pos}
 use borrow.Author.Tests.{lt-ltb, le-leb, lt-leb}
 use Rattle.refusals.specs.Outcome.{Outcome, answer, refusal, onward}
-use Rattle.utc.specs.text.Answer.{textWritten, bufferAfter}
-use Rattle.utc.specs.iso_texts.TextCall.{written, bufferHolds}
-use Rattle.c_answers.specs.Delivery.{code, done, inBytes, Delivered}
+use Rattle.utc.specs.text.Answer.{text_written, buffer_after}
+use Rattle.utc.specs.iso_texts.TextCall.{written, buffer_holds}
+use Rattle.c_answers.specs.Delivery.{code, done, in_bytes, Delivered}
 
 -- ---- a refusal's code: 0 less its number
 minus : (k : ℕ) → pos 0 -ℤ pos k ≡ neg_ℤ (pos k)
@@ -44,7 +44,7 @@ module _ (k : ℕ) (f : Fits w32 k) where
 
 -- ---- bytes put into a buffer
 pub too_short : (t l : List ℕ) (r : ℤ) → length l < length t → r ≡ code (refusal 11) → Delivered (answer t) l r l
-unfolding written onward textWritten bufferHolds bufferAfter
+unfolding written onward text_written buffer_holds buffer_after
 too_short t l r h e =
     let w : written (answer t) (length l) ≡ refusal 11 = simp (lt-leb _ _ h) in
     record { returned = e ∙ sym (ap code w); holds = simp (lt-leb _ _ h) }
@@ -52,7 +52,7 @@ too_short t l r h e =
 -- after the copy of n bytes, all that t has
 pub copied : (t l out : List ℕ) (n : ℕ) → n ≡ length t → length t ≤ 64 → out ≡ take (length t) t ++ drop (length t) l → length t ≤ length l
     → Delivered (answer t) l (to_z w64 n) out
-unfolding written onward textWritten bufferHolds bufferAfter code
+unfolding written onward text_written buffer_holds buffer_after code
 copied t l out n e few eo h =
     let w : written (answer t) (length l) ≡ answer (length t) = simp (le-leb _ _ h) in
     record {
@@ -71,18 +71,18 @@ pub same_bytes : {s t l out : List ℕ} {r : ℤ} → mag r < 2 ^ 63 → s ≡ t
 same_bytes {s} {t} {l} {out} {r} ok e p = back ok (subst (λ (x : List ℕ). Delivered (answer x) l r out) e p)
 
 module _ {A : Type 0} (bytes : A → List ℕ) {r : ℤ} (ok : mag r < 2 ^ 63) where
-  pub delivered-answer : {o : Outcome A} {l out : List ℕ} (a : A) → o ≡ answer a → Delivered (answer (bytes a)) l r out
-      → Delivered (inBytes bytes o) l (to_z w64 (of_z w64 r)) out
-  unfolding inBytes onward
-  delivered-answer {o} {l} {out} a e p = back ok (subst (λ (x : Outcome A). Delivered (inBytes bytes x) l r out) (sym e) p)
+  pub delivered_answer : {o : Outcome A} {l out : List ℕ} (a : A) → o ≡ answer a → Delivered (answer (bytes a)) l r out
+      → Delivered (in_bytes bytes o) l (to_z w64 (of_z w64 r)) out
+  unfolding in_bytes onward
+  delivered_answer {o} {l} {out} a e p = back ok (subst (λ (x : Outcome A). Delivered (in_bytes bytes x) l r out) (sym e) p)
 
-  pub refused-on : {o : Outcome A} {l : List ℕ} (k : ℕ) → o ≡ refusal k → r ≡ code (refusal k) → Delivered (inBytes bytes o) l (to_z w64 (of_z w64 r)) l
-  unfolding inBytes onward written bufferHolds
-  refused-on {o} {l} k e c = back ok (subst (λ (x : Outcome A). Delivered (inBytes bytes x) l r l) (sym e) (record { returned = c; holds = refl }))
+  pub refused-on : {o : Outcome A} {l : List ℕ} (k : ℕ) → o ≡ refusal k → r ≡ code (refusal k) → Delivered (in_bytes bytes o) l (to_z w64 (of_z w64 r)) l
+  unfolding in_bytes onward written buffer_holds
+  refused-on {o} {l} k e c = back ok (subst (λ (x : Outcome A). Delivered (in_bytes bytes x) l r l) (sym e) (record { returned = c; holds = refl }))
 
-  pub same_outcome : {o o' : Outcome A} {l out : List ℕ} → o ≡ o' → Delivered (inBytes bytes o) l r out
-      → Delivered (inBytes bytes o') l (to_z w64 (of_z w64 r)) out
-  same_outcome {o} {o'} {l} {out} e p = back ok (subst (λ (x : Outcome A). Delivered (inBytes bytes x) l r out) e p)
+  pub same_outcome : {o o' : Outcome A} {l out : List ℕ} → o ≡ o' → Delivered (in_bytes bytes o) l r out
+      → Delivered (in_bytes bytes o') l (to_z w64 (of_z w64 r)) out
+  same_outcome {o} {o'} {l} {out} e p = back ok (subst (λ (x : Outcome A). Delivered (in_bytes bytes x) l r out) e p)
 
 -- ---- a call that answers nothing but that it refuses nothing
 pub nothing-refused : {o : Outcome Unit} → o ≡ answer tt → pos 0 ≡ code (done o)

@@ -9,25 +9,25 @@ use lib.IntN.{ℤ, pos}
 use borrow.Rule.Slice.PartMut.{mid_of, post_of, put_mid}
 use borrow.Author.Tests.{le-leb}
 use Rattle.refusals.specs.Outcome.{answer, onward}
-use Rattle.utc.specs.text.Answer.{textWritten, bufferAfter}
-use Rattle.utc.specs.iso_texts.TextCall.{written, bufferHolds}
+use Rattle.utc.specs.text.Answer.{text_written, buffer_after}
+use Rattle.utc.specs.iso_texts.TextCall.{written, buffer_holds}
 use Rattle.c_answers.specs.Delivery.{code, Delivered}
 
 -- what the buffer holds after a piece that fits
 pub held : {t l out : List ℕ} {r : ℤ} → length t ≤ length l → Delivered (answer t) l r out → out ≡ t ++ drop (length t) l
-unfolding bufferHolds bufferAfter
+unfolding buffer_holds buffer_after
 held {t} {l} h p = p.holds ∙ simp (le-leb _ _ h)
 
 -- all that t has, by its length
-pub delivered-whole : {t l out : List ℕ} (n : ℕ) → length t ≡ n → n ≤ length l → out ≡ t ++ drop n l → Delivered (answer t) l (pos n) out
-unfolding written onward textWritten bufferHolds bufferAfter code
-delivered-whole {t} {l} n e h eo =
+pub delivered_whole : {t l out : List ℕ} (n : ℕ) → length t ≡ n → n ≤ length l → out ≡ t ++ drop n l → Delivered (answer t) l (pos n) out
+unfolding written onward text_written buffer_holds buffer_after code
+delivered_whole {t} {l} n e h eo =
     let fits : length t ≤ length l = omega (arith, e) in
     let w : written (answer t) (length l) ≡ answer (length t) = simp (le-leb _ _ fits) in
     record { returned = ap pos (sym e) ∙ sym (ap code w); holds = eo ∙ ap (λ (k : ℕ). t ++ drop k l) (sym e) ∙ simp (le-leb _ _ fits) }
 
-pub of-bytes : {s t l out : List ℕ} {r : ℤ} → s ≡ t → Delivered (answer s) l r out → Delivered (answer t) l r out
-of-bytes {l = l} {out = out} {r = r} e p = subst (λ (x : List ℕ). Delivered (answer x) l r out) e p
+pub of_bytes : {s t l out : List ℕ} {r : ℤ} → s ≡ t → Delivered (answer s) l r out → Delivered (answer t) l r out
+of_bytes {l = l} {out = out} {r = r} e p = subst (λ (x : List ℕ). Delivered (answer x) l r out) e p
 
 module _ (s t l m part : List ℕ) (a : ℕ) (e : length s ≡ a) (first : m ≡ s ++ drop a l) where
   left_over : drop a m ≡ drop a l
@@ -39,8 +39,8 @@ module _ (s t l m part : List ℕ) (a : ℕ) (e : length s ≡ a) (first : m ≡
   lent : mid_of a (length m - a) m ≡ drop a l
   lent = ap (λ (k : ℕ). take k (drop a m)) count ∙ take-length (drop a m) ∙ left_over
 
-  none-behind : post_of a (length m - a) m ≡ []
-  none-behind = ap (λ (k : ℕ). drop k (drop a m)) count ∙ drop-length (drop a m)
+  none_behind : post_of a (length m - a) m ≡ []
+  none_behind = ap (λ (k : ℕ). drop k (drop a m)) count ∙ drop-length (drop a m)
 
   -- s stands at the start, and t was put behind it
   pub behind : {r : ℤ} → a + length t ≤ length l → Delivered (answer t) (mid_of a (length m - a) m) r part → put_mid a (length m - a) m part ≡ (s ++ t)
@@ -50,14 +50,14 @@ module _ (s t l m part : List ℕ) (a : ℕ) (e : length s ≡ a) (first : m ≡
       let start : take a m ≡ s = ap (take a) first ∙ take_at s (drop a l) a e in
       let put : part ≡ t ++ drop (a + length t) l = held fits p ∙ ap (λ (x : List ℕ). t ++ drop (length t) x) lent
       ∙ ap (λ (x : List ℕ). t ++ x) (drop-drop (length t) a l) in
-      (λ i. start i ++ (put i ++ none-behind i)) ∙ ap (λ (x : List ℕ). s ++ x) (append-nil _) ∙ sym (append_assoc s t (drop (a + length t) l))
+      (λ i. start i ++ (put i ++ none_behind i)) ∙ ap (λ (x : List ℕ). s ++ x) (append-nil _) ∙ sym (append_assoc s t (drop (a + length t) l))
 
 -- an answer in two pieces, and in three
 pub in_two : (s t l m part : List ℕ) {r r' : ℤ} (a n : ℕ) → length s ≡ a → a + length t ≡ n → n ≤ length l → Delivered (answer s) l r m
     → Delivered (answer t) (mid_of a (length m - a) m) r' part → Delivered (answer (s ++ t)) l (pos n) (put_mid a (length m - a) m part)
 in_two s t l m part a n e all room p q =
     let first : m ≡ s ++ drop a l = held (omega (arith, e)) p ∙ ap (λ (k : ℕ). s ++ drop k l) e in
-    delivered-whole n (length-append s t ∙ omega (arith, e)) room (behind s t l m part a e first (omega arith) q ∙ ap (λ (k : ℕ). (s ++ t) ++ drop k l) all)
+    delivered_whole n (length-append s t ∙ omega (arith, e)) room (behind s t l m part a e first (omega arith) q ∙ ap (λ (k : ℕ). (s ++ t) ++ drop k l) all)
 
 pub in_three : (s t u l m m' part part' : List ℕ) {r r' r'' : ℤ} (a b n : ℕ) → length s ≡ a → a + length t ≡ b → b + length u ≡ n → n ≤ length l
     → Delivered (answer s) l r m → Delivered (answer t) (mid_of a (length m - a) m) r' part → m' ≡ put_mid a (length m - a) m part
@@ -66,5 +66,5 @@ in_three s t u l m m' part part' a b n e ab all room p q em w =
     let first : m ≡ s ++ drop a l = held (omega (arith, e)) p ∙ ap (λ (k : ℕ). s ++ drop k l) e in
     let second : m' ≡ (s ++ t) ++ drop b l = em ∙ behind s t l m part a e first (omega arith) q ∙ ap (λ (k : ℕ). (s ++ t) ++ drop k l) ab in
     let st : length (s ++ t) ≡ b = length-append s t ∙ omega (arith, e) in
-    delivered-whole n (length-append (s ++ t) u ∙ omega (arith, st)) room
+    delivered_whole n (length-append (s ++ t) u ∙ omega (arith, st)) room
     (behind (s ++ t) u l m' part' b st second (omega arith) w ∙ ap (λ (k : ℕ). ((s ++ t) ++ u) ++ drop k l) all)

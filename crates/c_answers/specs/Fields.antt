@@ -3,20 +3,20 @@
 use Rattle.std.specs.Prelude.{ℕ, List, ◌++◌, Float}
 use Rattle.std.specs.Float.{binary64}
 use Rattle.std.specs.Float.Ieee.{to_bits}
-use Rattle.numerals.specs.little_endian.LittleEndian.{eightBytes, patternOf}
-pub use Rattle.numerals.specs.little_endian.LittleEndian.{fourBytes}
+use Rattle.numerals.specs.little_endian.LittleEndian.{eight_bytes, pattern_of}
+pub use Rattle.numerals.specs.little_endian.LittleEndian.{four_bytes}
 use Rattle.calendar.specs.declared.CalendarDate.{CalendarDate}
 use Rattle.julian.specs.declared.JulianDate.{JulianDate}
 use Rattle.julian.specs.declared.CalendarFields.{CalendarFields}
 
-abbrev pub floatBytes : Float → List ℕ
-floatBytes x = eightBytes (to_bits binary64 x)
+abbrev pub float_bytes : Float → List ℕ
+float_bytes x = eight_bytes (to_bits binary64 x)
 
-unfoldable pub dateBytes : CalendarDate → List ℕ
-dateBytes t = fourBytes (patternOf t.year) ++ (fourBytes t.month ++ fourBytes t.day)
+unfoldable pub date_bytes : CalendarDate → List ℕ
+date_bytes t = four_bytes (pattern_of t.year) ++ (four_bytes t.month ++ four_bytes t.day)
 
-unfoldable pub julianBytes : JulianDate → List ℕ
-julianBytes d = floatBytes d.jd1 ++ floatBytes d.jd2
+unfoldable pub julian_bytes : JulianDate → List ℕ
+julian_bytes d = float_bytes d.jd1 ++ float_bytes d.jd2
 
-unfoldable pub calendarBytes : CalendarFields → List ℕ
-calendarBytes f = dateBytes f.date ++ floatBytes f.fraction
+unfoldable pub calendar_bytes : CalendarFields → List ℕ
+calendar_bytes f = date_bytes f.date ++ float_bytes f.fraction

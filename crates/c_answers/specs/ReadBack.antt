@@ -3,17 +3,17 @@
 use Rattle.std.specs.Prelude.{ℕ, ◌+◌, ◌≡◌, List, Float}
 use Rattle.std.specs.Float.{binary64}
 use Rattle.std.specs.Float.Ieee.{of_bits}
-use Rattle.numerals.specs.little_endian.LittleEndian.{u32_at, u64At, i32At}
+use Rattle.numerals.specs.little_endian.LittleEndian.{u32_at, u64_at, i32_at}
 use Rattle.calendar.specs.declared.CalendarDate.{CalendarDate}
 use Rattle.julian.specs.declared.JulianDate.{JulianDate}
 use Rattle.julian.specs.declared.CalendarFields.{CalendarFields}
 
 -- the float in the eight bytes from `at` on
 abbrev pub float_at : List ℕ → ℕ → Float
-float_at s at = of_bits binary64 (u64At s at)
+float_at s at = of_bits binary64 (u64_at s at)
 
 pub record DateBack (t : CalendarDate) (bytes : List ℕ) : Type 0 where
-  pub year : i32At bytes 0 ≡ t.year
+  pub year : i32_at bytes 0 ≡ t.year
   pub month : u32_at bytes 4 ≡ t.month
   pub day : u32_at bytes 8 ≡ t.day
 

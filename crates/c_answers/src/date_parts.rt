@@ -1,15 +1,15 @@
 // Answers of two calls on the parts of dates.
 ghost use Rattle.std.specs.Prelude.{◌≡◌};
 ghost use Rattle.julian.specs.JulianDate.{julian, difference};
-ghost use Rattle.julian.specs.Calendar.{calendarOutcome, julianToCalendar};
-ghost use Rattle.c_answers.specs.Delivery.{inBytes, Delivered};
-ghost use Rattle.c_answers.specs.Fields.{calendarBytes};
+ghost use Rattle.julian.specs.Calendar.{calendar_outcome, julian_to_calendar};
+ghost use Rattle.c_answers.specs.Delivery.{in_bytes, Delivered};
+ghost use Rattle.c_answers.specs.Fields.{calendar_bytes};
 
 use crate::{fields, refused};
 use julian::{CalendarAnswer, JulianDate};
 
 fn put_calendar(found: CalendarAnswer, out: &mut [u8]) -> i64
-    ensures { Delivered (inBytes calendarBytes (calendarOutcome found)) out.old result out.new }
+    ensures { Delivered (in_bytes calendar_bytes (calendar_outcome found)) out.old result out.new }
 {
     match found {
         CalendarAnswer::Fields(shown) => fields::put_calendar(shown, out),
@@ -18,7 +18,7 @@ fn put_calendar(found: CalendarAnswer, out: &mut [u8]) -> i64
 }
 
 pub fn julian_to_calendar(jd1: f64, jd2: f64, out: &mut [u8]) -> i64
-    ensures { Delivered (inBytes calendarBytes (julianToCalendar jd1 jd2)) out.old result out.new }
+    ensures { Delivered (in_bytes calendar_bytes (julian_to_calendar jd1 jd2)) out.old result out.new }
 {
     put_calendar(julian::julian_to_calendar(jd1, jd2), out)
 }

@@ -1,22 +1,22 @@
 // The values of an answer as bytes, put at the start of a lent buffer.
 ghost use Rattle.std.specs.Prelude.{◌≡◌, ◌++◌};
 ghost use Rattle.refusals.specs.Outcome.{answer};
-ghost use Rattle.numerals.specs.little_endian.LittleEndian.{eightBytes, patternOf};
+ghost use Rattle.numerals.specs.little_endian.LittleEndian.{eight_bytes, pattern_of};
 ghost use Rattle.c_answers.specs.Delivery.{Delivered};
-ghost use Rattle.c_answers.specs.Fields.{fourBytes, dateBytes, floatBytes, julianBytes, calendarBytes};
+ghost use Rattle.c_answers.specs.Fields.{four_bytes, date_bytes, float_bytes, julian_bytes, calendar_bytes};
 
 use super::{put, refused};
 use calendar::CalendarDate;
 use julian::{CalendarFields, JulianDate};
 
 pub(crate) fn year_pattern(year: i32) -> u64
-    ensures { result ≡ patternOf year }
+    ensures { result ≡ pattern_of year }
 {
     numerals::little_endian::pattern_of_i64(year as i64)
 }
 
 fn three_numbers(a: u64, b: u32, c: u32) -> [u8; 12]
-    ensures { result ≡ fourBytes a ++ (fourBytes b ++ fourBytes c) }
+    ensures { result ≡ four_bytes a ++ (four_bytes b ++ four_bytes c) }
 {
     [
         (a % 256) as u8,
@@ -35,14 +35,14 @@ fn three_numbers(a: u64, b: u32, c: u32) -> [u8; 12]
 }
 
 pub fn put_date(date: CalendarDate, out: &mut [u8]) -> i64
-    ensures { Delivered (answer (dateBytes date)) out.old result out.new }
+    ensures { Delivered (answer (date_bytes date)) out.old result out.new }
 {
     let all = three_numbers(year_pattern(date.year), date.month, date.day);
     put(&all, out)
 }
 
 fn two_numbers(a: u32, b: u32) -> [u8; 8]
-    ensures { result ≡ fourBytes a ++ fourBytes b }
+    ensures { result ≡ four_bytes a ++ four_bytes b }
 {
     [
         (a % 256) as u8,
@@ -57,21 +57,21 @@ fn two_numbers(a: u32, b: u32) -> [u8; 8]
 }
 
 pub fn put_two_numbers(a: u32, b: u32, out: &mut [u8]) -> i64
-    ensures { Delivered (answer (fourBytes a ++ fourBytes b)) out.old result out.new }
+    ensures { Delivered (answer (four_bytes a ++ four_bytes b)) out.old result out.new }
 {
     let all = two_numbers(a, b);
     put(&all, out)
 }
 
 pub fn put_float(x: f64, out: &mut [u8]) -> i64
-    ensures { Delivered (answer (floatBytes x)) out.old result out.new }
+    ensures { Delivered (answer (float_bytes x)) out.old result out.new }
 {
     let all = numerals::little_endian::bytes_of_u64(floats::to_bits(x));
     put(&all, out)
 }
 
 pub(crate) fn two_patterns(a: u64, b: u64) -> [u8; 16]
-    ensures { result ≡ eightBytes a ++ eightBytes b }
+    ensures { result ≡ eight_bytes a ++ eight_bytes b }
 {
     [
         (a % 256) as u8,
@@ -94,14 +94,14 @@ pub(crate) fn two_patterns(a: u64, b: u64) -> [u8; 16]
 }
 
 pub fn put_julian(date: JulianDate, out: &mut [u8]) -> i64
-    ensures { Delivered (answer (julianBytes date)) out.old result out.new }
+    ensures { Delivered (answer (julian_bytes date)) out.old result out.new }
 {
     let all = two_patterns(floats::to_bits(date.jd1), floats::to_bits(date.jd2));
     put(&all, out)
 }
 
 pub fn put_calendar(shown: CalendarFields, out: &mut [u8]) -> i64
-    ensures { Delivered (answer (calendarBytes shown)) out.old result out.new }
+    ensures { Delivered (answer (calendar_bytes shown)) out.old result out.new }
 {
     if out.len() < 20 {
         return refused(refusals::NO_ROOM);

@@ -2,7 +2,7 @@
 ghost use Rattle.std.specs.Prelude.{◌≡◌};
 ghost use Rattle.refusals.specs.Outcome.{answer};
 ghost use Rattle.c_answers.specs.Delivery.{Delivered};
-ghost use Rattle.c_answers.specs.rules.RuleFields.{ruleNumber, rowPattern, ruleBytes, offsetRuleBytes, julianRuleBytes};
+ghost use Rattle.c_answers.specs.rules.RuleFields.{rule_number, row_pattern, rule_bytes, offset_rule_bytes, julian_rule_bytes};
 
 use crate::fields::{put_float, put_julian, put_two_numbers};
 use crate::refused;
@@ -10,7 +10,7 @@ use julian::JulianDate;
 use leap_table::offsets::Rule;
 
 fn rule_number(rule: Rule) -> u32
-    ensures { result ≡ ruleNumber rule }
+    ensures { result ≡ rule_number rule }
 {
     match rule {
         Rule::Absent => 0,
@@ -20,7 +20,7 @@ fn rule_number(rule: Rule) -> u32
 }
 
 fn row_pattern(rule: Rule) -> u32
-    ensures { result ≡ rowPattern rule }
+    ensures { result ≡ row_pattern rule }
 {
     match rule {
         Rule::Absent => 0xffff_ffff,
@@ -30,13 +30,13 @@ fn row_pattern(rule: Rule) -> u32
 }
 
 pub fn put_rule(rule: Rule, out: &mut [u8]) -> i64
-    ensures { Delivered (answer (ruleBytes rule)) out.old result out.new }
+    ensures { Delivered (answer (rule_bytes rule)) out.old result out.new }
 {
     put_two_numbers(rule_number(rule), row_pattern(rule), out)
 }
 
 pub fn put_offset_by_rule(seconds: f64, rule: Rule, out: &mut [u8]) -> i64
-    ensures { Delivered (answer (offsetRuleBytes (seconds, rule))) out.old result out.new }
+    ensures { Delivered (answer (offset_rule_bytes (seconds, rule))) out.old result out.new }
 {
     if out.len() < 16 {
         return refused(refusals::NO_ROOM);
@@ -47,7 +47,7 @@ pub fn put_offset_by_rule(seconds: f64, rule: Rule, out: &mut [u8]) -> i64
 }
 
 pub fn put_julian_by_rule(date: JulianDate, rule: Rule, out: &mut [u8]) -> i64
-    ensures { Delivered (answer (julianRuleBytes (date, rule))) out.old result out.new }
+    ensures { Delivered (answer (julian_rule_bytes (date, rule))) out.old result out.new }
 {
     if out.len() < 24 {
         return refused(refusals::NO_ROOM);

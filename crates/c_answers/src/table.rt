@@ -2,16 +2,16 @@
 pub mod arrays;
 
 ghost use Rattle.std.specs.Prelude.{◌≡◌, ℕ, ◌+◌, ◌*◌, ◌<◌, ◌≤◌, ◌&&◌, eqb, pos, get_or, length};
-ghost use Rattle.numerals.specs.little_endian.LittleEndian.{i32At};
-ghost use Rattle.leap_table.specs.rows.Announced.{least, rows_of, table_of, unlessRefused};
-ghost use Rattle.c_answers.specs.table.TableBytes.{ofLength, tableBytes};
+ghost use Rattle.numerals.specs.little_endian.LittleEndian.{i32_at};
+ghost use Rattle.leap_table.specs.rows.Announced.{least, rows_of, table_of, unless_refused};
+ghost use Rattle.c_answers.specs.table.TableBytes.{of_length, table_bytes};
 
 use leap_table::rows::AnnouncedRows;
 
 // The first `size` of 16 numbers from `at` on; the places past them are not read, and 0.
 fn numbers_at(bytes: &[u8], at: usize, size: usize) -> [i32; 16]
     requires { (at < 100) × (size ≤ 16) }
-    ensures { (i : ℕ) → i < size → get_or result i (pos 0) ≡ i32At bytes.now (at + 4 * i) }
+    ensures { (i : ℕ) → i < size → get_or result i (pos 0) ≡ i32_at bytes.now (at + 4 * i) }
 {
     let mut numbers = [0; 16];
     arrays::put_numbers(bytes, at, size, &mut numbers);
@@ -37,7 +37,7 @@ pub(crate) fn lend_none(first: u32, second: u32) -> bool
 
 // The rows that the bytes hold, as far as their first size goes; bytes of another length than 136 are not read.
 pub fn announced_rows_at(bytes: &[u8]) -> AnnouncedRows
-    ensures { ofLength (length bytes.now) (table_of result) ≡ tableBytes bytes.now }
+    ensures { of_length (length bytes.now) (table_of result) ≡ table_bytes bytes.now }
 {
     if bytes.len() != 136 {
         return leap_table::rows::no_rows();
@@ -60,7 +60,7 @@ pub fn announced_rows_at(bytes: &[u8]) -> AnnouncedRows
 
 // The number by which a table in so many bytes is refused, 0 if it is not: 14 the length, then those of the table.
 pub fn table_number(length: usize, rows: AnnouncedRows) -> u32
-    ensures { unlessRefused result (rows_of rows) ≡ ofLength length (table_of rows) }
+    ensures { unless_refused result (rows_of rows) ≡ of_length length (table_of rows) }
 {
     if length != 136 {
         return refusals::LENGTH_WRONG;

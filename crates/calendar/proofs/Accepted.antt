@@ -12,9 +12,9 @@ use mir.Val.{SFits, to_z, of_z}
 use mir.Facts.{to_z-of_z}
 use borrow.Author.Tests.{ltb-true, ltb-false, lt-ltb, le-ltb}
 use Rattle.refusals.specs.Outcome.{Outcome, answer, refusal}
-use Rattle.calendar.specs.Calendar.{leapYear, lengths, monthLength, daysInMonth}
-use Rattle.calendar.specs.Refusals.{validDate}
-use Rattle.calendar.specs.Answers.{checkOutcome}
+use Rattle.calendar.specs.Calendar.{leap_year, lengths, month_length, days_in_month}
+use Rattle.calendar.specs.Refusals.{valid_date}
+use Rattle.calendar.specs.Answers.{check_outcome}
 use Rattle.calendar.specs.InCalendar.{InCalendar}
 use Rattle.calendar.specs.declared.CalendarDate.{CalendarDate}
 use Rattle.calendar.specs.declared.DateCheck.{DateCheck}
@@ -23,8 +23,8 @@ use Rattle.calendar.proofs.Months.{numbers, months}
 use Rattle.calendar.proofs.Signs.{at_least_one, read-date}
 
 -- ---- the days of a month
-pub month-days : (y m : ℤ) → lt_z m (pos 1) ≡ false → daysInMonth y m ≡ monthLength y (nat_abs m)
-unfolding daysInMonth
+pub month-days : (y m : ℤ) → lt_z m (pos 1) ≡ false → days_in_month y m ≡ month_length y (nat_abs m)
+unfolding days_in_month
 month-days y (pos m) e = refl
 month-days y (negsuc m) e = let z : ◌≡◌ {A = ℕ} 0 1 = cc in absurd (omega arith)
 
@@ -35,8 +35,8 @@ short true = months (λ m. lengths true m ≤ 31) (omega arith) (omega arith) (o
 short false = months (λ m. lengths false m ≤ 31) (omega arith) (omega arith) (omega arith) (omega arith) (omega arith) (omega arith) (omega arith)
     (omega arith) (omega arith) (omega arith) (omega arith) (omega arith)
 
-pub below_one : (y m : ℤ) → lt_z m (pos 1) ≡ true → 0 ≡ daysInMonth y m
-unfolding daysInMonth lengths
+pub below_one : (y m : ℤ) → lt_z m (pos 1) ≡ true → 0 ≡ days_in_month y m
+unfolding days_in_month lengths
 below_one y (pos zero) e = refl
 below_one y (pos (suc n)) e = absurd (omega (arith, ltb-true (suc n) 1 e))
 below_one y (negsuc n) e = refl
@@ -49,56 +49,56 @@ has-days true = months (λ m. 1 ≤ lengths true m) (omega arith) (omega arith) 
 has-days false = months (λ m. 1 ≤ lengths false m) (omega arith) (omega arith) (omega arith) (omega arith) (omega arith) (omega arith) (omega arith)
     (omega arith) (omega arith) (omega arith) (omega arith) (omega arith)
 
-pub no-month : (y m : ℤ) → daysInMonth y m ≡ 0 → lt_z m (pos 1) || lt_z (pos 12) m ≡ true
-unfolding daysInMonth
-no-month y (negsuc m) e = refl
-no-month y (pos m) e = go (ltb m 1) refl (ltb 12 m) refl
+pub no_month : (y m : ℤ) → days_in_month y m ≡ 0 → lt_z m (pos 1) || lt_z (pos 12) m ≡ true
+unfolding days_in_month
+no_month y (negsuc m) e = refl
+no_month y (pos m) e = go (ltb m 1) refl (ltb 12 m) refl
   where
     go : (s : Bool) → ltb m 1 ≡ s → (t : Bool) → ltb 12 m ≡ t → s || t ≡ true
     go true p t q = refl
     go false p true q = refl
-    go false p false q = absurd (omega (arith, has-days (leapYear y) m (ltb-false m 1 p) (ltb-false 12 m q), e))
+    go false p false q = absurd (omega (arith, has-days (leap_year y) m (ltb-false m 1 p) (ltb-false 12 m q), e))
 
 a-month-number : (b : Bool) (m : ℕ) → (lengths b m ≡ 0 → ⊥) → lt_z (pos m) (pos 1) || lt_z (pos 12) (pos m) ≡ false
 unfolding lengths
 a-month-number b = numbers (λ m. (lengths b m ≡ 0 → ⊥) → lt_z (pos m) (pos 1) || lt_z (pos 12) (pos m) ≡ false) (λ e. absurd (e refl)) (λ e. refl) (λ e. refl)
     (λ e. refl) (λ e. refl) (λ e. refl) (λ e. refl) (λ e. refl) (λ e. refl) (λ e. refl) (λ e. refl) (λ e. refl) (λ e. refl) (λ n e. absurd (e refl))
 
-pub a-month : (y m : ℤ) → (daysInMonth y m ≡ 0 → ⊥) → lt_z m (pos 1) || lt_z (pos 12) m ≡ false
-unfolding daysInMonth
-a-month y (pos m) e = a-month-number (leapYear y) m e
+pub a-month : (y m : ℤ) → (days_in_month y m ≡ 0 → ⊥) → lt_z m (pos 1) || lt_z (pos 12) m ≡ false
+unfolding days_in_month
+a-month y (pos m) e = a-month-number (leap_year y) m e
 a-month y (negsuc m) e = absurd (e refl)
 
 -- ---- each refusal by its test
 module _ (y m d : ℤ) where
-  pub year-refused : lt_z y (negsuc 4798) ≡ true → refusal 1 ≡ validDate y m d
-  unfolding validDate
+  pub year-refused : lt_z y (negsuc 4798) ≡ true → refusal 1 ≡ valid_date y m d
+  unfolding valid_date
   year-refused p = rw p
 
-  pub month-refused : lt_z y (negsuc 4798) ≡ false → daysInMonth y m ≡ 0 → refusal 2 ≡ validDate y m d
-  unfolding validDate
-  month-refused p q = rw (p, no-month y m q)
+  pub month-refused : lt_z y (negsuc 4798) ≡ false → days_in_month y m ≡ 0 → refusal 2 ≡ valid_date y m d
+  unfolding valid_date
+  month-refused p q = rw (p, no_month y m q)
 
-  pub low-day-refused : lt_z y (negsuc 4798) ≡ false → (daysInMonth y m ≡ 0 → ⊥) → lt_z d (pos 1) ≡ true → refusal 3 ≡ validDate y m d
-  unfolding validDate
+  pub low-day-refused : lt_z y (negsuc 4798) ≡ false → (days_in_month y m ≡ 0 → ⊥) → lt_z d (pos 1) ≡ true → refusal 3 ≡ valid_date y m d
+  unfolding valid_date
   low-day-refused p q r = rw (p, a-month y m q, r)
 
-  pub high-day-refused : lt_z y (negsuc 4798) ≡ false → (daysInMonth y m ≡ 0 → ⊥) → lt_z d (pos 1) ≡ false → lt_z (pos (daysInMonth y m)) d ≡ true
-      → refusal 3 ≡ validDate y m d
-  unfolding validDate
+  pub high-day-refused : lt_z y (negsuc 4798) ≡ false → (days_in_month y m ≡ 0 → ⊥) → lt_z d (pos 1) ≡ false → lt_z (pos (days_in_month y m)) d ≡ true
+      → refusal 3 ≡ valid_date y m d
+  unfolding valid_date
   high-day-refused p q r s = rw (p, a-month y m q, r, s)
 
-  pub not-refused : lt_z y (negsuc 4798) ≡ false → (daysInMonth y m ≡ 0 → ⊥) → lt_z d (pos 1) ≡ false → lt_z (pos (daysInMonth y m)) d ≡ false
-      → answer tt ≡ validDate y m d
-  unfolding validDate
-  not-refused p q r s = rw (p, a-month y m q, r, s)
+  pub not_refused : lt_z y (negsuc 4798) ≡ false → (days_in_month y m ≡ 0 → ⊥) → lt_z d (pos 1) ≡ false → lt_z (pos (days_in_month y m)) d ≡ false
+      → answer tt ≡ valid_date y m d
+  unfolding valid_date
+  not_refused p q r s = rw (p, a-month y m q, r, s)
 
 -- the day against the last of its month
 pub past-last : (n k : ℕ) (d : ℤ) → lt_z d (pos 1) ≡ false → k ≡ n → k < nat_abs d → lt_z (pos n) d ≡ true
 past-last n k d p e h = rw (at_least_one d p).0 (lt-ltb n (nat_abs d) (omega arith))
 
-pub up-to-last : (n k : ℕ) (d : ℤ) → lt_z d (pos 1) ≡ false → k ≡ n → nat_abs d ≤ k → lt_z (pos n) d ≡ false
-up-to-last n k d p e h = rw (at_least_one d p).0 (le-ltb n (nat_abs d) (omega arith))
+pub up_to_last : (n k : ℕ) (d : ℤ) → lt_z d (pos 1) ≡ false → k ≡ n → nat_abs d ≤ k → lt_z (pos n) d ≡ false
+up_to_last n k d p e h = rw (at_least_one d p).0 (le-ltb n (nat_abs d) (omega arith))
 
 -- ---- a date that is not refused
 all-false : (a b c d e : Bool) → ◌≡◌ {A = Outcome Unit} (cond a (refusal 1) (cond (b || c) (refusal 2) (cond (d || e) (refusal 3) (answer tt)))) (answer tt)
@@ -117,51 +117,51 @@ at_most n (negsuc k) p q = let z : ◌≡◌ {A = ℕ} 0 1 = cc in absurd (omega
 pub record Accepted (y m d : ℤ) : Type 0 where
   pub year : lt_z y (negsuc 4798) ≡ false
   pub m-sign : lt_z m (pos 1) ≡ false
-  pub m-low : 1 ≤ nat_abs m
-  pub m-high : nat_abs m ≤ 12
-  pub d-sign : lt_z d (pos 1) ≡ false
-  pub d-low : 1 ≤ nat_abs d
-  pub d-high : nat_abs d ≤ monthLength y (nat_abs m)
+  pub m_low : 1 ≤ nat_abs m
+  pub m_high : nat_abs m ≤ 12
+  pub d_sign : lt_z d (pos 1) ≡ false
+  pub d_low : 1 ≤ nat_abs d
+  pub d_high : nat_abs d ≤ month_length y (nat_abs m)
 
-pub date-accepted : (y m d : ℤ) → validDate y m d ≡ answer tt → Accepted y m d
-unfolding validDate
+pub date-accepted : (y m d : ℤ) → valid_date y m d ≡ answer tt → Accepted y m d
+unfolding valid_date
 date-accepted y m d e =
-    let f = all-false (lt_z y (negsuc 4798)) (lt_z m (pos 1)) (lt_z (pos 12) m) (lt_z d (pos 1)) (lt_z (pos (daysInMonth y m)) d) e in
-    let h : nat_abs d ≤ daysInMonth y m = at_most (daysInMonth y m) d f.3 f.4 in
+    let f = all-false (lt_z y (negsuc 4798)) (lt_z m (pos 1)) (lt_z (pos 12) m) (lt_z d (pos 1)) (lt_z (pos (days_in_month y m)) d) e in
+    let h : nat_abs d ≤ days_in_month y m = at_most (days_in_month y m) d f.3 f.4 in
     record {
       year = f.0;
       m-sign = f.1;
-      m-low = (at_least_one m f.1).1;
-      m-high = at_most 12 m f.1 f.2;
-      d-sign = f.3;
-      d-low = (at_least_one d f.3).1;
-      d-high = subst (λ (n : ℕ). nat_abs d ≤ n) (month-days y m f.1) h;
+      m_low = (at_least_one m f.1).1;
+      m_high = at_most 12 m f.1 f.2;
+      d_sign = f.3;
+      d_low = (at_least_one d f.3).1;
+      d_high = subst (λ (n : ℕ). nat_abs d ≤ n) (month-days y m f.1) h;
     }
 
 -- ---- a date of the calendar is refused only for its year
-pub in-calendar-valid : (t : CalendarDate) → InCalendar t → lt_z t.year (negsuc 4798) ≡ false
-    → validDate t.year (pos t.month) (pos t.day) ≡ answer tt
-unfolding validDate daysInMonth
-in-calendar-valid t g e =
+pub in_calendar_valid : (t : CalendarDate) → InCalendar t → lt_z t.year (negsuc 4798) ≡ false
+    → valid_date t.year (pos t.month) (pos t.day) ≡ answer tt
+unfolding valid_date days_in_month
+in_calendar_valid t g e =
     rw (
       e,
-      le-ltb t.month 1 g.m-low,
-      le-ltb 12 t.month g.m-high,
-      le-ltb t.day 1 g.d-low,
-      le-ltb (monthLength t.year t.month) t.day g.d-high,
+      le-ltb t.month 1 g.m_low,
+      le-ltb 12 t.month g.m_high,
+      le-ltb t.day 1 g.d_low,
+      le-ltb (month_length t.year t.month) t.day g.d_high,
     )
 
 -- ---- the machine hands a call its arguments read back from their bits
-pub read-two : (y m : ℤ) → SFits w32 y → SFits w32 m → daysInMonth (to_z w32 (of_z w32 y)) (to_z w32 (of_z w32 m)) ≡ daysInMonth y m
-read-two y m f g = λ i. daysInMonth (to_z-of_z f i) (to_z-of_z g i)
+pub read-two : (y m : ℤ) → SFits w32 y → SFits w32 m → days_in_month (to_z w32 (of_z w32 y)) (to_z w32 (of_z w32 m)) ≡ days_in_month y m
+read-two y m f g = λ i. days_in_month (to_z-of_z f i) (to_z-of_z g i)
 
 -- what the check says, at a call
 module _ (y m d : ℤ) (f : SFits w32 y) (g : SFits w32 m) (h : SFits w32 d) (r : DateCheck)
-    (e : checkOutcome r ≡ validDate (to_z w32 (of_z w32 y)) (to_z w32 (of_z w32 m)) (to_z w32 (of_z w32 d))) where
-  pub is-valid : r ≡ Check.Valid → validDate y m d ≡ answer tt
-  unfolding checkOutcome
-  is-valid p = sym (ap checkOutcome (sym p) ∙ e ∙ read-date validDate y m d f g h)
+    (e : check_outcome r ≡ valid_date (to_z w32 (of_z w32 y)) (to_z w32 (of_z w32 m)) (to_z w32 (of_z w32 d))) where
+  pub is-valid : r ≡ Check.Valid → valid_date y m d ≡ answer tt
+  unfolding check_outcome
+  is-valid p = sym (ap check_outcome (sym p) ∙ e ∙ read-date valid_date y m d f g h)
 
-  pub is-refused : (k : ℕ) → r ≡ Check.Refused k → validDate y m d ≡ refusal k
-  unfolding checkOutcome
-  is-refused k p = sym (ap checkOutcome (sym p) ∙ e ∙ read-date validDate y m d f g h)
+  pub is-refused : (k : ℕ) → r ≡ Check.Refused k → valid_date y m d ≡ refusal k
+  unfolding check_outcome
+  is-refused k p = sym (ap check_outcome (sym p) ∙ e ∙ read-date valid_date y m d f g h)

@@ -14,35 +14,35 @@ use mir.Facts.{to_z-of_z}
 use borrow.Author.Tests.{ne_eqb, ltb-true, ltb-false, lt-ltb, le-ltb}
 
 -- ---- division of an i32 by a positive number
-mag-neg : (r a : ℕ) → r ≤ suc a → mag (neg_ℤ (pos r)) ≤ a
-mag-neg zero a h = omega arith
-mag-neg (suc r) a h = omega arith
+mag_neg : (r a : ℕ) → r ≤ suc a → mag (neg_ℤ (pos r)) ≤ a
+mag_neg zero a h = omega arith
+mag_neg (suc r) a h = omega arith
 
-mag-quot : (z : ℤ) (k : ℕ) → mag (quot_z z (pos k)) ≤ mag z
-mag-quot (pos a) k = div-le_self a k
-mag-quot (negsuc a) k = mag-neg (suc a / k) a (div-le_self (suc a) k)
+mag_quot : (z : ℤ) (k : ℕ) → mag (quot_z z (pos k)) ≤ mag z
+mag_quot (pos a) k = div-le_self a k
+mag_quot (negsuc a) k = mag_neg (suc a / k) a (div-le_self (suc a) k)
 
 pub quot_fits : (z : ℤ) (k : ℕ) → SFits w32 z → SFits w32 (quot_z (to_z w32 (of_z w32 z)) (pos k))
-quot_fits z k f = rw (to_z-of_z f) (record { sfits = omega (arith, mag-quot z k, f.sfits) })
+quot_fits z k f = rw (to_z-of_z f) (record { sfits = omega (arith, mag_quot z k, f.sfits) })
 
-neg-zero : (r : ℕ) → r ≤ 2147483648 → eqb (of_z w32 (neg_ℤ (pos r))) 0 ≡ eqb r 0
-neg-zero zero h = refl
-neg-zero (suc r) h = ne_eqb (4294967296 - suc r) 0 (λ e. omega arith) ∙ sym (ne_eqb (suc r) 0 (λ e. omega arith))
+neg_zero : (r : ℕ) → r ≤ 2147483648 → eqb (of_z w32 (neg_ℤ (pos r))) 0 ≡ eqb r 0
+neg_zero zero h = refl
+neg_zero (suc r) h = ne_eqb (4294967296 - suc r) 0 (λ e. omega arith) ∙ sym (ne_eqb (suc r) 0 (λ e. omega arith))
 
-rem-at : (z : ℤ) (k : ℕ) → mag z < 2147483648 → eqb (of_z w32 (rem_z z (pos k))) 0 ≡ eqb (nat_abs z % k) 0
-rem-at (pos a) k h = refl
-rem-at (negsuc a) k h = neg-zero (suc a % k) (omega (arith, mod-le (suc a) k))
+rem_at : (z : ℤ) (k : ℕ) → mag z < 2147483648 → eqb (of_z w32 (rem_z z (pos k))) 0 ≡ eqb (nat_abs z % k) 0
+rem_at (pos a) k h = refl
+rem_at (negsuc a) k h = neg_zero (suc a % k) (omega (arith, mod-le (suc a) k))
 
 -- whether it divides is a matter of the size
-pub rem-zero : (z : ℤ) (k : ℕ) → SFits w32 z → eqb (of_z w32 (rem_z (to_z w32 (of_z w32 z)) (pos k))) 0 ≡ eqb (nat_abs z % k) 0
-rem-zero z k f = rw (to_z-of_z f) (rem-at z k f.sfits)
+pub rem_zero : (z : ℤ) (k : ℕ) → SFits w32 z → eqb (of_z w32 (rem_z (to_z w32 (of_z w32 z)) (pos k))) 0 ≡ eqb (nat_abs z % k) 0
+rem_zero z k f = rw (to_z-of_z f) (rem_at z k f.sfits)
 
 -- ---- tests and casts of an i32: the machine reads the number back from its bits
-pub lt-left : {w : Width} (z b : ℤ) (t : Bool) → SFits w z → lt_z (to_z w (of_z w z)) b ≡ t → lt_z z b ≡ t
-lt-left z b t f e = ap (λ (x : ℤ). lt_z x b) (sym (to_z-of_z f)) ∙ e
+pub lt_left : {w : Width} (z b : ℤ) (t : Bool) → SFits w z → lt_z (to_z w (of_z w z)) b ≡ t → lt_z z b ≡ t
+lt_left z b t f e = ap (λ (x : ℤ). lt_z x b) (sym (to_z-of_z f)) ∙ e
 
-pub lt-right : {w : Width} (a z : ℤ) (t : Bool) → SFits w z → lt_z a (to_z w (of_z w z)) ≡ t → lt_z a z ≡ t
-lt-right a z t f e = ap (λ (x : ℤ). lt_z a x) (sym (to_z-of_z f)) ∙ e
+pub lt_right : {w : Width} (a z : ℤ) (t : Bool) → SFits w z → lt_z a (to_z w (of_z w z)) ≡ t → lt_z a z ≡ t
+lt_right a z t f e = ap (λ (x : ℤ). lt_z a x) (sym (to_z-of_z f)) ∙ e
 
 -- a number that is not below 1 is positive
 pub at_least_one : (z : ℤ) → lt_z z (pos 1) ≡ false → (z ≡ pos (nat_abs z)) × (1 ≤ nat_abs z)
@@ -90,9 +90,9 @@ own-size (pos n) = le-ltb n n (le_refl n)
 own-size (negsuc n) = refl
 
 -- an i32 is at most 2147483647
-pub at-most-i32 : (z : ℤ) → SFits w32 z → lt_z (pos 2147483647) z ≡ false
-at-most-i32 (pos n) f = le-ltb 2147483647 n (omega (arith, f.sfits))
-at-most-i32 (negsuc n) f = refl
+pub at_most_i32 : (z : ℤ) → SFits w32 z → lt_z (pos 2147483647) z ≡ false
+at_most_i32 (pos n) f = le-ltb 2147483647 n (omega (arith, f.sfits))
+at_most_i32 (negsuc n) f = refl
 
 -- the machine's sum, where it comes to r
 pub sum_fits : (x z : ℤ) (k r : ℕ) → x ≡ z → z +ℤ pos k ≡ pos r → r < 2 ^ 63 → SFits w64 (x +ℤ pos k)
@@ -113,8 +113,8 @@ lowered n k b h l = go (ltb n k) refl
     go false e = omega arith
 
 -- both numbers moved by k
-pub sub-shift : (a b k : ℕ) → sub_ℕ (a + k) (b + k) ≡ sub_ℕ a b
-sub-shift a b k = go (ltb a b) refl
+pub sub_shift : (a b k : ℕ) → sub_ℕ (a + k) (b + k) ≡ sub_ℕ a b
+sub_shift a b k = go (ltb a b) refl
   where
     go : (t : Bool) → ltb a b ≡ t → cond (ltb (a + k) (b + k)) (negsuc (b + k - suc (a + k))) (pos (a + k - (b + k))) ≡ cond t (negsuc (b - suc a))
         (pos (a - b))

@@ -9,14 +9,14 @@ use Rattle.calendar.specs.declared.MjdAnswer.TheVariants as Mjd
 use Rattle.calendar.specs.declared.NextDay.{NextDay}
 use Rattle.calendar.specs.declared.NextDay.TheVariants as Next
 
-unfoldable pub checkOutcome : DateCheck → Outcome Unit
-checkOutcome Check.Valid = answer tt
-checkOutcome (Check.Refused number) = refusal number
+unfoldable pub check_outcome : DateCheck → Outcome Unit
+check_outcome Check.Valid = answer tt
+check_outcome (Check.Refused number) = refusal number
 
-unfoldable pub mjdOutcome : MjdAnswer → Outcome ℤ
-mjdOutcome (Mjd.Mjd n) = answer n
-mjdOutcome (Mjd.Refused number) = refusal number
+unfoldable pub mjd_outcome : MjdAnswer → Outcome ℤ
+mjd_outcome (Mjd.Mjd n) = answer n
+mjd_outcome (Mjd.Refused number) = refusal number
 
-unfoldable pub nextOutcome : NextDay → Outcome CalendarDate
-nextOutcome (Next.Date t) = answer t
-nextOutcome (Next.Refused number) = refusal number
+unfoldable pub next_outcome : NextDay → Outcome CalendarDate
+next_outcome (Next.Date t) = answer t
+next_outcome (Next.Refused number) = refusal number

@@ -2,11 +2,11 @@
 // integers of `calendar_to_julian`, and `gregorian_date`.
 ghost use Rattle.std.specs.Prelude.{◌≡◌, false, ◌<◌, ◌≤◌, pos, negsuc, ◌+ℤ◌, ◌-ℤ◌};
 ghost use Rattle.std.specs.Int.Signed.{lt_z};
-ghost use Rattle.calendar.specs.Calendar.{leapYear, monthLength, daysInMonth};
-ghost use Rattle.calendar.specs.Refusals.{validDate, next_of};
-ghost use Rattle.calendar.specs.DayCount.{marchCount, civilCount, mjdOf};
-ghost use Rattle.calendar.specs.Gregorian.{gregorianDate, shiftedDate};
-ghost use Rattle.calendar.specs.Answers.{checkOutcome, mjdOutcome, nextOutcome};
+ghost use Rattle.calendar.specs.Calendar.{leap_year, month_length, days_in_month};
+ghost use Rattle.calendar.specs.Refusals.{valid_date, next_of};
+ghost use Rattle.calendar.specs.DayCount.{march_count, civil_count, mjd_of};
+ghost use Rattle.calendar.specs.Gregorian.{gregorian_date, shifted_date};
+ghost use Rattle.calendar.specs.Answers.{check_outcome, mjd_outcome, next_outcome};
 
 // A date of the proleptic Gregorian calendar.
 #[derive(Drop)]
@@ -39,14 +39,14 @@ pub enum MjdAnswer {
 
 // Whether the year has a 29 February; year 0 and those below it follow the same rule.
 pub fn is_leap_year(year: i32) -> bool
-    ensures { result ≡ leapYear year }
+    ensures { result ≡ leap_year year }
 {
     (year % 4 == 0) && (year % 100 != 0 || year % 400 == 0)
 }
 
 // The days of month 1 to 12; 0 for any other.
 fn month_length(year: i32, month: u32) -> u32
-    ensures { result ≡ monthLength year month }
+    ensures { result ≡ month_length year month }
 {
     match month {
         1 | 3 | 5 | 7 | 10 | 12 => 31,
@@ -60,7 +60,7 @@ fn month_length(year: i32, month: u32) -> u32
 
 // The days of a month; 0 where the Rust says that there is no such month.
 pub fn days_in_month(year: i32, month: i32) -> u32
-    ensures { result ≡ daysInMonth year month }
+    ensures { result ≡ days_in_month year month }
 {
     if month < 1 {
         return 0;
@@ -70,7 +70,7 @@ pub fn days_in_month(year: i32, month: i32) -> u32
 
 // Refusals in order: 1 the year, 2 the month, 3 the day.
 pub fn validate_calendar_date(year: i32, month: i32, day: i32) -> DateCheck
-    ensures { checkOutcome result ≡ validDate year month day }
+    ensures { check_outcome result ≡ valid_date year month day }
 {
     if year < -4799 {
         return DateCheck::Refused(refusals::YEAR_BEFORE_FIRST);
@@ -99,7 +99,7 @@ fn raised_year(year: i32) -> u64
 // The days before a date of a year that begins in March; y is that year + 4800, and m is 1 for March.
 fn march_count(y: u64, m: u64, d: u64) -> u64
     requires { (y < 4294967296) × (m ≤ 12) × (d ≤ 31) }
-    ensures { (result ≡ marchCount y m d) × (result < 4611686018427387904) }
+    ensures { (result ≡ march_count y m d) × (result < 4611686018427387904) }
 {
     (1461 * y) / 4 + (367 * m) / 12 - (3 * ((y + 100) / 100)) / 4 + d
 }
@@ -107,7 +107,7 @@ fn march_count(y: u64, m: u64, d: u64) -> u64
 // The same count by the months of the calendar: January and February end the March year before.
 fn civil_count(y: u64, month: u32, day: u32) -> u64
     requires { (1 ≤ y) × (y < 4294967296) × (1 ≤ month) × (month ≤ 12) × (day ≤ 31) }
-    ensures { (result ≡ civilCount y month day) × (result < 4611686018427387904) }
+    ensures { (result ≡ civil_count y month day) × (result < 4611686018427387904) }
 {
     if month <= 2 {
         march_count(y - 1, month as u64 + 10, day as u64)
@@ -126,7 +126,7 @@ fn count_to_mjd(n: u64) -> i64
 
 // The integer of the Rust's `calendar_to_julian`.
 pub fn modified_julian_day(year: i32, month: i32, day: i32) -> MjdAnswer
-    ensures { mjdOutcome result ≡ mjdOf year month day }
+    ensures { mjd_outcome result ≡ mjd_of year month day }
 {
     match validate_calendar_date(year, month, day) {
         DateCheck::Refused(number) => MjdAnswer::Refused(number),
@@ -159,7 +159,7 @@ fn lowered_year(y: u32) -> i32
 // 80 and (k + 5) / 16 is k / 11.
 fn date_of_shifted_day(l: u32) -> CalendarDate
     requires { l ≤ 1000068569 }
-    ensures { result ≡ shiftedDate l }
+    ensures { result ≡ shifted_date l }
 {
     let n = (4 * l) / 146097;
     let a = l - (146097 * n + 3) / 4;
@@ -175,7 +175,7 @@ fn date_of_shifted_day(l: u32) -> CalendarDate
 
 // The date of a day number. The Rust's callers hand it -68570 to 1,000,000,000, and at -68570 it says -4900-02-30; a number outside is taken to the nearer end.
 pub fn gregorian_date(jd: i64) -> CalendarDate
-    ensures { result ≡ gregorianDate jd }
+    ensures { result ≡ gregorian_date jd }
 {
     if jd < -68569 {
         return CalendarDate {
@@ -192,7 +192,7 @@ pub fn gregorian_date(jd: i64) -> CalendarDate
 
 // Refusals in order: 1, 2, 3, then 5 after the last day of year 2147483647.
 pub fn next_calendar_day(year: i32, month: i32, day: i32) -> NextDay
-    ensures { nextOutcome result ≡ next_of year month day }
+    ensures { next_outcome result ≡ next_of year month day }
 {
     if let DateCheck::Refused(number) = validate_calendar_date(year, month, day) {
         return NextDay::Refused(number);

@@ -11,15 +11,15 @@ use mir.Facts.{to_z_pos}
 use Rattle.refusals.specs.Outcome.{answer, refusal}
 use Rattle.ticks.specs.declared.places.PlacesAnswer.{PlacesAnswer}
 use Rattle.ticks.specs.declared.places.PlacesAnswer.TheVariants.{Written, Refused}
-use Rattle.ticks.specs.places.Places.{PlacesCall, placesOutcome, placesCall, placedRun}
+use Rattle.ticks.specs.places.Places.{PlacesCall, places_outcome, places_call, placed_run}
 use Rattle.ticks.proofs.places.Ladder.{run-count}
 use Rattle.c_answers.specs.Delivery.{code}
 use Rattle.c_answers.proofs.Deliveries.{code-back}
 use Rattle.capi.specs.PlacesDelivery.{PlacesDelivered}
 
 module _ (ps ls ms before ns : List ℕ) {after ns' : List ℕ} (res : PlacesAnswer)
-    (e : placesCall (placesOutcome res) after ns' ≡ placedRun ps ls ms before ns) where
-  ended : (r : ℤ) → r ≡ code (placesOutcome res) → PlacesDelivered (placedRun ps ls ms before ns) r after ns'
+    (e : places_call (places_outcome res) after ns' ≡ placed_run ps ls ms before ns) where
+  ended : (r : ℤ) → r ≡ code (places_outcome res) → PlacesDelivered (placed_run ps ls ms before ns) r after ns'
   ended r h = record {
     returned = h ∙ ap (λ (x : PlacesCall). code x.answer) e;
     placed = ap (λ (x : PlacesCall). x.out) e;
@@ -27,14 +27,14 @@ module _ (ps ls ms before ns : List ℕ) {after ns' : List ℕ} (res : PlacesAns
   }
 
   pub places-counted : (j : ℕ) → res ≡ Written j → j ≤ length ms / 8
-  unfolding placesOutcome
-  places-counted j i = run-count ps ls ms before ns j (sym (ap placesOutcome i) ∙ ap (λ (x : PlacesCall). x.answer) e)
+  unfolding places_outcome
+  places-counted j i = run-count ps ls ms before ns j (sym (ap places_outcome i) ∙ ap (λ (x : PlacesCall). x.answer) e)
 
-  pub places-written : (j : ℕ) → res ≡ Written j → j < 2 ^ 63 → PlacesDelivered (placedRun ps ls ms before ns) (to_z w64 j) after ns'
-  unfolding placesOutcome code
-  places-written j i b = ended (to_z w64 j) (to_z_pos w64 {n = j} b ∙ sym (ap (λ (x : PlacesAnswer). code (placesOutcome x)) i))
+  pub places-written : (j : ℕ) → res ≡ Written j → j < 2 ^ 63 → PlacesDelivered (placed_run ps ls ms before ns) (to_z w64 j) after ns'
+  unfolding places_outcome code
+  places-written j i b = ended (to_z w64 j) (to_z_pos w64 {n = j} b ∙ sym (ap (λ (x : PlacesAnswer). code (places_outcome x)) i))
 
   pub places-refused : {r : ℤ} (j : ℕ) → mag r < 2 ^ 63 → res ≡ Refused j → r ≡ code (refusal j)
-      → PlacesDelivered (placedRun ps ls ms before ns) (to_z w64 (of_z w64 r)) after ns'
-  unfolding placesOutcome
-  places-refused {r} j ok i c = ended (to_z w64 (of_z w64 r)) (code-back ok ∙ c ∙ sym (ap (λ (x : PlacesAnswer). code (placesOutcome x)) i))
+      → PlacesDelivered (placed_run ps ls ms before ns) (to_z w64 (of_z w64 r)) after ns'
+  unfolding places_outcome
+  places-refused {r} j ok i c = ended (to_z w64 (of_z w64 r)) (code-back ok ∙ c ∙ sym (ap (λ (x : PlacesAnswer). code (places_outcome x)) i))

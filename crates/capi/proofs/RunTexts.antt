@@ -13,21 +13,21 @@ use mir.Facts.{to_z_pos}
 use borrow.Author.Tests.{le-leb, lt-leb}
 use Rattle.refusals.specs.Outcome.{Outcome, answer, refusal, onward}
 use Rattle.leap_table.specs.rows.Table.{Row}
-use Rattle.leap_table.specs.rows.Announced.{unlessRefused}
+use Rattle.leap_table.specs.rows.Announced.{unless_refused}
 use Rattle.utc.specs.declared.iso_texts.NamedForm.{NamedForm}
 use Rattle.utc.specs.declared.run_texts.RunTextsAnswer.{RunTextsAnswer}
 use Rattle.utc.specs.declared.run_texts.RunTextsAnswer.TheVariants.{Written, Refused}
-use Rattle.utc.specs.iso_texts.Named.{formNamed}
-use Rattle.utc.specs.run_texts.RunTexts.{TextsCall, textsOutcome, textsCall, textsBy, textsOfRun}
+use Rattle.utc.specs.iso_texts.Named.{form_named}
+use Rattle.utc.specs.run_texts.RunTexts.{TextsCall, texts_outcome, texts_call, texts_by, texts_of_run}
 use Rattle.utc.proofs.run_texts.Calls.{run-count, table-refused, table_taken}
-use Rattle.c_answers.specs.table.TableBytes.{tableBytes}
+use Rattle.c_answers.specs.table.TableBytes.{table_bytes}
 use Rattle.c_answers.specs.Delivery.{code}
 use Rattle.c_answers.proofs.Deliveries.{code-back}
-use Rattle.capi.specs.TextsDelivery.{formNumbered, textsByNumber, TextsDelivered}
+use Rattle.capi.specs.TextsDelivery.{form_numbered, texts_by_number, TextsDelivered}
 
 -- a call that ends so is delivered by its code
-ended : (c : TextsCall) (res : RunTextsAnswer) (r : ℤ) (texts lengths numbers : List ℕ) → textsCall (textsOutcome res) texts lengths numbers ≡ c
-    → r ≡ code (textsOutcome res) → TextsDelivered c r texts lengths numbers
+ended : (c : TextsCall) (res : RunTextsAnswer) (r : ℤ) (texts lengths numbers : List ℕ) → texts_call (texts_outcome res) texts lengths numbers ≡ c
+    → r ≡ code (texts_outcome res) → TextsDelivered c r texts lengths numbers
 ended c res r texts lengths numbers e h = record {
   returned = h ∙ ap (λ (x : TextsCall). code x.answer) e;
   first = ap (λ (x : TextsCall). x.texts) e;
@@ -36,61 +36,61 @@ ended c res r texts lengths numbers e h = record {
 }
 
 -- what is said where there is no such form
-abbrev no-form : Outcome (List Row) → Outcome ℕ
-no-form o = onward o (λ rows. refusal 18)
+abbrev no_form : Outcome (List Row) → Outcome ℕ
+no_form o = onward o (λ rows. refusal 18)
 
 -- a table's refusal before that
-table-first : (rows : List Row) (n : ℕ) → (n ≡ 0 → ⊥) → refusal n ≡ no-form (unlessRefused n rows)
+table-first : (rows : List Row) (n : ℕ) → (n ≡ 0 → ⊥) → refusal n ≡ no_form (unless_refused n rows)
 unfolding onward
 table-first rows zero h = absurd (h refl)
 table-first rows (suc k) h = refl
 
 -- the rows and the number n that the code reads in the bytes s; the form's number, the parts and the three buffers
-module _ (s : List ℕ) (rows : List Row) (n : ℕ) (judged : unlessRefused n rows ≡ tableBytes s) (f : ℕ) (js ks b1 b2 b3 : List ℕ) where
+module _ (s : List ℕ) (rows : List Row) (n : ℕ) (judged : unless_refused n rows ≡ table_bytes s) (f : ℕ) (js ks b1 b2 b3 : List ℕ) where
   abbrev asked : TextsCall
-  asked = textsByNumber f (tableBytes s) js ks b1 b2 b3
+  asked = texts_by_number f (table_bytes s) js ks b1 b2 b3
 
   -- the table is refused, whatever the form
   pub texts-table-refused : {r : ℤ} → mag r < 2 ^ 63 → (n ≡ 0 → ⊥) → r ≡ code (refusal n) → TextsDelivered asked (to_z w64 (of_z w64 r)) b1 b2 b3
-  unfolding textsByNumber textsOutcome
+  unfolding texts_by_number texts_outcome
   texts-table-refused {r} ok h c = go (leb f 2)
     where
-      none : textsCall (refusal n) b1 b2 b3 ≡ textsCall (no-form (tableBytes s)) b1 b2 b3
-      none = ap (λ (x : Outcome ℕ). textsCall x b1 b2 b3) (table-first rows n h ∙ ap no-form judged)
+      none : texts_call (refusal n) b1 b2 b3 ≡ texts_call (no_form (table_bytes s)) b1 b2 b3
+      none = ap (λ (x : Outcome ℕ). texts_call x b1 b2 b3) (table-first rows n h ∙ ap no_form judged)
 
-      go : (b : Bool) → TextsDelivered (cond b (textsOfRun (formNamed (formNumbered f)) (tableBytes s) js ks b1 b2 b3)
-          (textsCall (no-form (tableBytes s)) b1 b2 b3)) (to_z w64 (of_z w64 r)) b1 b2 b3
+      go : (b : Bool) → TextsDelivered (cond b (texts_of_run (form_named (form_numbered f)) (table_bytes s) js ks b1 b2 b3)
+          (texts_call (no_form (table_bytes s)) b1 b2 b3)) (to_z w64 (of_z w64 r)) b1 b2 b3
       go true = ended _ (Refused n) (to_z w64 (of_z w64 r)) b1 b2 b3
-          (table-refused (tableBytes s) rows n judged (formNamed (formNumbered f)) js ks b1 b2 b3 h) (code-back ok ∙ c)
+          (table-refused (table_bytes s) rows n judged (form_named (form_numbered f)) js ks b1 b2 b3 h) (code-back ok ∙ c)
       go false = ended _ (Refused n) (to_z w64 (of_z w64 r)) b1 b2 b3 none (code-back ok ∙ c)
 
   -- there is no such form
   pub texts-form-refused : {r : ℤ} → mag r < 2 ^ 63 → n ≡ 0 → 2 < f → r ≡ code (refusal 18) → TextsDelivered asked (to_z w64 (of_z w64 r)) b1 b2 b3
-  unfolding textsByNumber textsOutcome onward
+  unfolding texts_by_number texts_outcome onward
   texts-form-refused {r} ok h k c =
       ended asked (Refused 18) (to_z w64 (of_z w64 r)) b1 b2 b3
-      (ap (λ (m : ℕ). textsCall (no-form (unlessRefused m rows)) b1 b2 b3) (sym h)
-      ∙ ap (λ (x : Outcome (List Row)). textsCall (no-form x) b1 b2 b3) judged ∙ rw (lt-leb f 2 k))
+      (ap (λ (m : ℕ). texts_call (no_form (unless_refused m rows)) b1 b2 b3) (sym h)
+      ∙ ap (λ (x : Outcome (List Row)). texts_call (no_form x) b1 b2 b3) judged ∙ rw (lt-leb f 2 k))
       (code-back ok ∙ c)
 
-  module _ (h : n ≡ 0) (k : f ≤ 2) (form : NamedForm) (same : form ≡ formNumbered f) {texts lengths numbers : List ℕ} (res : RunTextsAnswer)
-      (e : textsCall (textsOutcome res) texts lengths numbers ≡ textsBy (formNamed form) rows js ks b1 b2 b3) where
-    goes : textsCall (textsOutcome res) texts lengths numbers ≡ asked
-    unfolding textsByNumber
-    goes = e ∙ ap (λ (x : NamedForm). textsBy (formNamed x) rows js ks b1 b2 b3) same
-        ∙ table_taken (tableBytes s) rows n judged (formNamed (formNumbered f)) js ks b1 b2 b3 h ∙ rw (le-leb f 2 k)
+  module _ (h : n ≡ 0) (k : f ≤ 2) (form : NamedForm) (same : form ≡ form_numbered f) {texts lengths numbers : List ℕ} (res : RunTextsAnswer)
+      (e : texts_call (texts_outcome res) texts lengths numbers ≡ texts_by (form_named form) rows js ks b1 b2 b3) where
+    goes : texts_call (texts_outcome res) texts lengths numbers ≡ asked
+    unfolding texts_by_number
+    goes = e ∙ ap (λ (x : NamedForm). texts_by (form_named x) rows js ks b1 b2 b3) same
+        ∙ table_taken (table_bytes s) rows n judged (form_named (form_numbered f)) js ks b1 b2 b3 h ∙ rw (le-leb f 2 k)
 
     pub texts-counted : (j : ℕ) → res ≡ Written j → j ≤ length js / 8
-    unfolding textsOutcome
-    texts-counted j i = run-count (formNamed form) rows js ks b1 b2 b3 j (sym (ap textsOutcome i) ∙ ap (λ (x : TextsCall). x.answer) e)
+    unfolding texts_outcome
+    texts-counted j i = run-count (form_named form) rows js ks b1 b2 b3 j (sym (ap texts_outcome i) ∙ ap (λ (x : TextsCall). x.answer) e)
 
     pub texts-written : (j : ℕ) → res ≡ Written j → j < 2 ^ 63 → TextsDelivered asked (to_z w64 j) texts lengths numbers
-    unfolding textsOutcome code
+    unfolding texts_outcome code
     texts-written j i b =
-        ended asked res (to_z w64 j) texts lengths numbers goes (to_z_pos w64 {n = j} b ∙ sym (ap (λ (x : RunTextsAnswer). code (textsOutcome x)) i))
+        ended asked res (to_z w64 j) texts lengths numbers goes (to_z_pos w64 {n = j} b ∙ sym (ap (λ (x : RunTextsAnswer). code (texts_outcome x)) i))
 
     pub texts-refused : {r : ℤ} (j : ℕ) → mag r < 2 ^ 63 → res ≡ Refused j → r ≡ code (refusal j)
         → TextsDelivered asked (to_z w64 (of_z w64 r)) texts lengths numbers
-    unfolding textsOutcome
+    unfolding texts_outcome
     texts-refused {r} j ok i c =
-        ended asked res (to_z w64 (of_z w64 r)) texts lengths numbers goes (code-back ok ∙ c ∙ sym (ap (λ (x : RunTextsAnswer). code (textsOutcome x)) i))
+        ended asked res (to_z w64 (of_z w64 r)) texts lengths numbers goes (code-back ok ∙ c ∙ sym (ap (λ (x : RunTextsAnswer). code (texts_outcome x)) i))

@@ -10,21 +10,21 @@ use mir.Val.{to_z, of_z}
 use mir.Facts.{to_z_pos}
 use Rattle.refusals.specs.Outcome.{answer, refusal}
 use Rattle.leap_table.specs.rows.Table.{Row}
-use Rattle.leap_table.specs.rows.Announced.{unlessRefused}
+use Rattle.leap_table.specs.rows.Announced.{unless_refused}
 use Rattle.runs.specs.declared.by_formula.RunAnswer.{RunAnswer}
 use Rattle.runs.specs.declared.by_formula.RunAnswer.TheVariants.{Converted, Refused}
-use Rattle.runs.specs.by_formula.Run.{RunCall, runOutcome, runCall}
-use Rattle.runs.specs.Run.{run_by, convertedRun}
-use Rattle.runs.specs.by_formula.Formula.{formulaRun}
-use Rattle.runs.proofs.by_formula.Calls.{formula-count}
+use Rattle.runs.specs.by_formula.Run.{RunCall, run_outcome, run_call}
+use Rattle.runs.specs.Run.{run_by, converted_run}
+use Rattle.runs.specs.by_formula.Formula.{formula_run}
+use Rattle.runs.proofs.by_formula.Calls.{formula_count}
 use Rattle.runs.proofs.Calls.{run-count, table-refused, table_taken}
-use Rattle.c_answers.specs.table.TableBytes.{tableBytes}
+use Rattle.c_answers.specs.table.TableBytes.{table_bytes}
 use Rattle.c_answers.specs.Delivery.{code}
 use Rattle.c_answers.proofs.Deliveries.{code-back}
 use Rattle.capi.specs.RunDelivery.{RunDelivered}
 
 -- a call that ends so is delivered by its code
-ended : (c : RunCall) (res : RunAnswer) (r : ℤ) (out1 out2 numbers : List ℕ) → runCall (runOutcome res) out1 out2 numbers ≡ c → r ≡ code (runOutcome res)
+ended : (c : RunCall) (res : RunAnswer) (r : ℤ) (out1 out2 numbers : List ℕ) → run_call (run_outcome res) out1 out2 numbers ≡ c → r ≡ code (run_outcome res)
     → RunDelivered c r out1 out2 numbers
 ended c res r out1 out2 numbers e h = record {
   returned = h ∙ ap (λ (x : RunCall). code x.answer) e;
@@ -34,39 +34,39 @@ ended c res r out1 out2 numbers e h = record {
 }
 
 -- a call that answers so
-module _ (asked : RunCall) {out1 out2 numbers : List ℕ} (res : RunAnswer) (e : runCall (runOutcome res) out1 out2 numbers ≡ asked) where
+module _ (asked : RunCall) {out1 out2 numbers : List ℕ} (res : RunAnswer) (e : run_call (run_outcome res) out1 out2 numbers ≡ asked) where
   pub all-converted : (j : ℕ) → res ≡ Converted j → j < 2 ^ 63 → RunDelivered asked (to_z w64 j) out1 out2 numbers
-  unfolding runOutcome code
-  all-converted j i b = ended asked res (to_z w64 j) out1 out2 numbers e (to_z_pos w64 {n = j} b ∙ sym (ap (λ (x : RunAnswer). code (runOutcome x)) i))
+  unfolding run_outcome code
+  all-converted j i b = ended asked res (to_z w64 j) out1 out2 numbers e (to_z_pos w64 {n = j} b ∙ sym (ap (λ (x : RunAnswer). code (run_outcome x)) i))
 
   pub all-refused : {r : ℤ} (j : ℕ) → mag r < 2 ^ 63 → res ≡ Refused j → r ≡ code (refusal j) → RunDelivered asked (to_z w64 (of_z w64 r)) out1 out2 numbers
-  unfolding runOutcome
-  all-refused {r} j ok i c = ended asked res (to_z w64 (of_z w64 r)) out1 out2 numbers e (code-back ok ∙ c ∙ sym (ap (λ (x : RunAnswer). code (runOutcome x)) i))
+  unfolding run_outcome
+  all-refused {r} j ok i c = ended asked res (to_z w64 (of_z w64 r)) out1 out2 numbers e (code-back ok ∙ c ∙ sym (ap (λ (x : RunAnswer). code (run_outcome x)) i))
 
 -- by a formula
 module _ (from to : ℕ) (js ks os b1 b2 b3 : List ℕ) {out1 out2 numbers : List ℕ} (res : RunAnswer)
-    (e : runCall (runOutcome res) out1 out2 numbers ≡ formulaRun from to js ks os b1 b2 b3) where
-  pub formula-counted : (j : ℕ) → res ≡ Converted j → j ≤ length js / 8
-  unfolding runOutcome
-  formula-counted j i = formula-count from to js ks os b1 b2 b3 j (sym (ap runOutcome i) ∙ ap (λ (x : RunCall). x.answer) e)
+    (e : run_call (run_outcome res) out1 out2 numbers ≡ formula_run from to js ks os b1 b2 b3) where
+  pub formula_counted : (j : ℕ) → res ≡ Converted j → j ≤ length js / 8
+  unfolding run_outcome
+  formula_counted j i = formula_count from to js ks os b1 b2 b3 j (sym (ap run_outcome i) ∙ ap (λ (x : RunCall). x.answer) e)
 
 -- the rows and the number n that the code reads in the bytes s; the two scales, the parts and the three buffers
-module _ (s : List ℕ) (rows : List Row) (n : ℕ) (judged : unlessRefused n rows ≡ tableBytes s) (from to : ℕ) (js ks b1 b2 b3 : List ℕ) where
+module _ (s : List ℕ) (rows : List Row) (n : ℕ) (judged : unless_refused n rows ≡ table_bytes s) (from to : ℕ) (js ks b1 b2 b3 : List ℕ) where
   abbrev asked : RunCall
-  asked = convertedRun (tableBytes s) from to js ks b1 b2 b3
+  asked = converted_run (table_bytes s) from to js ks b1 b2 b3
 
   pub run-table-refused : {r : ℤ} → mag r < 2 ^ 63 → (n ≡ 0 → ⊥) → r ≡ code (refusal n) → RunDelivered asked (to_z w64 (of_z w64 r)) b1 b2 b3
-  unfolding runOutcome
-  run-table-refused {r} ok h c = ended asked (Refused n) (to_z w64 (of_z w64 r)) b1 b2 b3 (table-refused (tableBytes s) rows n judged from to js ks b1 b2 b3 h)
+  unfolding run_outcome
+  run-table-refused {r} ok h c = ended asked (Refused n) (to_z w64 (of_z w64 r)) b1 b2 b3 (table-refused (table_bytes s) rows n judged from to js ks b1 b2 b3 h)
       (code-back ok ∙ c)
 
-  module _ (h : n ≡ 0) {out1 out2 numbers : List ℕ} (res : RunAnswer) (e : runCall (runOutcome res) out1 out2 numbers ≡ run_by rows from to js ks b1 b2 b3) where
-    goes : runCall (runOutcome res) out1 out2 numbers ≡ asked
-    goes = e ∙ table_taken (tableBytes s) rows n judged from to js ks b1 b2 b3 h
+  module _ (h : n ≡ 0) {out1 out2 numbers : List ℕ} (res : RunAnswer) (e : run_call (run_outcome res) out1 out2 numbers ≡ run_by rows from to js ks b1 b2 b3) where
+    goes : run_call (run_outcome res) out1 out2 numbers ≡ asked
+    goes = e ∙ table_taken (table_bytes s) rows n judged from to js ks b1 b2 b3 h
 
     pub run-counted : (j : ℕ) → res ≡ Converted j → j ≤ length js / 8
-    unfolding runOutcome
-    run-counted j i = run-count rows from to js ks b1 b2 b3 j (sym (ap runOutcome i) ∙ ap (λ (x : RunCall). x.answer) e)
+    unfolding run_outcome
+    run-counted j i = run-count rows from to js ks b1 b2 b3 j (sym (ap run_outcome i) ∙ ap (λ (x : RunCall). x.answer) e)
 
     pub run-converted : (j : ℕ) → res ≡ Converted j → j < 2 ^ 63 → RunDelivered asked (to_z w64 j) out1 out2 numbers
     run-converted = all-converted asked res goes

@@ -13,65 +13,65 @@ use mir.Val.{Fits, SFits, to_z, of_z}
 use mir.Facts.{to_z_pos}
 use Rattle.refusals.specs.Outcome.{Outcome, answer, refusal, onward}
 use Rattle.leap_table.specs.declared.rows.AnnouncedRows.{AnnouncedRows}
-use Rattle.leap_table.specs.rows.Table.{Row, fixedRows, mostRows}
-use Rattle.leap_table.specs.rows.Announced.{rows_of, table_of, unlessRefused}
+use Rattle.leap_table.specs.rows.Table.{Row, fixed_rows, most_rows}
+use Rattle.leap_table.specs.rows.Announced.{rows_of, table_of, unless_refused}
 use Rattle.leap_table.proofs.rows.TableLaws.{lengths}
-use Rattle.c_answers.specs.table.TableBytes.{ofLength, tableBytes}
+use Rattle.c_answers.specs.table.TableBytes.{of_length, table_bytes}
 use Rattle.c_answers.proofs.table.Laws.{not_taken, gone-on}
-use Rattle.utc.specs.iso_texts.TextCall.{written, bufferHolds}
-use Rattle.c_answers.specs.Delivery.{code, inBytes, Delivered}
+use Rattle.utc.specs.iso_texts.TextCall.{written, buffer_holds}
+use Rattle.c_answers.specs.Delivery.{code, in_bytes, Delivered}
 use Rattle.c_answers.proofs.Deliveries.{code-back, refused-on, same_outcome}
 
 -- the rows t and the number n that the code finds in the bytes s
-module _ (s : List ℕ) (t : AnnouncedRows) (n : ℕ) (e : unlessRefused n (rows_of t) ≡ ofLength (length s) (table_of t))
-    (f : ofLength (length s) (table_of t) ≡ tableBytes s) where
+module _ (s : List ℕ) (t : AnnouncedRows) (n : ℕ) (e : unless_refused n (rows_of t) ≡ of_length (length s) (table_of t))
+    (f : of_length (length s) (table_of t) ≡ table_bytes s) where
   -- ---- an answer in bytes
   module _ {A : Type 0} (bytes : A → List ℕ) (next : List Row → Outcome A) {r : ℤ} (ok : mag r < 2 ^ 63) where
-    pub table-refused : {l : List ℕ} → (n ≡ 0 → ⊥) → r ≡ code (refusal n) → Delivered (inBytes bytes (onward (tableBytes s) next)) l (to_z w64 (of_z w64 r)) l
+    pub table-refused : {l : List ℕ} → (n ≡ 0 → ⊥) → r ≡ code (refusal n) → Delivered (in_bytes bytes (onward (table_bytes s) next)) l (to_z w64 (of_z w64 r)) l
     table-refused h c = refused-on bytes ok n (not_taken (rows_of t) n (e ∙ f) next h) c
 
-    pub with_rows : {o : Outcome A} {l out : List ℕ} → n ≡ 0 → o ≡ next (rows_of t) → Delivered (inBytes bytes o) l r out
-        → Delivered (inBytes bytes (onward (tableBytes s) next)) l (to_z w64 (of_z w64 r)) out
+    pub with_rows : {o : Outcome A} {l out : List ℕ} → n ≡ 0 → o ≡ next (rows_of t) → Delivered (in_bytes bytes o) l r out
+        → Delivered (in_bytes bytes (onward (table_bytes s) next)) l (to_z w64 (of_z w64 r)) out
     with_rows h p d = same_outcome bytes ok (p ∙ gone-on (rows_of t) n (e ∙ f) next h) d
 
   -- ---- a text
   module _ (next : List Row → Outcome (List ℕ)) where
     pub text-table-refused : {r : ℤ} {l : List ℕ} → mag r < 2 ^ 63 → (n ≡ 0 → ⊥) → r ≡ code (refusal n)
-        → Delivered (onward (tableBytes s) next) l (to_z w64 (of_z w64 r)) l
-    unfolding onward written bufferHolds
+        → Delivered (onward (table_bytes s) next) l (to_z w64 (of_z w64 r)) l
+    unfolding onward written buffer_holds
     text-table-refused {r} {l} ok h c =
         subst (λ (o : Outcome (List ℕ)). Delivered o l (to_z w64 (of_z w64 r)) l) (sym (not_taken (rows_of t) n (e ∙ f) next h))
         (record { returned = code-back ok ∙ c; holds = refl })
 
-    pub text-with-rows : {r : ℤ} {l out : List ℕ} → n ≡ 0 → Delivered (next (rows_of t)) l r out → Delivered (onward (tableBytes s) next) l r out
+    pub text-with-rows : {r : ℤ} {l out : List ℕ} → n ≡ 0 → Delivered (next (rows_of t)) l r out → Delivered (onward (table_bytes s) next) l r out
     text-with-rows {r} {l} {out} h d = subst (λ (o : Outcome (List ℕ)). Delivered o l r out) (gone-on (rows_of t) n (e ∙ f) next h) d
 
   -- ---- how many rows there are
   pub count-refused : {r : ℤ} → mag r < 2 ^ 63 → (n ≡ 0 → ⊥) → r ≡ code (refusal n)
-      → to_z w64 (of_z w64 r) ≡ code (onward (tableBytes s) (λ rows. answer (length rows)))
+      → to_z w64 (of_z w64 r) ≡ code (onward (table_bytes s) (λ rows. answer (length rows)))
   count-refused ok h c = code-back ok ∙ c ∙ sym (ap code (not_taken (rows_of t) n (e ∙ f) (λ rows. answer (length rows)) h))
 
   pub is-taken : n ≡ 0 → table_of t ≡ answer (rows_of t)
-  unfolding ofLength
-  is-taken h = go (eqb (length s) 136) (ap (λ (k : ℕ). unlessRefused k (rows_of t)) (sym h) ∙ e)
+  unfolding of_length
+  is-taken h = go (eqb (length s) 136) (ap (λ (k : ℕ). unless_refused k (rows_of t)) (sym h) ∙ e)
     where
       go : (b : Bool) → answer (rows_of t) ≡ cond b (table_of t) (refusal 14) → table_of t ≡ answer (rows_of t)
       go true p = sym p
       go false p = absurd (let z : ◌≡◌ {A = ℕ} 0 1 = cc in let no : ⊥ = omega arith in no)
 
   module _ (h : n ≡ 0) where
-    counted : (length (rows_of t) ≡ fixedRows + t.months_size) × (length (rows_of t) ≤ mostRows)
+    counted : (length (rows_of t) ≡ fixed_rows + t.months_size) × (length (rows_of t) ≤ most_rows)
     counted = lengths t (rows_of t) (is-taken h)
 
-    pub count_fits : Fits w32 (fixedRows + t.months_size)
+    pub count_fits : Fits w32 (fixed_rows + t.months_size)
     count_fits = record { fits = omega (arith, counted.0, counted.1) }
 
-    pub count-fits-code : SFits w64 (pos (fixedRows + t.months_size))
+    pub count-fits-code : SFits w64 (pos (fixed_rows + t.months_size))
     count-fits-code = record { sfits = omega (arith, counted.0, counted.1) }
 
-    pub count-answered : to_z w64 (fixedRows + t.months_size) ≡ code (onward (tableBytes s) (λ rows. answer (length rows)))
+    pub count-answered : to_z w64 (fixed_rows + t.months_size) ≡ code (onward (table_bytes s) (λ rows. answer (length rows)))
     unfolding code
     count-answered =
-        to_z_pos w64 {n = fixedRows + t.months_size} (omega (arith, counted.0, counted.1))
+        to_z_pos w64 {n = fixed_rows + t.months_size} (omega (arith, counted.0, counted.1))
         ∙ ap pos (sym counted.0)
         ∙ ap code (gone-on (rows_of t) n (e ∙ f) (λ rows. answer (length rows)) h)

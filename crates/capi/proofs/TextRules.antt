@@ -16,81 +16,81 @@ use Rattle.refusals.specs.Outcome.{Outcome, answer, refusal, onward}
 use Rattle.julian.specs.declared.JulianDate.{JulianDate}
 use Rattle.leap_table.specs.declared.offsets.Rule.{Rule}
 use Rattle.leap_table.specs.rows.Table.{Row}
-use Rattle.leap_table.specs.offsets.Rule.{withRule, forget}
-use Rattle.leap_table.proofs.offsets.Rules.{ruleIn}
-use Rattle.utc.specs.text.Answer.{textWritten, bufferAfter}
+use Rattle.leap_table.specs.offsets.Rule.{with_rule, forget}
+use Rattle.leap_table.proofs.offsets.Rules.{rule_in}
+use Rattle.utc.specs.text.Answer.{text_written, buffer_after}
 use Rattle.utc.specs.declared.iso_texts.TextByRule.{TextByRule}
 use Rattle.utc.specs.declared.iso_texts.TextByRule.TheVariants.{Written, Refused}
 use Rattle.utc.specs.declared.iso_texts.NamedForm.{NamedForm}
-use Rattle.utc.specs.iso_texts.TextCall.{bufferHolds}
-use Rattle.utc.specs.iso_texts.Named.{formNamed}
-use Rattle.utc.specs.iso_texts.ByRule.{textByRule, textByRuleOutcome, writtenByRule, TextRuleCall}
+use Rattle.utc.specs.iso_texts.TextCall.{buffer_holds}
+use Rattle.utc.specs.iso_texts.Named.{form_named}
+use Rattle.utc.specs.iso_texts.ByRule.{text_by_rule, text_by_rule_outcome, written_by_rule, TextRuleCall}
 use Rattle.utc.proofs.iso_texts.TextRules.{text-forgets}
 use Rattle.utc.proofs.laws.NamedTexts.{named-text-few}
 use Rattle.c_answers.specs.Delivery.{code, Delivered}
-use Rattle.c_answers.specs.rules.RuleFields.{ruleBytes}
-use Rattle.c_answers.specs.TwoBuffers.{bothFit, DeliveredTwo}
+use Rattle.c_answers.specs.rules.RuleFields.{rule_bytes}
+use Rattle.c_answers.specs.TwoBuffers.{both_fit, DeliveredTwo}
 use Rattle.c_answers.proofs.Deliveries.{code-back}
-use Rattle.capi.specs.TextRule.{askedRule, ruled, noRoom}
+use Rattle.capi.specs.TextRule.{asked_rule, ruled, no_room}
 
 -- ---- the rule has no room
-nothing-reported : (o : Outcome (List ℕ × Rule)) (m k : ℕ) → writtenByRule o m ≡ refusal k → refusal k ≡ noRoom o
-unfolding writtenByRule noRoom withRule textWritten onward
+nothing-reported : (o : Outcome (List ℕ × Rule)) (m k : ℕ) → written_by_rule o m ≡ refusal k → refusal k ≡ no_room o
+unfolding written_by_rule no_room with_rule text_written onward
 nothing-reported (refusal j) m k e = let z : j ≡ k = cc in ap refusal (sym z)
 nothing-reported (answer t) m k e = go (leb (length t.0) m) e
   where
-    go : (b : Bool) → withRule (cond b (answer (length t.0)) (refusal 11)) t.1 ≡ refusal k → ◌≡◌ {A = Outcome ℕ} (refusal k) (refusal 11)
+    go : (b : Bool) → with_rule (cond b (answer (length t.0)) (refusal 11)) t.1 ≡ refusal k → ◌≡◌ {A = Outcome ℕ} (refusal k) (refusal 11)
     go true p = absurd (let z : ◌≡◌ {A = ℕ} 0 1 = cc in let no : ⊥ = omega arith in no)
     go false p = let z : ◌≡◌ {A = ℕ} 11 k = cc in ap refusal (sym z)
 
-eleven-reported : (o : Outcome (List ℕ × Rule)) (m n : ℕ) (rule : Rule) → writtenByRule o m ≡ answer (n, rule) → refusal 11 ≡ noRoom o
-unfolding writtenByRule noRoom onward
+eleven-reported : (o : Outcome (List ℕ × Rule)) (m n : ℕ) (rule : Rule) → written_by_rule o m ≡ answer (n, rule) → refusal 11 ≡ no_room o
+unfolding written_by_rule no_room onward
 eleven-reported (refusal j) m n rule e = absurd (let z : ◌≡◌ {A = ℕ} 0 1 = cc in let no : ⊥ = omega arith in no)
 eleven-reported (answer t) m n rule e = refl
 
 module _ (o : Outcome (List ℕ × Rule)) {l out : List ℕ} {res : TextByRule} (p : TextRuleCall o l res out) where
-  pub no-room-refused : {k : ℕ} {r : ℤ} → mag r < 2 ^ 63 → res ≡ Refused k → r ≡ code (refusal k) → to_z w64 (of_z w64 r) ≡ code (noRoom o)
-  unfolding textByRuleOutcome
-  no-room-refused {k} ok is c = code-back ok ∙ c ∙ ap code (nothing-reported o (length l) k (sym p.says ∙ ap textByRuleOutcome is))
+  pub no_room_refused : {k : ℕ} {r : ℤ} → mag r < 2 ^ 63 → res ≡ Refused k → r ≡ code (refusal k) → to_z w64 (of_z w64 r) ≡ code (no_room o)
+  unfolding text_by_rule_outcome
+  no_room_refused {k} ok is c = code-back ok ∙ c ∙ ap code (nothing-reported o (length l) k (sym p.says ∙ ap text_by_rule_outcome is))
 
-  pub no-room-written : {n : ℕ} {rule : Rule} {r : ℤ} → mag r < 2 ^ 63 → res ≡ Written n rule → r ≡ code (refusal 11) → to_z w64 (of_z w64 r) ≡ code (noRoom o)
-  unfolding textByRuleOutcome
-  no-room-written {n} {rule} ok is c = code-back ok ∙ c ∙ ap code (eleven-reported o (length l) n rule (sym p.says ∙ ap textByRuleOutcome is))
+  pub no_room_written : {n : ℕ} {rule : Rule} {r : ℤ} → mag r < 2 ^ 63 → res ≡ Written n rule → r ≡ code (refusal 11) → to_z w64 (of_z w64 r) ≡ code (no_room o)
+  unfolding text_by_rule_outcome
+  no_room_written {n} {rule} ok is c = code-back ok ∙ c ∙ ap code (eleven-reported o (length l) n rule (sym p.says ∙ ap text_by_rule_outcome is))
 
 -- ---- two buffers: the rule has no room, and both stay as they were
 abbrev eleven-for : List ℕ × Rule → Outcome (List ℕ × List ℕ)
 eleven-for t = refusal 11
 
-eleven : (o : Outcome (List ℕ × Rule)) (m n : ℕ) → n < 8 → (n ≡ 0 → ⊥) → bothFit (ruled n o) m n ≡ onward o eleven-for
-unfolding bothFit ruled askedRule onward
+eleven : (o : Outcome (List ℕ × Rule)) (m n : ℕ) → n < 8 → (n ≡ 0 → ⊥) → both_fit (ruled n o) m n ≡ onward o eleven-for
+unfolding both_fit ruled asked_rule onward
 eleven (refusal k) m n h some = refl
 eleven (answer t) m zero h some = absurd (some refl)
 eleven (answer t) m (suc n) h some = go (leb (length t.0) m)
   where
-    go : (x : Bool) → cond {A = Outcome (List ℕ × List ℕ)} (x && leb 8 (suc n)) (answer (t.0, ruleBytes t.1)) (refusal 11) ≡ refusal 11
+    go : (x : Bool) → cond {A = Outcome (List ℕ × List ℕ)} (x && leb 8 (suc n)) (answer (t.0, rule_bytes t.1)) (refusal 11) ≡ refusal 11
     go true = rw (lt-leb 8 (suc n) h)
     go false = refl
 
-pub short-rule : (o : Outcome (List ℕ × Rule)) (b b' : List ℕ) {r : ℤ} → mag r < 2 ^ 63 → length b' < 8 → (length b' ≡ 0 → ⊥) → r ≡ code (noRoom o)
+pub short-rule : (o : Outcome (List ℕ × Rule)) (b b' : List ℕ) {r : ℤ} → mag r < 2 ^ 63 → length b' < 8 → (length b' ≡ 0 → ⊥) → r ≡ code (no_room o)
     → DeliveredTwo (ruled (length b') o) b b' (to_z w64 (of_z w64 r)) b b'
-unfolding noRoom onward bufferHolds
+unfolding no_room onward buffer_holds
 short-rule o b b' ok h some c =
     let e = eleven o (length b) (length b') h some in
     record {
       returned = code-back ok ∙ c ∙ ap code (sym (ap (λ (x : Outcome (List ℕ × List ℕ)). onward x (λ p. answer (length p.0))) e ∙ none o));
-      holds = sym (ap (λ (x : Outcome (List ℕ × List ℕ)). bufferHolds (onward x (λ p. answer p.0)) b) e ∙ stays o);
-      holds-second = sym (ap (λ (x : Outcome (List ℕ × List ℕ)). bufferHolds (onward x (λ p. answer p.1)) b') e ∙ stays-second o);
+      holds = sym (ap (λ (x : Outcome (List ℕ × List ℕ)). buffer_holds (onward x (λ p. answer p.0)) b) e ∙ stays o);
+      holds_second = sym (ap (λ (x : Outcome (List ℕ × List ℕ)). buffer_holds (onward x (λ p. answer p.1)) b') e ∙ stays-second o);
     }
   where
     none : (o : Outcome (List ℕ × Rule)) → onward (onward o eleven-for) (λ p. answer (length p.0)) ≡ onward o (λ t. refusal 11)
     none (answer t) = refl
     none (refusal k) = refl
 
-    stays : (o : Outcome (List ℕ × Rule)) → bufferHolds (onward (onward o eleven-for) (λ p. answer p.0)) b ≡ b
+    stays : (o : Outcome (List ℕ × Rule)) → buffer_holds (onward (onward o eleven-for) (λ p. answer p.0)) b ≡ b
     stays (answer t) = refl
     stays (refusal k) = refl
 
-    stays-second : (o : Outcome (List ℕ × Rule)) → bufferHolds (onward (onward o eleven-for) (λ p. answer p.1)) b' ≡ b'
+    stays-second : (o : Outcome (List ℕ × Rule)) → buffer_holds (onward (onward o eleven-for) (λ p. answer p.1)) b' ≡ b'
     stays-second (answer t) = refl
     stays-second (refusal k) = refl
 
@@ -101,43 +101,43 @@ record Fitted (o : Outcome (List ℕ × Rule)) (m n : ℕ) (rule : Rule) : Type 
   count : length text ≡ n
   within : length text ≤ m
 
-fitted : (o : Outcome (List ℕ × Rule)) (m n : ℕ) (rule : Rule) → writtenByRule o m ≡ answer (n, rule) → Fitted o m n rule
-unfolding writtenByRule withRule textWritten forget onward
+fitted : (o : Outcome (List ℕ × Rule)) (m n : ℕ) (rule : Rule) → written_by_rule o m ≡ answer (n, rule) → Fitted o m n rule
+unfolding written_by_rule with_rule text_written forget onward
 fitted (refusal j) m n rule e = absurd (let z : ◌≡◌ {A = ℕ} 0 1 = cc in let no : ⊥ = omega arith in no)
 fitted (answer t) m n rule e = go (leb (length t.0) m) refl e
   where
-    go : (x : Bool) → leb (length t.0) m ≡ x → withRule (cond x (answer (length t.0)) (refusal 11)) t.1 ≡ answer (n, rule) → Fitted (answer t) m n rule
+    go : (x : Bool) → leb (length t.0) m ≡ x → with_rule (cond x (answer (length t.0)) (refusal 11)) t.1 ≡ answer (n, rule) → Fitted (answer t) m n rule
     go true p q =
-        let r : t.1 ≡ rule = ap (ruleIn rule) q in
+        let r : t.1 ≡ rule = ap (rule_in rule) q in
         let f : ◌≡◌ {A = Outcome ℕ} (answer (length t.0)) (answer n) = ap forget q in
         let c : length t.0 ≡ n = cc in
         record { text = t.0; same = λ i. answer (t.0, r i); count = c; within = leb-true (length t.0) m p }
     go false p q = absurd (let z : ◌≡◌ {A = ℕ} 0 1 = cc in let no : ⊥ = omega arith in no)
 
-both : (t : List ℕ) (rule : Rule) (m n : ℕ) → length t ≤ m → 8 ≤ n → bothFit (ruled n (answer (t, rule))) m n ≡ answer (t, ruleBytes rule)
-unfolding bothFit ruled askedRule onward
+both : (t : List ℕ) (rule : Rule) (m n : ℕ) → length t ≤ m → 8 ≤ n → both_fit (ruled n (answer (t, rule))) m n ≡ answer (t, rule_bytes rule)
+unfolding both_fit ruled asked_rule onward
 both t rule m zero h g = absurd (let no : ⊥ = omega (arith, g) in no)
 both t rule m (suc n) h g = simp (le-leb (length t) m h) (go (leb 8 (suc n)) (le-leb 8 (suc n) g))
   where
-    go : (x : Bool) → x ≡ true → cond {A = Outcome (List ℕ × List ℕ)} (true && x) (answer (t, ruleBytes rule)) (refusal 11) ≡ answer (t, ruleBytes rule)
+    go : (x : Bool) → x ≡ true → cond {A = Outcome (List ℕ × List ℕ)} (true && x) (answer (t, rule_bytes rule)) (refusal 11) ≡ answer (t, rule_bytes rule)
     go true e = refl
     go false e = absurd (true≢false (sym e))
 
-alone : (t : List ℕ) (rule : Rule) (m : ℕ) → length t ≤ m → bothFit (ruled 0 (answer (t, rule))) m 0 ≡ answer (t, [])
-unfolding bothFit ruled askedRule onward
+alone : (t : List ℕ) (rule : Rule) (m : ℕ) → length t ≤ m → both_fit (ruled 0 (answer (t, rule))) m 0 ≡ answer (t, [])
+unfolding both_fit ruled asked_rule onward
 alone t rule m h = simp (le-leb (length t) m h) refl
 
 -- ---- or it is refused, by itself or by 11
-not-fitted : (o : Outcome (List ℕ × Rule)) (l : List ℕ) (n k : ℕ) → writtenByRule o (length l) ≡ refusal k
-    → (bothFit (ruled n o) (length l) n ≡ refusal k) × (bufferHolds (forget o) l ≡ l)
-unfolding writtenByRule withRule textWritten forget onward bothFit ruled bufferHolds bufferAfter
-not-fitted (refusal j) l n k e = let z : j ≡ k = cc in (ap refusal z, refl)
-not-fitted (answer t) l n k e = go (leb (length t.0) (length l)) refl e
+not_fitted : (o : Outcome (List ℕ × Rule)) (l : List ℕ) (n k : ℕ) → written_by_rule o (length l) ≡ refusal k
+    → (both_fit (ruled n o) (length l) n ≡ refusal k) × (buffer_holds (forget o) l ≡ l)
+unfolding written_by_rule with_rule text_written forget onward both_fit ruled buffer_holds buffer_after
+not_fitted (refusal j) l n k e = let z : j ≡ k = cc in (ap refusal z, refl)
+not_fitted (answer t) l n k e = go (leb (length t.0) (length l)) refl e
   where
-    go : (x : Bool) → leb (length t.0) (length l) ≡ x → withRule (cond x (answer (length t.0)) (refusal 11)) t.1 ≡ refusal k
-        → (cond {A = Outcome (List ℕ × List ℕ)} (leb (length t.0) (length l) && leb (length (askedRule n t.1)) n) (answer (t.0, askedRule n t.1))
+    go : (x : Bool) → leb (length t.0) (length l) ≡ x → with_rule (cond x (answer (length t.0)) (refusal 11)) t.1 ≡ refusal k
+        → (cond {A = Outcome (List ℕ × List ℕ)} (leb (length t.0) (length l) && leb (length (asked_rule n t.1)) n) (answer (t.0, asked_rule n t.1))
         (refusal 11) ≡ refusal k)
-        × (bufferAfter t.0 l ≡ l)
+        × (buffer_after t.0 l ≡ l)
     go true p q = absurd (let z : ◌≡◌ {A = ℕ} 0 1 = cc in let no : ⊥ = omega arith in no)
     go false p q = let z : ◌≡◌ {A = ℕ} 11 k = cc in (rw p (ap refusal z), rw p)
 
@@ -145,8 +145,8 @@ module _ (o : Outcome (List ℕ × Rule)) (few : (t : List ℕ) → forget o ≡
     (p : TextRuleCall o l res out) where
   module _ {n : ℕ} {rule : Rule} (is : res ≡ Written n rule) where
     fit : Fitted o (length l) n rule
-    unfolding textByRuleOutcome
-    fit = fitted o (length l) n rule (sym p.says ∙ ap textByRuleOutcome is)
+    unfolding text_by_rule_outcome
+    fit = fitted o (length l) n rule (sym p.says ∙ ap text_by_rule_outcome is)
 
     small : n ≤ 64
     unfolding forget onward
@@ -155,52 +155,52 @@ module _ (o : Outcome (List ℕ × Rule)) (few : (t : List ℕ) → forget o ≡
     pub count_fits : SFits w64 (pos n)
     count_fits = record { sfits = omega (arith, small) }
 
-    pub two-written : {b' out' : List ℕ} {r : ℤ} → 8 ≤ length b' → Delivered (answer (ruleBytes rule)) b' r out'
+    pub two-written : {b' out' : List ℕ} {r : ℤ} → 8 ≤ length b' → Delivered (answer (rule_bytes rule)) b' r out'
         → DeliveredTwo (ruled (length b') o) l b' (to_z w64 n) out out'
-    unfolding onward code bufferHolds forget
+    unfolding onward code buffer_holds forget
     two-written {b'} {out'} room d =
         let f = fit in
-        let e : bothFit (ruled (length b') o) (length l) (length b') ≡ answer (f.text, ruleBytes rule)
-        = ap (λ (x : Outcome (List ℕ × Rule)). bothFit (ruled (length b') x) (length l) (length b')) f.same
+        let e : both_fit (ruled (length b') o) (length l) (length b') ≡ answer (f.text, rule_bytes rule)
+        = ap (λ (x : Outcome (List ℕ × Rule)). both_fit (ruled (length b') x) (length l) (length b')) f.same
         ∙ both f.text rule (length l) (length b') f.within room in
         record {
           returned = to_z_pos w64 {n = n} (omega (arith, small)) ∙ ap pos (sym f.count)
               ∙ sym (ap (λ (x : Outcome (List ℕ × List ℕ)). code (onward x (λ q. answer (length q.0)))) e);
-          holds = p.holds ∙ ap (λ (x : Outcome (List ℕ × Rule)). bufferHolds (forget x) l) f.same
-              ∙ sym (ap (λ (x : Outcome (List ℕ × List ℕ)). bufferHolds (onward x (λ q. answer q.0)) l) e);
-          holds-second = d.holds ∙ sym (ap (λ (x : Outcome (List ℕ × List ℕ)). bufferHolds (onward x (λ q. answer q.1)) b') e);
+          holds = p.holds ∙ ap (λ (x : Outcome (List ℕ × Rule)). buffer_holds (forget x) l) f.same
+              ∙ sym (ap (λ (x : Outcome (List ℕ × List ℕ)). buffer_holds (onward x (λ q. answer q.0)) l) e);
+          holds_second = d.holds ∙ sym (ap (λ (x : Outcome (List ℕ × List ℕ)). buffer_holds (onward x (λ q. answer q.1)) b') e);
         }
 
     -- no rule is asked for
-    pub alone-written : DeliveredTwo (ruled 0 o) l [] (to_z w64 n) out []
-    unfolding onward code bufferHolds bufferAfter forget
-    alone-written =
+    pub alone_written : DeliveredTwo (ruled 0 o) l [] (to_z w64 n) out []
+    unfolding onward code buffer_holds buffer_after forget
+    alone_written =
         let f = fit in
-        let e : bothFit (ruled 0 o) (length l) 0 ≡ answer (f.text, [])
-        = ap (λ (x : Outcome (List ℕ × Rule)). bothFit (ruled 0 x) (length l) 0) f.same ∙ alone f.text rule (length l) f.within in
+        let e : both_fit (ruled 0 o) (length l) 0 ≡ answer (f.text, [])
+        = ap (λ (x : Outcome (List ℕ × Rule)). both_fit (ruled 0 x) (length l) 0) f.same ∙ alone f.text rule (length l) f.within in
         record {
           returned = to_z_pos w64 {n = n} (omega (arith, small)) ∙ ap pos (sym f.count)
               ∙ sym (ap (λ (x : Outcome (List ℕ × List ℕ)). code (onward x (λ q. answer (length q.0)))) e);
-          holds = p.holds ∙ ap (λ (x : Outcome (List ℕ × Rule)). bufferHolds (forget x) l) f.same
-              ∙ sym (ap (λ (x : Outcome (List ℕ × List ℕ)). bufferHolds (onward x (λ q. answer q.0)) l) e);
-          holds-second = sym (ap (λ (x : Outcome (List ℕ × List ℕ)). bufferHolds (onward x (λ q. answer q.1)) []) e);
+          holds = p.holds ∙ ap (λ (x : Outcome (List ℕ × Rule)). buffer_holds (forget x) l) f.same
+              ∙ sym (ap (λ (x : Outcome (List ℕ × List ℕ)). buffer_holds (onward x (λ q. answer q.0)) l) e);
+          holds_second = sym (ap (λ (x : Outcome (List ℕ × List ℕ)). buffer_holds (onward x (λ q. answer q.1)) []) e);
         }
 
   pub two-refused : {k : ℕ} {r : ℤ} (b' : List ℕ) → mag r < 2 ^ 63 → res ≡ Refused k → r ≡ code (refusal k)
       → DeliveredTwo (ruled (length b') o) l b' (to_z w64 (of_z w64 r)) out b'
-  unfolding textByRuleOutcome onward bufferHolds
+  unfolding text_by_rule_outcome onward buffer_holds
   two-refused {k} b' ok is c =
-      let (e, f) = not-fitted o l (length b') k (sym p.says ∙ ap textByRuleOutcome is) in
+      let (e, f) = not_fitted o l (length b') k (sym p.says ∙ ap text_by_rule_outcome is) in
       record {
         returned = code-back ok ∙ c ∙ sym (ap (λ (x : Outcome (List ℕ × List ℕ)). code (onward x (λ q. answer (length q.0)))) e);
-        holds = p.holds ∙ f ∙ sym (ap (λ (x : Outcome (List ℕ × List ℕ)). bufferHolds (onward x (λ q. answer q.0)) l) e);
-        holds-second = sym (ap (λ (x : Outcome (List ℕ × List ℕ)). bufferHolds (onward x (λ q. answer q.1)) b') e);
+        holds = p.holds ∙ f ∙ sym (ap (λ (x : Outcome (List ℕ × List ℕ)). buffer_holds (onward x (λ q. answer q.0)) l) e);
+        holds_second = sym (ap (λ (x : Outcome (List ℕ × List ℕ)). buffer_holds (onward x (λ q. answer q.1)) b') e);
       }
 
 -- a text has at most 27 bytes
-pub text-few : (textForm : NamedForm) (rows : List Row) (jd : JulianDate) (t : List ℕ) → forget (textByRule (formNamed textForm) rows jd) ≡ answer t
+pub text-few : (textForm : NamedForm) (rows : List Row) (jd : JulianDate) (t : List ℕ) → forget (text_by_rule (form_named textForm) rows jd) ≡ answer t
     → length t ≤ 64
-text-few textForm rows jd t e = omega (arith, named-text-few textForm rows jd t (sym (text-forgets (formNamed textForm) rows jd) ∙ e))
+text-few textForm rows jd t e = omega (arith, named-text-few textForm rows jd t (sym (text-forgets (form_named textForm) rows jd) ∙ e))
 
 -- ---- fewer bytes for the rule than it has
 no_length : (b : List ℕ) → length b ≡ 0 → [] ≡ b
@@ -215,7 +215,7 @@ none_lent o l out b room {r} ok none e d =
     (subst (λ (x : List ℕ). DeliveredTwo (ruled 0 o) l x r out x) (no_length b (e ∙ none)) d))
 
 pub few-lent : (o : Outcome (List ℕ × Rule)) (l b : List ℕ) (room : ℕ) {r : ℤ} → mag r < 2 ^ 63 → room < 8 → (room ≡ 0 → ⊥) → length b ≡ room
-    → r ≡ code (noRoom o) → DeliveredTwo (ruled room o) l b (to_z w64 (of_z w64 r)) l b
+    → r ≡ code (no_room o) → DeliveredTwo (ruled room o) l b (to_z w64 (of_z w64 r)) l b
 few-lent o l b room {r} ok few some e c =
     subst (λ (k : ℕ). DeliveredTwo (ruled k o) l b (to_z w64 (of_z w64 r)) l b) e
     (short-rule o l b ok (omega (arith, few, e)) (λ z. some (sym e ∙ z)) c)

@@ -15,40 +15,40 @@ use borrow.Author.Tests.{leb-true}
 use Rattle.refusals.specs.Outcome.{Outcome, answer, refusal, onward}
 use Rattle.utc.specs.declared.text.TextAnswer.{TextAnswer}
 use Rattle.utc.specs.declared.text.TextAnswer.TheVariants.{Written, Refused}
-use Rattle.utc.specs.text.Answer.{textOutcome, textWritten}
+use Rattle.utc.specs.text.Answer.{text_outcome, text_written}
 use Rattle.utc.specs.iso_texts.TextCall.{written, TextCall}
 use Rattle.c_answers.specs.Delivery.{code, Delivered}
 use Rattle.c_answers.proofs.Deliveries.{code-back}
 
 -- no more bytes than the buffer has
 fits_in : (o : Outcome (List ℕ)) (m n : ℕ) → written o m ≡ answer n → n ≤ m
-unfolding written onward textWritten
+unfolding written onward text_written
 fits_in (refusal k) m n e = absurd (let z : ◌≡◌ {A = ℕ} 0 1 = cc in let no : ⊥ = omega arith in no)
 fits_in (answer t) m n e = go (leb (length t) m) (leb-true (length t) m) e
   where
     go : (b : Bool) → (b ≡ true → length t ≤ m) → cond b (answer (length t)) (refusal 11) ≡ answer n → n ≤ m
-    go true h p = let z : length t ≡ n = cc in omega (arith, h refl-true)
+    go true h p = let z : length t ≡ n = cc in omega (arith, h refl_true)
       where
-        refl-true : true ≡ true
-        refl-true = cc
+        refl_true : true ≡ true
+        refl_true = cc
     go false h p = absurd (let z : ◌≡◌ {A = ℕ} 0 1 = cc in let no : ⊥ = omega arith in no)
 
 module _ {o : Outcome (List ℕ)} {l out : List ℕ} {res : TextAnswer} (p : TextCall o l res out) where
   pub text-count : (n : ℕ) → res ≡ Written n → n ≤ length l
-  unfolding textOutcome
-  text-count n i = fits_in o (length l) n (sym p.says ∙ ap textOutcome i)
+  unfolding text_outcome
+  text-count n i = fits_in o (length l) n (sym p.says ∙ ap text_outcome i)
 
   pub text-put : (n : ℕ) → res ≡ Written n → n < 2 ^ 63 → Delivered o l (to_z w64 n) out
-  unfolding textOutcome code
-  text-put n i h = record { returned = to_z_pos w64 {n = n} h ∙ ap code (sym (ap textOutcome i) ∙ p.says); holds = p.holds }
+  unfolding text_outcome code
+  text-put n i h = record { returned = to_z_pos w64 {n = n} h ∙ ap code (sym (ap text_outcome i) ∙ p.says); holds = p.holds }
 
-  pub text-refused : {r : ℤ} (n : ℕ) → mag r < 2 ^ 63 → res ≡ Refused n → r ≡ code (refusal n) → Delivered o l (to_z w64 (of_z w64 r)) out
-  unfolding textOutcome
-  text-refused n ok i e = record { returned = code-back ok ∙ e ∙ ap code (sym (ap textOutcome i) ∙ p.says); holds = p.holds }
+  pub text_refused : {r : ℤ} (n : ℕ) → mag r < 2 ^ 63 → res ≡ Refused n → r ≡ code (refusal n) → Delivered o l (to_z w64 (of_z w64 r)) out
+  unfolding text_outcome
+  text_refused n ok i e = record { returned = code-back ok ∙ e ∙ ap code (sym (ap text_outcome i) ∙ p.says); holds = p.holds }
 
 -- handed on by another call
-pub delivered-on : {o o' : Outcome (List ℕ)} {l out : List ℕ} {r : ℤ} → mag r < 2 ^ 63 → o ≡ o' → Delivered o l r out → Delivered o' l (to_z w64 (of_z w64 r)) out
-delivered-on {o} {o'} {l} {out} {r} ok e p = record { returned = code-back ok ∙ moved.returned; holds = moved.holds }
+pub delivered_on : {o o' : Outcome (List ℕ)} {l out : List ℕ} {r : ℤ} → mag r < 2 ^ 63 → o ≡ o' → Delivered o l r out → Delivered o' l (to_z w64 (of_z w64 r)) out
+delivered_on {o} {o'} {l} {out} {r} ok e p = record { returned = code-back ok ∙ moved.returned; holds = moved.holds }
   where
     moved : Delivered o' l r out
     moved = subst (λ (x : Outcome (List ℕ)). Delivered x l r out) e p

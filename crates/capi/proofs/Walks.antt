@@ -14,17 +14,17 @@ use mir.Val.{to_z, of_z}
 use mir.Facts.{to_z_pos}
 use Rattle.refusals.specs.Outcome.{Outcome, answer, refusal, onward}
 use Rattle.leap_table.specs.declared.rows.AnnouncedRows.{AnnouncedRows}
-use Rattle.leap_table.specs.rows.Table.{Row, mostRows}
+use Rattle.leap_table.specs.rows.Table.{Row, most_rows}
 use Rattle.leap_table.specs.rows.Announced.{table_of}
 use Rattle.leap_table.specs.declared.walk.WalkAnswer.{WalkAnswer}
 use Rattle.leap_table.specs.declared.walk.WalkAnswer.TheVariants.{Compared, Refused}
 use Rattle.leap_table.specs.walk.Walk.{Walked}
-use Rattle.leap_table.specs.judging.Lists.{datesFrom, tripleIn}
-use Rattle.leap_table.specs.walk.Lists.{walkOfBytes, in_eights}
-use Rattle.leap_table.specs.walk.Call.{walkOutcome, listAfter, WalkCall}
-use Rattle.leap_table.proofs.judging.Judges.{how-many}
+use Rattle.leap_table.specs.judging.Lists.{dates_from, triple_in}
+use Rattle.leap_table.specs.walk.Lists.{walk_of_bytes, in_eights}
+use Rattle.leap_table.specs.walk.Call.{walk_outcome, list_after, WalkCall}
+use Rattle.leap_table.proofs.judging.Judges.{how_many}
 use Rattle.leap_table.proofs.walk.Codes.{count_most}
-use Rattle.c_answers.specs.table.TableBytes.{ofLength, tableBytes}
+use Rattle.c_answers.specs.table.TableBytes.{of_length, table_bytes}
 use Rattle.c_answers.proofs.table.Laws.{other_length}
 use Rattle.c_answers.specs.Delivery.{code}
 use Rattle.c_answers.proofs.Deliveries.{code-back}
@@ -33,42 +33,42 @@ use Rattle.capi.specs.WalkDelivery.{WalkDelivered}
 -- the bytes s of the table; the dates and the buffer
 module _ (s : List ℕ) (dates l : List ℕ) where
   abbrev next : List Row → Outcome Walked
-  next rows = walkOfBytes rows dates (length l)
+  next rows = walk_of_bytes rows dates (length l)
 
   pub walk-length-refused : {r : ℤ} → mag r < 2 ^ 63 → (length s ≡ 136 → ⊥) → r ≡ code (refusal 14)
-      → WalkDelivered (onward (tableBytes s) next) l (to_z w64 (of_z w64 r)) l
-  unfolding onward listAfter
+      → WalkDelivered (onward (table_bytes s) next) l (to_z w64 (of_z w64 r)) l
+  unfolding onward list_after
   walk-length-refused {r} ok h c =
       subst (λ (o : Outcome (List Row)). WalkDelivered (onward o next) l (to_z w64 (of_z w64 r)) l) (sym (other_length s h))
       (record { returned = code-back ok ∙ c; holds = refl })
 
   -- the rows t that the code finds in them
-  module _ (h : length s ≡ 136) (t : AnnouncedRows) (f : ofLength (length s) (table_of t) ≡ tableBytes s) {out : List ℕ} (res : WalkAnswer)
+  module _ (h : length s ≡ 136) (t : AnnouncedRows) (f : of_length (length s) (table_of t) ≡ table_bytes s) {out : List ℕ} (res : WalkAnswer)
       (p : WalkCall in_eights (onward (table_of t) next) l res out) where
-    table-in : table_of t ≡ tableBytes s
-    unfolding ofLength
+    table-in : table_of t ≡ table_bytes s
+    unfolding of_length
     table-in = ap (λ (b : Bool). cond b (table_of t) (refusal 14)) (sym (eq-eqb (length s) 136 h)) ∙ f
 
-    delivered : (r : ℤ) → r ≡ code (walkOutcome res) → WalkDelivered (onward (tableBytes s) next) l r out
+    delivered : (r : ℤ) → r ≡ code (walk_outcome res) → WalkDelivered (onward (table_bytes s) next) l r out
     delivered r c =
         subst (λ (o : Outcome (List Row)). WalkDelivered (onward o next) l r out) table-in
         (record { returned = c ∙ ap code p.says; holds = p.holds })
 
-    pub walk-count : (k : ℕ) → res ≡ Compared k → k ≤ length dates / 12 + mostRows
-    unfolding walkOutcome
+    pub walk-count : (k : ℕ) → res ≡ Compared k → k ≤ length dates / 12 + most_rows
+    unfolding walk_outcome
     walk-count k i =
-        let q : answer k ≡ onward (onward (table_of t) next) (λ w. answer w.rowsCompared) = sym (ap walkOutcome i) ∙ p.says in
+        let q : answer k ≡ onward (onward (table_of t) next) (λ w. answer w.rows_compared) = sym (ap walk_outcome i) ∙ p.says in
         omega (
           arith,
-          count_most t (eqb (length dates % 12) 0) (datesFrom (tripleIn dates) 0 (length dates / 12)) (length l / 8) k q,
-          how-many (tripleIn dates) (length dates / 12) 0,
+          count_most t (eqb (length dates % 12) 0) (dates_from (triple_in dates) 0 (length dates / 12)) (length l / 8) k q,
+          how_many (triple_in dates) (length dates / 12) 0,
         )
 
-    pub walk-compared : (k : ℕ) → res ≡ Compared k → k < 2 ^ 63 → WalkDelivered (onward (tableBytes s) next) l (to_z w64 k) out
-    unfolding walkOutcome code
-    walk-compared k i b = delivered (to_z w64 k) (to_z_pos w64 {n = k} b ∙ sym (ap (λ (x : WalkAnswer). code (walkOutcome x)) i))
+    pub walk-compared : (k : ℕ) → res ≡ Compared k → k < 2 ^ 63 → WalkDelivered (onward (table_bytes s) next) l (to_z w64 k) out
+    unfolding walk_outcome code
+    walk-compared k i b = delivered (to_z w64 k) (to_z_pos w64 {n = k} b ∙ sym (ap (λ (x : WalkAnswer). code (walk_outcome x)) i))
 
     pub walk_refused : {r : ℤ} (k : ℕ) → mag r < 2 ^ 63 → res ≡ Refused k → r ≡ code (refusal k)
-        → WalkDelivered (onward (tableBytes s) next) l (to_z w64 (of_z w64 r)) out
-    unfolding walkOutcome
-    walk_refused {r} k ok i c = delivered (to_z w64 (of_z w64 r)) (code-back ok ∙ c ∙ sym (ap (λ (x : WalkAnswer). code (walkOutcome x)) i))
+        → WalkDelivered (onward (table_bytes s) next) l (to_z w64 (of_z w64 r)) out
+    unfolding walk_outcome
+    walk_refused {r} k ok i c = delivered (to_z w64 (of_z w64 r)) (code-back ok ∙ c ∙ sym (ap (λ (x : WalkAnswer). code (walk_outcome x)) i))

@@ -2,11 +2,11 @@
 use Rattle.std.specs.Prelude.{ℕ, ℤ, List}
 use Rattle.standby.specs.declared.Bill.{Bill}
 use Rattle.standby.specs.declared.UtcTime.{UtcTime}
-use Rattle.c_answers.specs.WideFields.{threeEights}
+use Rattle.c_answers.specs.WideFields.{three_eights}
 
-unfoldable pub billBytes : Bill → List ℕ
-billBytes b = threeEights b.quarters b.first b.second
+unfoldable pub bill_bytes : Bill → List ℕ
+bill_bytes b = three_eights b.quarters b.first b.second
 
 -- the time of seven fields
-abbrev pub utcTime : ℤ → ℕ → ℕ → ℕ → ℕ → ℕ → ℕ → UtcTime
-utcTime y m d h n s ms = record { year = y; month = m; day = d; hour = h; minute = n; second = s; millis = ms }
+abbrev pub utc_time : ℤ → ℕ → ℕ → ℕ → ℕ → ℕ → ℕ → UtcTime
+utc_time y m d h n s ms = record { year = y; month = m; day = d; hour = h; minute = n; second = s; millis = ms }

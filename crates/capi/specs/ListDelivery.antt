@@ -3,34 +3,34 @@
 -- last. Assumes nothing.
 use Rattle.std.specs.Prelude.{ℕ, zero, suc, ◌+◌, ◌≡◌, List, cond, eqb, ltb, ℤ, pos, length, get_or}
 use Rattle.refusals.specs.Outcome.{Outcome, answer, refusal}
-use Rattle.numerals.specs.little_endian.LittleEndian.{withU32, withNth32}
+use Rattle.numerals.specs.little_endian.LittleEndian.{with_u32, with_nth32}
 use Rattle.leap_table.specs.declared.rows.AnnouncedRows.{AnnouncedRows}
 use Rattle.leap_table.specs.rows.Announced.{natural}
 use Rattle.leap_lists.specs.declared.ListAnswer.{ListAnswer}
 use Rattle.c_answers.specs.Delivery.{code}
 
 -- the first n of some numbers, as numbers of four bytes from place `from` on
-unfoldable pub putTo : List ℕ → ℕ → List ℤ → ℕ → List ℕ
-putTo l from ns zero = l
-putTo l from ns (suc n) = withNth32 (putTo l from ns n) (from + n) (natural (get_or ns n (pos 0)))
+unfoldable pub put_to : List ℕ → ℕ → List ℤ → ℕ → List ℕ
+put_to l from ns zero = l
+put_to l from ns (suc n) = with_nth32 (put_to l from ns n) (from + n) (natural (get_or ns n (pos 0)))
 
 -- the two sizes, 16 month starts from place 2 on, 16 seconds from place 18 on
-unfoldable pub withTable : List ℕ → AnnouncedRows → List ℕ
-withTable l t = putTo (putTo (withNth32 (withNth32 l 0 t.months_size) 1 t.seconds_size) 2 t.months 16) 18 t.seconds 16
+unfoldable pub with_table : List ℕ → AnnouncedRows → List ℕ
+with_table l t = put_to (put_to (with_nth32 (with_nth32 l 0 t.months_size) 1 t.seconds_size) 2 t.months 16) 18 t.seconds 16
 
 -- how many rows were read into buffers of m and n bytes, or the refusal
-unfoldable pub rowsRead : ListAnswer → ℕ → ℕ → Outcome ℕ
-rowsRead a m n =
+unfoldable pub rows_read : ListAnswer → ℕ → ℕ → Outcome ℕ
+rows_read a m n =
     cond (eqb a.number 0)
     (cond (ltb m 136) (refusal 11) (cond (ltb n 4) (refusal 11) (answer a.table.months_size)))
     (refusal a.number)
 
 -- what a buffer holds: `new` where the call answers, else what it held
-unfoldable pub whereRead : Outcome ℕ → List ℕ → List ℕ → List ℕ
-whereRead (answer n) new old = new
-whereRead (refusal k) new old = old
+unfoldable pub where_read : Outcome ℕ → List ℕ → List ℕ → List ℕ
+where_read (answer n) new old = new
+where_read (refusal k) new old = old
 
 pub record TableRead (a : ListAnswer) (table known : List ℕ) (r : ℤ) (table-after known-after : List ℕ) : Type 0 where
-  pub returned : r ≡ code (rowsRead a (length table) (length known))
-  pub table-holds : table-after ≡ whereRead (rowsRead a (length table) (length known)) (withTable table a.table) table
-  pub known-holds : known-after ≡ whereRead (rowsRead a (length table) (length known)) (withU32 known a.known_until) known
+  pub returned : r ≡ code (rows_read a (length table) (length known))
+  pub table_holds : table-after ≡ where_read (rows_read a (length table) (length known)) (with_table table a.table) table
+  pub known_holds : known-after ≡ where_read (rows_read a (length table) (length known)) (with_u32 known a.known_until) known

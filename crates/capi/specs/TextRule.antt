@@ -3,21 +3,21 @@
 use Rattle.std.specs.Prelude.{ℕ, zero, suc, ◌≡◌, List, [], length, ℤ}
 use Rattle.refusals.specs.Outcome.{Outcome, answer, refusal, onward}
 use Rattle.leap_table.specs.declared.offsets.Rule.{Rule}
-use Rattle.c_answers.specs.rules.RuleFields.{ruleBytes}
+use Rattle.c_answers.specs.rules.RuleFields.{rule_bytes}
 use Rattle.c_answers.specs.TwoBuffers.{DeliveredTwo}
 
 -- what goes into a second buffer of so many bytes: a buffer of none asks for no rule
-unfoldable pub askedRule : ℕ → Rule → List ℕ
-askedRule zero rule = []
-askedRule (suc room) rule = ruleBytes rule
+unfoldable pub asked_rule : ℕ → Rule → List ℕ
+asked_rule zero rule = []
+asked_rule (suc room) rule = rule_bytes rule
 
 -- the text, and the 8 bytes of its rule where it is asked for
 unfoldable pub ruled : ℕ → Outcome (List ℕ × Rule) → Outcome (List ℕ × List ℕ)
-ruled room o = onward o (λ t. answer (t.0, askedRule room t.1))
+ruled room o = onward o (λ t. answer (t.0, asked_rule room t.1))
 
 -- where the second buffer has bytes, but too few: 11 unless the text is refused
-unfoldable pub noRoom : Outcome (List ℕ × Rule) → Outcome ℕ
-noRoom o = onward o (λ t. refusal 11)
+unfoldable pub no_room : Outcome (List ℕ × Rule) → Outcome ℕ
+no_room o = onward o (λ t. refusal 11)
 
 -- delivered beside any second buffer of so many bytes, which stays as it was
 abbrev pub DeliveredBeside : ℕ → Outcome (List ℕ × Rule) → List ℕ → ℤ → List ℕ → Type 0

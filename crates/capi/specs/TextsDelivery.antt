@@ -5,20 +5,20 @@ use Rattle.refusals.specs.Outcome.{Outcome, refusal, onward}
 use Rattle.leap_table.specs.rows.Table.{Row}
 use Rattle.utc.specs.declared.iso_texts.NamedForm.{NamedForm}
 use Rattle.utc.specs.declared.iso_texts.NamedForm.TheVariants.{Standard, HalfEven, Expanded}
-use Rattle.utc.specs.iso_texts.Named.{formNamed}
-use Rattle.utc.specs.run_texts.RunTexts.{TextsCall, textsCall, textsOfRun}
+use Rattle.utc.specs.iso_texts.Named.{form_named}
+use Rattle.utc.specs.run_texts.RunTexts.{TextsCall, texts_call, texts_of_run}
 use Rattle.c_answers.specs.Delivery.{code}
 
 -- CT_TEXT is 0, CT_TEXT_HALF_EVEN 1 and CT_TEXT_EXPANDED 2
-unfoldable pub formNumbered : ℕ → NamedForm
-formNumbered n = cond (eqb n 0) Standard (cond (eqb n 1) HalfEven Expanded)
+unfoldable pub form_numbered : ℕ → NamedForm
+form_numbered n = cond (eqb n 0) Standard (cond (eqb n 1) HalfEven Expanded)
 
 -- 18 for another number, where the table is not refused
-unfoldable pub textsByNumber : ℕ → Outcome (List Row) → List ℕ → List ℕ → List ℕ → List ℕ → List ℕ → TextsCall
-textsByNumber n o js ks texts lengths numbers =
+unfoldable pub texts_by_number : ℕ → Outcome (List Row) → List ℕ → List ℕ → List ℕ → List ℕ → List ℕ → TextsCall
+texts_by_number n o js ks texts lengths numbers =
     cond (leb n 2)
-    (textsOfRun (formNamed (formNumbered n)) o js ks texts lengths numbers)
-    (textsCall (onward o (λ rows. refusal 18)) texts lengths numbers)
+    (texts_of_run (form_named (form_numbered n)) o js ks texts lengths numbers)
+    (texts_call (onward o (λ rows. refusal 18)) texts lengths numbers)
 
 -- the call returned r, and the texts, the lengths and the numbers are as c says: all their bytes
 pub record TextsDelivered (c : TextsCall) (r : ℤ) (texts lengths numbers : List ℕ) : Type 0 where

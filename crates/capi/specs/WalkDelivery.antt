@@ -4,10 +4,10 @@ use Rattle.std.specs.Prelude.{◌≡◌, List, ℕ, ℤ}
 use Rattle.refusals.specs.Outcome.{Outcome, answer, onward}
 use Rattle.leap_table.specs.walk.Walk.{Walked}
 use Rattle.leap_table.specs.walk.Lists.{in_eights}
-use Rattle.leap_table.specs.walk.Call.{listAfter}
+use Rattle.leap_table.specs.walk.Call.{list_after}
 use Rattle.c_answers.specs.Delivery.{code}
 
 -- the call returned r, and the buffer, which held `before`, holds `after`: eight bytes an offset at its start and the rest as it was; refused, all as it was
 pub record WalkDelivered (o : Outcome Walked) (before : List ℕ) (r : ℤ) (after : List ℕ) : Type 0 where
-  pub returned : r ≡ code (onward o (λ w. answer w.rowsCompared))
-  pub holds : after ≡ listAfter in_eights o before
+  pub returned : r ≡ code (onward o (λ w. answer w.rows_compared))
+  pub holds : after ≡ list_after in_eights o before

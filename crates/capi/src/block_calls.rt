@@ -2,11 +2,11 @@
 ghost use Rattle.std.specs.Prelude.{◌≡◌, length};
 ghost use Rattle.refusals.specs.Outcome.{onward};
 ghost use Rattle.stamps.specs.Block.{block_of};
-ghost use Rattle.stamps.specs.Listing.{lineRoom};
+ghost use Rattle.stamps.specs.Listing.{line_room};
 ghost use Rattle.stamps.specs.Widths.{InWidth};
-ghost use Rattle.c_answers.specs.table.TableBytes.{tableBytes};
+ghost use Rattle.c_answers.specs.table.TableBytes.{table_bytes};
 ghost use Rattle.c_answers.specs.Delivery.{code, Delivered};
-ghost use Rattle.capi.specs.ListingPart.{listingPart, firstListing, secondListing};
+ghost use Rattle.capi.specs.ListingPart.{listing_part, first_listing, second_listing};
 
 use c_answers::refused;
 use c_answers::table::{announced_rows_at, table_number};
@@ -31,9 +31,9 @@ fn deliver_part(
     table: &[u8],
     out: &mut [u8],
 ) -> i64
-    requires { (room ≡ lineRoom reporting) × InWidth reporting block.now }
-    ensures { Delivered (onward (tableBytes table.now)
-        (λ rows. listingPart reporting rows block.now line (length out.old)))
+    requires { (room ≡ line_room reporting) × InWidth reporting block.now }
+    ensures { Delivered (onward (table_bytes table.now)
+        (λ rows. listing_part reporting rows block.now line (length out.old)))
         out.old result out.new }
 {
     let rows = announced_rows_at(table);
@@ -51,7 +51,7 @@ fn deliver_part(
 
 #[unsafe(no_mangle)]
 pub extern "C" fn ct_listing_part(block: &[u8], line: u32, table: &[u8], out: &mut [u8]) -> i64
-    ensures { Delivered (firstListing table.now block.now line (length out.old)) out.old result
+    ensures { Delivered (first_listing table.now block.now line (length out.old)) out.old result
         out.new }
 {
     deliver_part(Reporting::Numbers, 33, block, line, table, out)
@@ -66,7 +66,7 @@ pub extern "C" fn ct_reason_listing_part(
     table: &[u8],
     out: &mut [u8],
 ) -> i64
-    ensures { Delivered (secondListing input_len table.now block.now line (length out.old)) out.old result
+    ensures { Delivered (second_listing input_len table.now block.now line (length out.old)) out.old result
         out.new }
 {
     deliver_part(Reporting::Sentences(input_len), 64, block, line, table, out)

@@ -1,31 +1,31 @@
 // The calendar by whole numbers.
 ghost use Rattle.std.specs.Prelude.{◌≡◌, pos};
-ghost use Rattle.calendar.specs.Calendar.{leapYear, daysInMonth};
-ghost use Rattle.calendar.specs.Refusals.{validDate, next_of};
-ghost use Rattle.calendar.specs.Answers.{nextOutcome};
-ghost use Rattle.c_answers.specs.Delivery.{code, truth, done, inBytes, Delivered};
-ghost use Rattle.c_answers.specs.Fields.{dateBytes};
+ghost use Rattle.calendar.specs.Calendar.{leap_year, days_in_month};
+ghost use Rattle.calendar.specs.Refusals.{valid_date, next_of};
+ghost use Rattle.calendar.specs.Answers.{next_outcome};
+ghost use Rattle.c_answers.specs.Delivery.{code, truth, done, in_bytes, Delivered};
+ghost use Rattle.c_answers.specs.Fields.{date_bytes};
 
 use c_answers::{fields, refused};
 use calendar::{DateCheck, NextDay};
 
 #[unsafe(no_mangle)]
 pub extern "C" fn ct_is_leap_year(year: i32) -> i64
-    ensures { result ≡ truth (leapYear year) }
+    ensures { result ≡ truth (leap_year year) }
 {
     if calendar::is_leap_year(year) { 1 } else { 0 }
 }
 
 #[unsafe(no_mangle)]
 pub extern "C" fn ct_days_in_month(year: i32, month: i32) -> i64
-    ensures { result ≡ pos (daysInMonth year month) }
+    ensures { result ≡ pos (days_in_month year month) }
 {
     calendar::days_in_month(year, month) as i64
 }
 
 #[unsafe(no_mangle)]
 pub extern "C" fn ct_validate_calendar_date(year: i32, month: i32, day: i32) -> i64
-    ensures { result ≡ code (done (validDate year month day)) }
+    ensures { result ≡ code (done (valid_date year month day)) }
 {
     match calendar::validate_calendar_date(year, month, day) {
         DateCheck::Valid => 0,
@@ -34,7 +34,7 @@ pub extern "C" fn ct_validate_calendar_date(year: i32, month: i32, day: i32) -> 
 }
 
 fn put_next(found: NextDay, out: &mut [u8]) -> i64
-    ensures { Delivered (inBytes dateBytes (nextOutcome found)) out.old result out.new }
+    ensures { Delivered (in_bytes date_bytes (next_outcome found)) out.old result out.new }
 {
     match found {
         NextDay::Date(date) => fields::put_date(date, out),
@@ -44,7 +44,7 @@ fn put_next(found: NextDay, out: &mut [u8]) -> i64
 
 #[unsafe(no_mangle)]
 pub extern "C" fn ct_next_calendar_day(year: i32, month: i32, day: i32, out: &mut [u8]) -> i64
-    ensures { Delivered (inBytes dateBytes (next_of year month day)) out.old result out.new }
+    ensures { Delivered (in_bytes date_bytes (next_of year month day)) out.old result out.new }
 {
     put_next(calendar::next_calendar_day(year, month, day), out)
 }

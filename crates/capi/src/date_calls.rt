@@ -1,19 +1,19 @@
 // Julian dates: from the calendar and back, and the calls that refuse nothing but a short buffer.
 ghost use Rattle.std.specs.Prelude.{◌≡◌};
 ghost use Rattle.refusals.specs.Outcome.{answer};
-ghost use Rattle.julian.specs.JulianDate.{julian, julianOutcome, roundedSum, addDays, addSeconds, difference};
-ghost use Rattle.julian.specs.Calendar.{calendarToJulian, julianToCalendar, fromCalendar};
-ghost use Rattle.julian.specs.UnixTime.{fromUnixTime};
-ghost use Rattle.julian.specs.JulianYear.{toJulianYear, fromJulianYear};
+ghost use Rattle.julian.specs.JulianDate.{julian, julian_outcome, rounded_sum, add_days, add_seconds, difference};
+ghost use Rattle.julian.specs.Calendar.{calendar_to_julian, julian_to_calendar, from_calendar};
+ghost use Rattle.julian.specs.UnixTime.{from_unix_time};
+ghost use Rattle.julian.specs.JulianYear.{to_julian_year, from_julian_year};
 ghost use Rattle.julian.specs.Equality.{equal};
-ghost use Rattle.c_answers.specs.Delivery.{truth, inBytes, Delivered};
-ghost use Rattle.c_answers.specs.Fields.{julianBytes, calendarBytes};
+ghost use Rattle.c_answers.specs.Delivery.{truth, in_bytes, Delivered};
+ghost use Rattle.c_answers.specs.Fields.{julian_bytes, calendar_bytes};
 
 use c_answers::{fields, refused};
 use julian::{JulianAnswer, JulianDate};
 
 fn put_date(found: JulianAnswer, out: &mut [u8]) -> i64
-    ensures { Delivered (inBytes julianBytes (julianOutcome found)) out.old result out.new }
+    ensures { Delivered (in_bytes julian_bytes (julian_outcome found)) out.old result out.new }
 {
     match found {
         JulianAnswer::Date(date) => fields::put_julian(date, out),
@@ -23,14 +23,14 @@ fn put_date(found: JulianAnswer, out: &mut [u8]) -> i64
 
 #[unsafe(no_mangle)]
 pub extern "C" fn ct_calendar_to_julian(year: i32, month: i32, day: i32, out: &mut [u8]) -> i64
-    ensures { Delivered (inBytes julianBytes (calendarToJulian year month day)) out.old result out.new }
+    ensures { Delivered (in_bytes julian_bytes (calendar_to_julian year month day)) out.old result out.new }
 {
     put_date(julian::calendar_to_julian(year, month, day), out)
 }
 
 #[unsafe(no_mangle)]
 pub extern "C" fn ct_julian_to_calendar(jd1: f64, jd2: f64, out: &mut [u8]) -> i64
-    ensures { Delivered (inBytes calendarBytes (julianToCalendar jd1 jd2)) out.old result out.new }
+    ensures { Delivered (in_bytes calendar_bytes (julian_to_calendar jd1 jd2)) out.old result out.new }
 {
     c_answers::date_parts::julian_to_calendar(jd1, jd2, out)
 }
@@ -45,7 +45,7 @@ pub extern "C" fn ct_from_calendar(
     second: f64,
     out: &mut [u8],
 ) -> i64
-    ensures { Delivered (inBytes julianBytes (fromCalendar year month day hour minute second)) out.old result out.new }
+    ensures { Delivered (in_bytes julian_bytes (from_calendar year month day hour minute second)) out.old result out.new }
 {
     put_date(
         JulianDate::from_calendar(year, month, day, hour, minute, second),
@@ -55,42 +55,42 @@ pub extern "C" fn ct_from_calendar(
 
 #[unsafe(no_mangle)]
 pub extern "C" fn ct_to_f64(jd1: f64, jd2: f64) -> f64
-    ensures { result ≡ roundedSum (julian jd1 jd2) }
+    ensures { result ≡ rounded_sum (julian jd1 jd2) }
 {
     JulianDate::new(jd1, jd2).to_f64()
 }
 
 #[unsafe(no_mangle)]
 pub extern "C" fn ct_add_days(jd1: f64, jd2: f64, days: f64, out: &mut [u8]) -> i64
-    ensures { Delivered (answer (julianBytes (addDays (julian jd1 jd2) days))) out.old result out.new }
+    ensures { Delivered (answer (julian_bytes (add_days (julian jd1 jd2) days))) out.old result out.new }
 {
     fields::put_julian(JulianDate::new(jd1, jd2).add_days(days), out)
 }
 
 #[unsafe(no_mangle)]
 pub extern "C" fn ct_add_seconds(jd1: f64, jd2: f64, seconds: f64, out: &mut [u8]) -> i64
-    ensures { Delivered (answer (julianBytes (addSeconds (julian jd1 jd2) seconds))) out.old result out.new }
+    ensures { Delivered (answer (julian_bytes (add_seconds (julian jd1 jd2) seconds))) out.old result out.new }
 {
     fields::put_julian(JulianDate::new(jd1, jd2).add_seconds(seconds), out)
 }
 
 #[unsafe(no_mangle)]
 pub extern "C" fn ct_from_unix_time(seconds: i64, nanos: u32, out: &mut [u8]) -> i64
-    ensures { Delivered (answer (julianBytes (fromUnixTime seconds nanos))) out.old result out.new }
+    ensures { Delivered (answer (julian_bytes (from_unix_time seconds nanos))) out.old result out.new }
 {
     fields::put_julian(JulianDate::from_unix_time(seconds, nanos), out)
 }
 
 #[unsafe(no_mangle)]
 pub extern "C" fn ct_to_julian_year(jd1: f64, jd2: f64) -> f64
-    ensures { result ≡ toJulianYear (julian jd1 jd2) }
+    ensures { result ≡ to_julian_year (julian jd1 jd2) }
 {
     JulianDate::new(jd1, jd2).to_julian_year()
 }
 
 #[unsafe(no_mangle)]
 pub extern "C" fn ct_from_julian_year(year: f64, out: &mut [u8]) -> i64
-    ensures { Delivered (answer (julianBytes (fromJulianYear year))) out.old result out.new }
+    ensures { Delivered (answer (julian_bytes (from_julian_year year))) out.old result out.new }
 {
     fields::put_julian(JulianDate::from_julian_year(year), out)
 }

@@ -1,12 +1,12 @@
 // GPS weeks and milliseconds of the week to GPS dates and back, and the whole week of its ten lowest bits.
 ghost use Rattle.std.specs.Prelude.{◌≡◌};
 ghost use Rattle.julian.specs.JulianDate.{julian};
-ghost use Rattle.scales.specs.gps_weeks.WeekDate.{weekDate};
-ghost use Rattle.scales.specs.gps_weeks.WeekOf.{weekOutcome, weekOf};
-ghost use Rattle.scales.specs.gps_weeks.FullWeek.{fullWeek};
-ghost use Rattle.c_answers.specs.Delivery.{code, inBytes, Delivered};
-ghost use Rattle.c_answers.specs.Fields.{julianBytes};
-ghost use Rattle.capi.specs.WeekBytes.{weekBytes};
+ghost use Rattle.scales.specs.gps_weeks.WeekDate.{week_date};
+ghost use Rattle.scales.specs.gps_weeks.WeekOf.{week_outcome, week_of};
+ghost use Rattle.scales.specs.gps_weeks.FullWeek.{full_week};
+ghost use Rattle.c_answers.specs.Delivery.{code, in_bytes, Delivered};
+ghost use Rattle.c_answers.specs.Fields.{julian_bytes};
+ghost use Rattle.capi.specs.WeekBytes.{week_bytes};
 
 use super::scale_calls::put_gps;
 use c_answers::{fields, refused};
@@ -16,13 +16,13 @@ use scales::gps_weeks::{FullWeekAnswer, WeekAnswer};
 
 #[unsafe(no_mangle)]
 pub extern "C" fn ct_gps_from_week(week: u32, millis: u32, out: &mut [u8]) -> i64
-    ensures { Delivered (inBytes julianBytes (weekDate week millis)) out.old result out.new }
+    ensures { Delivered (in_bytes julian_bytes (week_date week millis)) out.old result out.new }
 {
     put_gps(scales::gps_weeks::from_week(week, millis), out)
 }
 
 fn put_week(found: WeekAnswer, out: &mut [u8]) -> i64
-    ensures { Delivered (inBytes weekBytes (weekOutcome found)) out.old result out.new }
+    ensures { Delivered (in_bytes week_bytes (week_outcome found)) out.old result out.new }
 {
     match found {
         WeekAnswer::At(time) => fields::put_two_numbers(time.week, time.millis, out),
@@ -32,7 +32,7 @@ fn put_week(found: WeekAnswer, out: &mut [u8]) -> i64
 
 #[unsafe(no_mangle)]
 pub extern "C" fn ct_gps_to_week(jd1: f64, jd2: f64, out: &mut [u8]) -> i64
-    ensures { Delivered (inBytes weekBytes (weekOf (julian jd1 jd2))) out.old result out.new }
+    ensures { Delivered (in_bytes week_bytes (week_of (julian jd1 jd2))) out.old result out.new }
 {
     put_week(
         scales::gps_weeks::to_week(GPS(JulianDate { jd1, jd2 })),
@@ -42,7 +42,7 @@ pub extern "C" fn ct_gps_to_week(jd1: f64, jd2: f64, out: &mut [u8]) -> i64
 
 #[unsafe(no_mangle)]
 pub extern "C" fn ct_gps_full_week(ten_bits: u32, reference: u32) -> i64
-    ensures { result ≡ code (fullWeek ten_bits reference) }
+    ensures { result ≡ code (full_week ten_bits reference) }
 {
     match scales::gps_weeks::full_week(ten_bits, reference) {
         FullWeekAnswer::Week(week) => week as i64,

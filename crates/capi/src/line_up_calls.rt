@@ -1,8 +1,8 @@
 // The stamps of up to three recorders in one order. The two work areas, four bytes for each stamp each, are written too, and what is left in them means
 // nothing.
 ghost use Rattle.std.specs.Prelude.{length};
-ghost use Rattle.line_up.specs.LineUp.{linedUp};
-ghost use Rattle.line_listing.specs.order.Order.{linesInOrder};
+ghost use Rattle.line_up.specs.LineUp.{lined_up};
+ghost use Rattle.line_listing.specs.order.Order.{lines_in_order};
 ghost use Rattle.capi.specs.LineDelivery.{LineDelivered};
 
 use c_answers::refused;
@@ -19,7 +19,7 @@ pub extern "C" fn ct_line_up(
     tails: &mut [u8],
     ranks: &mut [u8],
 ) -> i64
-    ensures { LineDelivered (linedUp jd1.now jd2.now numbers.old first_count second_count out.old
+    ensures { LineDelivered (lined_up jd1.now jd2.now numbers.old first_count second_count out.old
         (length tails.old) (length ranks.old)) result numbers.new out.new }
 {
     match line_up::line_up(
@@ -48,7 +48,7 @@ pub extern "C" fn ct_lines_in_order(
     work1: &mut [u8],
     work2: &mut [u8],
 ) -> i64
-    ensures { LineDelivered (linesInOrder jd1.now jd2.now numbers.old first_count second_count
+    ensures { LineDelivered (lines_in_order jd1.now jd2.now numbers.old first_count second_count
         order.old (length work1.old) (length work2.old)) result numbers.new order.new }
 {
     match line_listing::order::lines_in_order(

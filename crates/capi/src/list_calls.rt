@@ -2,7 +2,7 @@
 ghost use Rattle.std.specs.Prelude.{◌≡◌, ◌<◌, pos};
 ghost use Rattle.leap_table.specs.rows.Announced.{least};
 ghost use Rattle.leap_lists.specs.Reading.{read_of};
-ghost use Rattle.capi.specs.ListDelivery.{putTo, withTable, TableRead};
+ghost use Rattle.capi.specs.ListDelivery.{put_to, with_table, TableRead};
 
 use c_answers::refused;
 use leap_table::rows::AnnouncedRows;
@@ -10,7 +10,7 @@ use leap_table::rows::AnnouncedRows;
 // Sixteen numbers as numbers of four bytes, from place `from` on.
 fn put_numbers(numbers: &[i32; 16], from: usize, out: &mut [u8])
     requires { from < 100 }
-    ensures { out.new ≡ putTo out.old from numbers.now 16 }
+    ensures { out.new ≡ put_to out.old from numbers.now 16 }
 {
     let mut i = 0;
     while i < 16 {
@@ -21,7 +21,7 @@ fn put_numbers(numbers: &[i32; 16], from: usize, out: &mut [u8])
 
 // The bytes of a table: its two sizes, the month starts, the seconds.
 fn put_table(table: AnnouncedRows, out: &mut [u8])
-    ensures { out.new ≡ withTable out.old table }
+    ensures { out.new ≡ with_table out.old table }
 {
     numerals::little_endian::put_nth_u32(out, 0, table.months_size);
     numerals::little_endian::put_nth_u32(out, 1, table.seconds_size);

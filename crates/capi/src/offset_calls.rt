@@ -1,13 +1,13 @@
 // TAI-UTC by the table and the rows that are lent after it.
 ghost use Rattle.std.specs.Prelude.{◌≡◌, length};
 ghost use Rattle.refusals.specs.Outcome.{answer, onward};
-ghost use Rattle.leap_table.specs.offsets.Rule.{forget, offsetByRule};
-ghost use Rattle.leap_table.specs.offsets.Leap.{leapAtEndOfDay};
-ghost use Rattle.leap_table.specs.offsets.Answers.{secondsByRuleOutcome};
-ghost use Rattle.c_answers.specs.table.TableBytes.{tableBytes};
-ghost use Rattle.c_answers.specs.Delivery.{code, inBytes, Delivered};
-ghost use Rattle.c_answers.specs.Fields.{floatBytes};
-ghost use Rattle.c_answers.specs.rules.RuleFields.{offsetRuleBytes};
+ghost use Rattle.leap_table.specs.offsets.Rule.{forget, offset_by_rule};
+ghost use Rattle.leap_table.specs.offsets.Leap.{leap_at_end_of_day};
+ghost use Rattle.leap_table.specs.offsets.Answers.{seconds_by_rule_outcome};
+ghost use Rattle.c_answers.specs.table.TableBytes.{table_bytes};
+ghost use Rattle.c_answers.specs.Delivery.{code, in_bytes, Delivered};
+ghost use Rattle.c_answers.specs.Fields.{float_bytes};
+ghost use Rattle.c_answers.specs.rules.RuleFields.{offset_rule_bytes};
 
 use c_answers::table::{announced_rows_at, arrays, table_number};
 use c_answers::{fields, refused};
@@ -16,7 +16,7 @@ use leap_table::offsets::SecondsByRule;
 // The fixed rows and the announced ones.
 #[unsafe(no_mangle)]
 pub extern "C" fn ct_check_table(table: &[u8]) -> i64
-    ensures { result ≡ code (onward (tableBytes table.now) (λ rows. answer (length rows))) }
+    ensures { result ≡ code (onward (table_bytes table.now) (λ rows. answer (length rows))) }
 {
     let rows = announced_rows_at(table);
     let number = table_number(table.len(), rows);
@@ -27,7 +27,7 @@ pub extern "C" fn ct_check_table(table: &[u8]) -> i64
 }
 
 fn put_offset(found: SecondsByRule, out: &mut [u8]) -> i64
-    ensures { Delivered (inBytes offsetRuleBytes (secondsByRuleOutcome found)) out.old result out.new }
+    ensures { Delivered (in_bytes offset_rule_bytes (seconds_by_rule_outcome found)) out.old result out.new }
 {
     match found {
         SecondsByRule::Seconds(seconds, rule) => {
@@ -39,7 +39,7 @@ fn put_offset(found: SecondsByRule, out: &mut [u8]) -> i64
 
 // A leap passes no rule on.
 fn put_leap(found: SecondsByRule, out: &mut [u8]) -> i64
-    ensures { Delivered (inBytes floatBytes (forget (secondsByRuleOutcome found))) out.old result out.new }
+    ensures { Delivered (in_bytes float_bytes (forget (seconds_by_rule_outcome found))) out.old result out.new }
 {
     match found {
         SecondsByRule::Seconds(seconds, _) => fields::put_float(seconds, out),
@@ -56,7 +56,7 @@ pub extern "C" fn ct_get_tai_utc_offset(
     table: &[u8],
     out: &mut [u8],
 ) -> i64
-    ensures { Delivered (inBytes offsetRuleBytes (onward (tableBytes table.now) (λ rows. offsetByRule rows year month day fraction)))
+    ensures { Delivered (in_bytes offset_rule_bytes (onward (table_bytes table.now) (λ rows. offset_by_rule rows year month day fraction)))
         out.old result out.new }
 {
     let mut months = [0; 16];
@@ -83,7 +83,7 @@ pub extern "C" fn ct_leap_at_end_of_day(
     table: &[u8],
     out: &mut [u8],
 ) -> i64
-    ensures { Delivered (inBytes floatBytes (onward (tableBytes table.now) (λ rows. leapAtEndOfDay rows year month day))) out.old
+    ensures { Delivered (in_bytes float_bytes (onward (table_bytes table.now) (λ rows. leap_at_end_of_day rows year month day))) out.old
         result out.new }
 {
     let mut months = [0; 16];

@@ -1,10 +1,10 @@
 // Text that others wrote, read: its six fields, and of UTC text the date too.
 ghost use Rattle.std.specs.Prelude.{false};
 ghost use Rattle.refusals.specs.Outcome.{answer, onward};
-ghost use Rattle.parsing.specs.Parsed.{parsedOutcome, parsedUtcOutcome, parsed, parsedUtc};
-ghost use Rattle.c_answers.specs.table.TableBytes.{tableBytes};
-ghost use Rattle.c_answers.specs.Delivery.{inBytes, Delivered};
-ghost use Rattle.capi.specs.ReaderFields.{parsedBytes, parsedUtcBytes};
+ghost use Rattle.parsing.specs.Parsed.{parsed_outcome, parsed_utc_outcome, parsed, parsed_utc};
+ghost use Rattle.c_answers.specs.table.TableBytes.{table_bytes};
+ghost use Rattle.c_answers.specs.Delivery.{in_bytes, Delivered};
+ghost use Rattle.capi.specs.ReaderFields.{parsed_bytes, parsed_utc_bytes};
 
 use c_answers::fields::{put_date, put_float, put_julian, put_two_numbers};
 use c_answers::refused;
@@ -14,7 +14,7 @@ use parsing::{ParsedAnswer, ParsedDateTime, ParsedUtc, ParsedUtcAnswer};
 
 // Year, month and day, then hour and minute, then the second, one behind the other.
 fn put_fields(fields: ParsedDateTime, out: &mut [u8]) -> i64
-    ensures { Delivered (answer (parsedBytes fields)) out.old result out.new }
+    ensures { Delivered (answer (parsed_bytes fields)) out.old result out.new }
 {
     if out.len() < 28 {
         return refused(refusals::NO_ROOM);
@@ -32,7 +32,7 @@ fn put_fields(fields: ParsedDateTime, out: &mut [u8]) -> i64
 
 // The 28 bytes of the fields and the 16 of the date.
 fn put_fields_and_date(read: ParsedUtc, out: &mut [u8]) -> i64
-    ensures { Delivered (answer (parsedUtcBytes read)) out.old result out.new }
+    ensures { Delivered (answer (parsed_utc_bytes read)) out.old result out.new }
 {
     if out.len() < 44 {
         return refused(refusals::NO_ROOM);
@@ -45,7 +45,7 @@ fn put_fields_and_date(read: ParsedUtc, out: &mut [u8]) -> i64
 }
 
 fn put_parsed(found: ParsedAnswer, out: &mut [u8]) -> i64
-    ensures { Delivered (inBytes parsedBytes (parsedOutcome found)) out.old result out.new }
+    ensures { Delivered (in_bytes parsed_bytes (parsed_outcome found)) out.old result out.new }
 {
     match found {
         ParsedAnswer::Fields(fields) => put_fields(fields, out),
@@ -54,7 +54,7 @@ fn put_parsed(found: ParsedAnswer, out: &mut [u8]) -> i64
 }
 
 fn put_parsed_utc(found: ParsedUtcAnswer, out: &mut [u8]) -> i64
-    ensures { Delivered (inBytes parsedUtcBytes (parsedUtcOutcome found)) out.old result out.new }
+    ensures { Delivered (in_bytes parsed_utc_bytes (parsed_utc_outcome found)) out.old result out.new }
 {
     match found {
         ParsedUtcAnswer::Read(read) => put_fields_and_date(read, out),
@@ -64,14 +64,14 @@ fn put_parsed_utc(found: ParsedUtcAnswer, out: &mut [u8]) -> i64
 
 #[unsafe(no_mangle)]
 pub extern "C" fn ct_parse_iso8601(text: &[u8], out: &mut [u8]) -> i64
-    ensures { Delivered (inBytes parsedBytes (parsed false text.now)) out.old result out.new }
+    ensures { Delivered (in_bytes parsed_bytes (parsed false text.now)) out.old result out.new }
 {
     put_parsed(parsing::parse_iso8601(text), out)
 }
 
 #[unsafe(no_mangle)]
 pub extern "C" fn ct_utc_from_iso8601(text: &[u8], table: &[u8], out: &mut [u8]) -> i64
-    ensures { Delivered (inBytes parsedUtcBytes (onward (tableBytes table.now) (λ rows. parsedUtc rows text.now)))
+    ensures { Delivered (in_bytes parsed_utc_bytes (onward (table_bytes table.now) (λ rows. parsed_utc rows text.now)))
         out.old result out.new }
 {
     let mut months = [0; 16];

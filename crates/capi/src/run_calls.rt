@@ -1,7 +1,7 @@
 // A run of stamps from one scale to another: by the way through TAI, and by one formula.
-ghost use Rattle.runs.specs.by_formula.Formula.{formulaRun};
-ghost use Rattle.runs.specs.Run.{convertedRun};
-ghost use Rattle.c_answers.specs.table.TableBytes.{tableBytes};
+ghost use Rattle.runs.specs.by_formula.Formula.{formula_run};
+ghost use Rattle.runs.specs.Run.{converted_run};
+ghost use Rattle.c_answers.specs.table.TableBytes.{table_bytes};
 ghost use Rattle.capi.specs.RunDelivery.{RunDelivered};
 
 use c_answers::refused;
@@ -19,7 +19,7 @@ pub extern "C" fn ct_convert_run(
     out2: &mut [u8],
     numbers: &mut [u8],
 ) -> i64
-    ensures { RunDelivered (convertedRun (tableBytes table.now) from to jd1.now jd2.now out1.old
+    ensures { RunDelivered (converted_run (table_bytes table.now) from to jd1.now jd2.now out1.old
         out2.old numbers.old) result out1.new out2.new numbers.new }
 {
     let mut months = [0; 16];
@@ -49,7 +49,7 @@ pub extern "C" fn ct_formula_run(
     out2: &mut [u8],
     numbers: &mut [u8],
 ) -> i64
-    ensures { RunDelivered (formulaRun from to jd1.now jd2.now offsets.now out1.old out2.old
+    ensures { RunDelivered (formula_run from to jd1.now jd2.now offsets.now out1.old out2.old
         numbers.old) result out1.new out2.new numbers.new }
 {
     match runs::by_formula::formula_run(from, to, jd1, jd2, offsets, out1, out2, numbers) {

@@ -1,10 +1,10 @@
 // The sixteen scale conversions that read no table: a date's two parts in, the two parts of the date in the other scale out.
 ghost use Rattle.julian.specs.JulianDate.{julian};
-ghost use Rattle.scales.specs.Scales.{taiOutcome, ut1Outcome, ttOutcome, gpsOutcome, tcgOutcome, tcbOutcome, tdbOutcome};
-ghost use Rattle.scales.specs.Conversions.{answer_of, gps-tai, tai-gps, tai-tt, tt-tai, tai-tcg, tcg-tai, tt-tcg, tcg-tt, tcb-tdb, tdb-tcb, tt-tdb};
+ghost use Rattle.scales.specs.Scales.{tai_outcome, ut1_outcome, tt_outcome, gps_outcome, tcg_outcome, tcb_outcome, tdb_outcome};
+ghost use Rattle.scales.specs.Conversions.{answer_of, gps-tai, tai-gps, tai-tt, tt-tai, tai-tcg, tcg-tai, tt_tcg, tcg-tt, tcb-tdb, tdb-tcb, tt-tdb};
 ghost use Rattle.scales.specs.Conversions.{tdb-tt, ut1-tai, tai-ut1, ut1-tt, tt-ut1};
-ghost use Rattle.c_answers.specs.Delivery.{inBytes, Delivered};
-ghost use Rattle.c_answers.specs.Fields.{julianBytes};
+ghost use Rattle.c_answers.specs.Delivery.{in_bytes, Delivered};
+ghost use Rattle.c_answers.specs.Fields.{julian_bytes};
 
 use c_answers::{fields, refused};
 use julian::JulianDate;
@@ -14,7 +14,7 @@ use scales::{
 };
 
 pub(crate) fn put_tai(found: TaiAnswer, out: &mut [u8]) -> i64
-    ensures { Delivered (inBytes julianBytes (taiOutcome found)) out.old result out.new }
+    ensures { Delivered (in_bytes julian_bytes (tai_outcome found)) out.old result out.new }
 {
     match found {
         TaiAnswer::Date(tai) => fields::put_julian(tai.0, out),
@@ -23,7 +23,7 @@ pub(crate) fn put_tai(found: TaiAnswer, out: &mut [u8]) -> i64
 }
 
 pub(crate) fn put_ut1(found: Ut1Answer, out: &mut [u8]) -> i64
-    ensures { Delivered (inBytes julianBytes (ut1Outcome found)) out.old result out.new }
+    ensures { Delivered (in_bytes julian_bytes (ut1_outcome found)) out.old result out.new }
 {
     match found {
         Ut1Answer::Date(ut1) => fields::put_julian(ut1.0, out),
@@ -32,7 +32,7 @@ pub(crate) fn put_ut1(found: Ut1Answer, out: &mut [u8]) -> i64
 }
 
 fn put_tt(found: TtAnswer, out: &mut [u8]) -> i64
-    ensures { Delivered (inBytes julianBytes (ttOutcome found)) out.old result out.new }
+    ensures { Delivered (in_bytes julian_bytes (tt_outcome found)) out.old result out.new }
 {
     match found {
         TtAnswer::Date(tt) => fields::put_julian(tt.0, out),
@@ -41,7 +41,7 @@ fn put_tt(found: TtAnswer, out: &mut [u8]) -> i64
 }
 
 pub(crate) fn put_gps(found: GpsAnswer, out: &mut [u8]) -> i64
-    ensures { Delivered (inBytes julianBytes (gpsOutcome found)) out.old result out.new }
+    ensures { Delivered (in_bytes julian_bytes (gps_outcome found)) out.old result out.new }
 {
     match found {
         GpsAnswer::Date(gps) => fields::put_julian(gps.0, out),
@@ -50,7 +50,7 @@ pub(crate) fn put_gps(found: GpsAnswer, out: &mut [u8]) -> i64
 }
 
 fn put_tcg(found: TcgAnswer, out: &mut [u8]) -> i64
-    ensures { Delivered (inBytes julianBytes (tcgOutcome found)) out.old result out.new }
+    ensures { Delivered (in_bytes julian_bytes (tcg_outcome found)) out.old result out.new }
 {
     match found {
         TcgAnswer::Date(tcg) => fields::put_julian(tcg.0, out),
@@ -59,7 +59,7 @@ fn put_tcg(found: TcgAnswer, out: &mut [u8]) -> i64
 }
 
 fn put_tcb(found: TcbAnswer, out: &mut [u8]) -> i64
-    ensures { Delivered (inBytes julianBytes (tcbOutcome found)) out.old result out.new }
+    ensures { Delivered (in_bytes julian_bytes (tcb_outcome found)) out.old result out.new }
 {
     match found {
         TcbAnswer::Date(tcb) => fields::put_julian(tcb.0, out),
@@ -68,7 +68,7 @@ fn put_tcb(found: TcbAnswer, out: &mut [u8]) -> i64
 }
 
 fn put_tdb(found: TdbAnswer, out: &mut [u8]) -> i64
-    ensures { Delivered (inBytes julianBytes (tdbOutcome found)) out.old result out.new }
+    ensures { Delivered (in_bytes julian_bytes (tdb_outcome found)) out.old result out.new }
 {
     match found {
         TdbAnswer::Date(tdb) => fields::put_julian(tdb.0, out),
@@ -78,7 +78,7 @@ fn put_tdb(found: TdbAnswer, out: &mut [u8]) -> i64
 
 #[unsafe(no_mangle)]
 pub extern "C" fn ct_gps_to_tai(jd1: f64, jd2: f64, out: &mut [u8]) -> i64
-    ensures { Delivered (inBytes julianBytes (answer_of gps-tai (julian jd1 jd2))) out.old result out.new }
+    ensures { Delivered (in_bytes julian_bytes (answer_of gps-tai (julian jd1 jd2))) out.old result out.new }
 {
     let gps = GPS(JulianDate { jd1, jd2 });
     put_tai(scales::gps_tai::gps_to_tai(gps), out)
@@ -86,7 +86,7 @@ pub extern "C" fn ct_gps_to_tai(jd1: f64, jd2: f64, out: &mut [u8]) -> i64
 
 #[unsafe(no_mangle)]
 pub extern "C" fn ct_tai_to_gps(jd1: f64, jd2: f64, out: &mut [u8]) -> i64
-    ensures { Delivered (inBytes julianBytes (answer_of tai-gps (julian jd1 jd2))) out.old result out.new }
+    ensures { Delivered (in_bytes julian_bytes (answer_of tai-gps (julian jd1 jd2))) out.old result out.new }
 {
     let tai = TAI(JulianDate { jd1, jd2 });
     put_gps(scales::gps_tai::tai_to_gps(tai), out)
@@ -94,7 +94,7 @@ pub extern "C" fn ct_tai_to_gps(jd1: f64, jd2: f64, out: &mut [u8]) -> i64
 
 #[unsafe(no_mangle)]
 pub extern "C" fn ct_tai_to_tt(jd1: f64, jd2: f64, out: &mut [u8]) -> i64
-    ensures { Delivered (inBytes julianBytes (answer_of tai-tt (julian jd1 jd2))) out.old result out.new }
+    ensures { Delivered (in_bytes julian_bytes (answer_of tai-tt (julian jd1 jd2))) out.old result out.new }
 {
     let tai = TAI(JulianDate { jd1, jd2 });
     put_tt(scales::tai_tt::tai_to_tt(tai), out)
@@ -102,7 +102,7 @@ pub extern "C" fn ct_tai_to_tt(jd1: f64, jd2: f64, out: &mut [u8]) -> i64
 
 #[unsafe(no_mangle)]
 pub extern "C" fn ct_tt_to_tai(jd1: f64, jd2: f64, out: &mut [u8]) -> i64
-    ensures { Delivered (inBytes julianBytes (answer_of tt-tai (julian jd1 jd2))) out.old result out.new }
+    ensures { Delivered (in_bytes julian_bytes (answer_of tt-tai (julian jd1 jd2))) out.old result out.new }
 {
     let tt = TT(JulianDate { jd1, jd2 });
     put_tai(scales::tai_tt::tt_to_tai(tt), out)
@@ -110,7 +110,7 @@ pub extern "C" fn ct_tt_to_tai(jd1: f64, jd2: f64, out: &mut [u8]) -> i64
 
 #[unsafe(no_mangle)]
 pub extern "C" fn ct_tai_to_tcg(jd1: f64, jd2: f64, out: &mut [u8]) -> i64
-    ensures { Delivered (inBytes julianBytes (answer_of tai-tcg (julian jd1 jd2))) out.old result out.new }
+    ensures { Delivered (in_bytes julian_bytes (answer_of tai-tcg (julian jd1 jd2))) out.old result out.new }
 {
     let tai = TAI(JulianDate { jd1, jd2 });
     put_tcg(scales::tai_tt::tai_to_tcg(tai), out)
@@ -118,7 +118,7 @@ pub extern "C" fn ct_tai_to_tcg(jd1: f64, jd2: f64, out: &mut [u8]) -> i64
 
 #[unsafe(no_mangle)]
 pub extern "C" fn ct_tcg_to_tai(jd1: f64, jd2: f64, out: &mut [u8]) -> i64
-    ensures { Delivered (inBytes julianBytes (answer_of tcg-tai (julian jd1 jd2))) out.old result out.new }
+    ensures { Delivered (in_bytes julian_bytes (answer_of tcg-tai (julian jd1 jd2))) out.old result out.new }
 {
     let tcg = TCG(JulianDate { jd1, jd2 });
     put_tai(scales::tai_tt::tcg_to_tai(tcg), out)
@@ -126,7 +126,7 @@ pub extern "C" fn ct_tcg_to_tai(jd1: f64, jd2: f64, out: &mut [u8]) -> i64
 
 #[unsafe(no_mangle)]
 pub extern "C" fn ct_tt_to_tcg(jd1: f64, jd2: f64, out: &mut [u8]) -> i64
-    ensures { Delivered (inBytes julianBytes (answer_of tt-tcg (julian jd1 jd2))) out.old result out.new }
+    ensures { Delivered (in_bytes julian_bytes (answer_of tt_tcg (julian jd1 jd2))) out.old result out.new }
 {
     let tt = TT(JulianDate { jd1, jd2 });
     put_tcg(scales::tt_tcg::tt_to_tcg(tt), out)
@@ -134,7 +134,7 @@ pub extern "C" fn ct_tt_to_tcg(jd1: f64, jd2: f64, out: &mut [u8]) -> i64
 
 #[unsafe(no_mangle)]
 pub extern "C" fn ct_tcg_to_tt(jd1: f64, jd2: f64, out: &mut [u8]) -> i64
-    ensures { Delivered (inBytes julianBytes (answer_of tcg-tt (julian jd1 jd2))) out.old result out.new }
+    ensures { Delivered (in_bytes julian_bytes (answer_of tcg-tt (julian jd1 jd2))) out.old result out.new }
 {
     let tcg = TCG(JulianDate { jd1, jd2 });
     put_tt(scales::tt_tcg::tcg_to_tt(tcg), out)
@@ -142,7 +142,7 @@ pub extern "C" fn ct_tcg_to_tt(jd1: f64, jd2: f64, out: &mut [u8]) -> i64
 
 #[unsafe(no_mangle)]
 pub extern "C" fn ct_tcb_to_tdb(jd1: f64, jd2: f64, out: &mut [u8]) -> i64
-    ensures { Delivered (inBytes julianBytes (answer_of tcb-tdb (julian jd1 jd2))) out.old result out.new }
+    ensures { Delivered (in_bytes julian_bytes (answer_of tcb-tdb (julian jd1 jd2))) out.old result out.new }
 {
     let tcb = TCB(JulianDate { jd1, jd2 });
     put_tdb(scales::tcb_tdb::tcb_to_tdb(tcb), out)
@@ -150,7 +150,7 @@ pub extern "C" fn ct_tcb_to_tdb(jd1: f64, jd2: f64, out: &mut [u8]) -> i64
 
 #[unsafe(no_mangle)]
 pub extern "C" fn ct_tdb_to_tcb(jd1: f64, jd2: f64, out: &mut [u8]) -> i64
-    ensures { Delivered (inBytes julianBytes (answer_of tdb-tcb (julian jd1 jd2))) out.old result out.new }
+    ensures { Delivered (in_bytes julian_bytes (answer_of tdb-tcb (julian jd1 jd2))) out.old result out.new }
 {
     let tdb = TDB(JulianDate { jd1, jd2 });
     put_tcb(scales::tcb_tdb::tdb_to_tcb(tdb), out)
@@ -158,7 +158,7 @@ pub extern "C" fn ct_tdb_to_tcb(jd1: f64, jd2: f64, out: &mut [u8]) -> i64
 
 #[unsafe(no_mangle)]
 pub extern "C" fn ct_tt_to_tdb_with_offset(jd1: f64, jd2: f64, seconds: f64, out: &mut [u8]) -> i64
-    ensures { Delivered (inBytes julianBytes (answer_of (tt-tdb seconds) (julian jd1 jd2))) out.old result out.new }
+    ensures { Delivered (in_bytes julian_bytes (answer_of (tt-tdb seconds) (julian jd1 jd2))) out.old result out.new }
 {
     let tt = TT(JulianDate { jd1, jd2 });
     put_tdb(scales::tt_tdb::tt_to_tdb_with_offset(tt, seconds), out)
@@ -166,7 +166,7 @@ pub extern "C" fn ct_tt_to_tdb_with_offset(jd1: f64, jd2: f64, seconds: f64, out
 
 #[unsafe(no_mangle)]
 pub extern "C" fn ct_tdb_to_tt_with_offset(jd1: f64, jd2: f64, seconds: f64, out: &mut [u8]) -> i64
-    ensures { Delivered (inBytes julianBytes (answer_of (tdb-tt seconds) (julian jd1 jd2))) out.old result out.new }
+    ensures { Delivered (in_bytes julian_bytes (answer_of (tdb-tt seconds) (julian jd1 jd2))) out.old result out.new }
 {
     let tdb = TDB(JulianDate { jd1, jd2 });
     put_tt(scales::tt_tdb::tdb_to_tt_with_offset(tdb, seconds), out)
@@ -174,7 +174,7 @@ pub extern "C" fn ct_tdb_to_tt_with_offset(jd1: f64, jd2: f64, seconds: f64, out
 
 #[unsafe(no_mangle)]
 pub extern "C" fn ct_ut1_to_tai_with_offset(jd1: f64, jd2: f64, seconds: f64, out: &mut [u8]) -> i64
-    ensures { Delivered (inBytes julianBytes (answer_of (ut1-tai seconds) (julian jd1 jd2))) out.old result out.new }
+    ensures { Delivered (in_bytes julian_bytes (answer_of (ut1-tai seconds) (julian jd1 jd2))) out.old result out.new }
 {
     let ut1 = UT1(JulianDate { jd1, jd2 });
     put_tai(scales::ut1_tai::ut1_to_tai_with_offset(ut1, seconds), out)
@@ -182,7 +182,7 @@ pub extern "C" fn ct_ut1_to_tai_with_offset(jd1: f64, jd2: f64, seconds: f64, ou
 
 #[unsafe(no_mangle)]
 pub extern "C" fn ct_tai_to_ut1_with_offset(jd1: f64, jd2: f64, seconds: f64, out: &mut [u8]) -> i64
-    ensures { Delivered (inBytes julianBytes (answer_of (tai-ut1 seconds) (julian jd1 jd2))) out.old result out.new }
+    ensures { Delivered (in_bytes julian_bytes (answer_of (tai-ut1 seconds) (julian jd1 jd2))) out.old result out.new }
 {
     let tai = TAI(JulianDate { jd1, jd2 });
     put_ut1(scales::ut1_tai::tai_to_ut1_with_offset(tai, seconds), out)
@@ -190,7 +190,7 @@ pub extern "C" fn ct_tai_to_ut1_with_offset(jd1: f64, jd2: f64, seconds: f64, ou
 
 #[unsafe(no_mangle)]
 pub extern "C" fn ct_ut1_to_tt_with_delta_t(jd1: f64, jd2: f64, seconds: f64, out: &mut [u8]) -> i64
-    ensures { Delivered (inBytes julianBytes (answer_of (ut1-tt seconds) (julian jd1 jd2))) out.old result out.new }
+    ensures { Delivered (in_bytes julian_bytes (answer_of (ut1-tt seconds) (julian jd1 jd2))) out.old result out.new }
 {
     let ut1 = UT1(JulianDate { jd1, jd2 });
     put_tt(scales::ut1_tai::ut1_to_tt_with_delta_t(ut1, seconds), out)
@@ -198,7 +198,7 @@ pub extern "C" fn ct_ut1_to_tt_with_delta_t(jd1: f64, jd2: f64, seconds: f64, ou
 
 #[unsafe(no_mangle)]
 pub extern "C" fn ct_tt_to_ut1_with_delta_t(jd1: f64, jd2: f64, seconds: f64, out: &mut [u8]) -> i64
-    ensures { Delivered (inBytes julianBytes (answer_of (tt-ut1 seconds) (julian jd1 jd2))) out.old result out.new }
+    ensures { Delivered (in_bytes julian_bytes (answer_of (tt-ut1 seconds) (julian jd1 jd2))) out.old result out.new }
 {
     let tt = TT(JulianDate { jd1, jd2 });
     put_ut1(scales::ut1_tai::tt_to_ut1_with_delta_t(tt, seconds), out)

@@ -1,8 +1,8 @@
 // Milliseconds from the launch to a stamp, and to each stamp of a run.
 ghost use Rattle.std.specs.Prelude.{◌≡◌};
 ghost use Rattle.julian.specs.JulianDate.{julian};
-ghost use Rattle.since_launch.specs.Millis.{millisFromTo};
-ghost use Rattle.since_launch.specs.Run.{millisOfRun};
+ghost use Rattle.since_launch.specs.Millis.{millis_from_to};
+ghost use Rattle.since_launch.specs.Run.{millis_of_run};
 ghost use Rattle.c_answers.specs.Delivery.{code};
 ghost use Rattle.capi.specs.MillisDelivery.{MillisDelivered};
 
@@ -12,7 +12,7 @@ use since_launch::{MillisAnswer, RunMillis};
 
 #[unsafe(no_mangle)]
 pub extern "C" fn ct_milliseconds(from1: f64, from2: f64, jd1: f64, jd2: f64) -> i64
-    ensures { result ≡ code (millisFromTo (julian from1 from2) (julian jd1 jd2)) }
+    ensures { result ≡ code (millis_from_to (julian from1 from2) (julian jd1 jd2)) }
 {
     let from = JulianDate {
         jd1: from1,
@@ -33,7 +33,7 @@ pub extern "C" fn ct_milliseconds_of_run(
     millis: &mut [u8],
     numbers: &mut [u8],
 ) -> i64
-    ensures { MillisDelivered (millisOfRun (julian from1 from2) jd1.now jd2.now millis.old numbers.old) result
+    ensures { MillisDelivered (millis_of_run (julian from1 from2) jd1.now jd2.now millis.old numbers.old) result
         millis.new numbers.new }
 {
     let from = JulianDate {

@@ -1,17 +1,17 @@
 // The bill for a crew's standby.
 ghost use Rattle.refusals.specs.Outcome.{onward};
-ghost use Rattle.standby.specs.Bills.{standbyBill};
-ghost use Rattle.standby.specs.Answers.{billOutcome};
-ghost use Rattle.c_answers.specs.table.TableBytes.{tableBytes};
-ghost use Rattle.c_answers.specs.Delivery.{inBytes, Delivered};
-ghost use Rattle.capi.specs.BillBytes.{billBytes, utcTime};
+ghost use Rattle.standby.specs.Bills.{standby_bill};
+ghost use Rattle.standby.specs.Answers.{bill_outcome};
+ghost use Rattle.c_answers.specs.table.TableBytes.{table_bytes};
+ghost use Rattle.c_answers.specs.Delivery.{in_bytes, Delivered};
+ghost use Rattle.capi.specs.BillBytes.{bill_bytes, utc_time};
 
 use c_answers::table::{announced_rows_at, table_number};
 use c_answers::{refused, wide_fields};
 use standby::{BillAnswer, UtcTime};
 
 fn put_bill(found: BillAnswer, out: &mut [u8]) -> i64
-    ensures { Delivered (inBytes billBytes (billOutcome found)) out.old result out.new }
+    ensures { Delivered (in_bytes bill_bytes (bill_outcome found)) out.old result out.new }
 {
     match found {
         BillAnswer::Billed(bill) => wide_fields::put_three_patterns(
@@ -34,8 +34,8 @@ fn bill_call(
     table: &[u8],
     out: &mut [u8],
 ) -> i64
-    ensures { Delivered (inBytes billBytes
-        (onward (tableBytes table.now) (λ rows. standbyBill rows start end rate first_metres second_metres))) out.old result
+    ensures { Delivered (in_bytes bill_bytes
+        (onward (table_bytes table.now) (λ rows. standby_bill rows start end rate first_metres second_metres))) out.old result
         out.new }
 {
     let rows = announced_rows_at(table);
@@ -71,10 +71,10 @@ pub extern "C" fn ct_standby_bill(
     table: &[u8],
     out: &mut [u8],
 ) -> i64
-    ensures { Delivered (inBytes billBytes
-        (onward (tableBytes table.now)
-        (λ rows. standbyBill rows (utcTime start_year start_month start_day start_hour start_minute start_second start_millis)
-        (utcTime end_year end_month end_day end_hour end_minute end_second end_millis) rate first_metres second_metres))) out.old
+    ensures { Delivered (in_bytes bill_bytes
+        (onward (table_bytes table.now)
+        (λ rows. standby_bill rows (utc_time start_year start_month start_day start_hour start_minute start_second start_millis)
+        (utc_time end_year end_month end_day end_hour end_minute end_second end_millis) rate first_metres second_metres))) out.old
         result out.new }
 {
     let start = UtcTime {

@@ -3,13 +3,13 @@
 ghost use Rattle.std.specs.Prelude.{◌≡◌, ℕ, ◌<◌, [], length};
 ghost use Rattle.refusals.specs.Outcome.{refusal, onward};
 ghost use Rattle.julian.specs.JulianDate.{julian};
-ghost use Rattle.leap_table.specs.rows.Announced.{rowsIn};
-ghost use Rattle.utc.specs.iso_texts.ByRule.{textByRule, isoTextByRule, halfEvenByRule, expandedByRule};
-ghost use Rattle.c_answers.specs.table.TableBytes.{tableBytes};
+ghost use Rattle.leap_table.specs.rows.Announced.{rows_in};
+ghost use Rattle.utc.specs.iso_texts.ByRule.{text_by_rule, iso_text_by_rule, half_even_by_rule, expanded_by_rule};
+ghost use Rattle.c_answers.specs.table.TableBytes.{table_bytes};
 ghost use Rattle.c_answers.specs.Delivery.{code};
 ghost use Rattle.c_answers.specs.TwoBuffers.{DeliveredTwo};
-ghost use Rattle.utc.specs.iso_texts.Named.{formNamed};
-ghost use Rattle.capi.specs.TextRule.{ruled, noRoom, DeliveredBeside};
+ghost use Rattle.utc.specs.iso_texts.Named.{form_named};
+ghost use Rattle.capi.specs.TextRule.{ruled, no_room, DeliveredBeside};
 
 use c_answers::refused;
 use c_answers::table::arrays;
@@ -25,7 +25,7 @@ fn no_room_for_rule<'a>(
     months: &'a [i32; 16],
     seconds: &'a [i32; 16],
 ) -> i64
-    ensures { result ≡ code (noRoom (textByRule (formNamed textForm) (rowsIn size months.now seconds.now) date.0)) }
+    ensures { result ≡ code (no_room (text_by_rule (form_named textForm) (rows_in size months.now seconds.now) date.0)) }
 {
     let mut spare = [0; 1];
     match utc::iso_texts::to_text_by_arrays(textForm, date, size, months, seconds, &mut spare) {
@@ -43,7 +43,7 @@ fn text_alone<'a>(
     seconds: &'a [i32; 16],
     out: &mut [u8],
 ) -> i64
-    ensures { DeliveredTwo (ruled 0 (textByRule (formNamed textForm) (rowsIn size months.now seconds.now) date.0))
+    ensures { DeliveredTwo (ruled 0 (text_by_rule (form_named textForm) (rows_in size months.now seconds.now) date.0))
         out.old [] result out.new [] }
 {
     match utc::iso_texts::to_text_by_arrays(textForm, date, size, months, seconds, out) {
@@ -63,7 +63,7 @@ fn with_short_rule<'a>(
     room: usize,
 ) -> i64
     requires { room < 8 }
-    ensures { DeliveredBeside room (textByRule (formNamed textForm) (rowsIn size months.now seconds.now) date.0)
+    ensures { DeliveredBeside room (text_by_rule (form_named textForm) (rows_in size months.now seconds.now) date.0)
         out.old result out.new }
 {
     if room == 0 {
@@ -81,7 +81,7 @@ fn put_text<'a>(
     rule: &mut [u8],
 ) -> i64
     ensures { DeliveredTwo
-        (ruled (length rule.old) (isoTextByRule (rowsIn size months.now seconds.now) date.0)) out.old
+        (ruled (length rule.old) (iso_text_by_rule (rows_in size months.now seconds.now) date.0)) out.old
         rule.old result out.new rule.new }
 {
     if rule.len() < 8 {
@@ -113,7 +113,7 @@ fn put_half_even<'a>(
     rule: &mut [u8],
 ) -> i64
     ensures { DeliveredTwo
-        (ruled (length rule.old) (halfEvenByRule (rowsIn size months.now seconds.now) date.0)) out.old
+        (ruled (length rule.old) (half_even_by_rule (rows_in size months.now seconds.now) date.0)) out.old
         rule.old result out.new rule.new }
 {
     if rule.len() < 8 {
@@ -145,7 +145,7 @@ fn put_expanded<'a>(
     rule: &mut [u8],
 ) -> i64
     ensures { DeliveredTwo
-        (ruled (length rule.old) (expandedByRule (rowsIn size months.now seconds.now) date.0)) out.old
+        (ruled (length rule.old) (expanded_by_rule (rows_in size months.now seconds.now) date.0)) out.old
         rule.old result out.new rule.new }
 {
     if rule.len() < 8 {
@@ -177,7 +177,7 @@ pub extern "C" fn ct_to_iso8601(
     rule: &mut [u8],
 ) -> i64
     ensures { DeliveredTwo
-        (ruled (length rule.old) (onward (tableBytes table.now) (λ rows. isoTextByRule rows (julian jd1 jd2)))) out.old
+        (ruled (length rule.old) (onward (table_bytes table.now) (λ rows. iso_text_by_rule rows (julian jd1 jd2)))) out.old
         rule.old result out.new rule.new }
 {
     let mut months = [0; 16];
@@ -201,7 +201,7 @@ pub extern "C" fn ct_to_iso8601_half_even(
     rule: &mut [u8],
 ) -> i64
     ensures { DeliveredTwo
-        (ruled (length rule.old) (onward (tableBytes table.now) (λ rows. halfEvenByRule rows (julian jd1 jd2)))) out.old
+        (ruled (length rule.old) (onward (table_bytes table.now) (λ rows. half_even_by_rule rows (julian jd1 jd2)))) out.old
         rule.old result out.new rule.new }
 {
     let mut months = [0; 16];
@@ -225,7 +225,7 @@ pub extern "C" fn ct_to_iso8601_expanded(
     rule: &mut [u8],
 ) -> i64
     ensures { DeliveredTwo
-        (ruled (length rule.old) (onward (tableBytes table.now) (λ rows. expandedByRule rows (julian jd1 jd2)))) out.old
+        (ruled (length rule.old) (onward (table_bytes table.now) (λ rows. expanded_by_rule rows (julian jd1 jd2)))) out.old
         rule.old result out.new rule.new }
 {
     let mut months = [0; 16];

@@ -1,7 +1,7 @@
 // The texts of a run of UTC dates in one call.
 ghost use Rattle.std.specs.Prelude.{◌≡◌};
-ghost use Rattle.c_answers.specs.table.TableBytes.{tableBytes};
-ghost use Rattle.capi.specs.TextsDelivery.{formNumbered, textsByNumber, TextsDelivered};
+ghost use Rattle.c_answers.specs.table.TableBytes.{table_bytes};
+ghost use Rattle.capi.specs.TextsDelivery.{form_numbered, texts_by_number, TextsDelivered};
 
 use c_answers::refused;
 use c_answers::table::arrays;
@@ -10,7 +10,7 @@ use utc::run_texts::RunTextsAnswer;
 
 // The form of text of a number, and that with expanded years for any number above 1.
 fn form_of(n: u32) -> NamedForm
-    ensures { result ≡ formNumbered n }
+    ensures { result ≡ form_numbered n }
 {
     if n == 0 {
         return NamedForm::Standard;
@@ -31,7 +31,7 @@ pub extern "C" fn ct_texts_of_run(
     lengths: &mut [u8],
     numbers: &mut [u8],
 ) -> i64
-    ensures { TextsDelivered (textsByNumber text_form (tableBytes table.now) jd1.now jd2.now texts.old
+    ensures { TextsDelivered (texts_by_number text_form (table_bytes table.now) jd1.now jd2.now texts.old
         lengths.old numbers.old) result texts.new lengths.new numbers.new }
 {
     let mut months = [0; 16];

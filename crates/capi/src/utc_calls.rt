@@ -1,17 +1,17 @@
 // UTC: from Unix time and from the calendar, and to TAI and UT1 and back.
 ghost use Rattle.refusals.specs.Outcome.{onward};
 ghost use Rattle.julian.specs.JulianDate.{julian};
-ghost use Rattle.scales.specs.Scales.{utcOutcome};
-ghost use Rattle.utc_scales.specs.UtcTai.{taiToUtc};
-ghost use Rattle.utc_scales.specs.from_ut1.Ut1Utc.{ut1ToUtc};
-ghost use Rattle.utc_scales.specs.ByRule.{utcToTaiByRule, taiByRuleOutcome};
-ghost use Rattle.utc_scales.specs.to_ut1.ByRule.{utcToUt1ByRule, ut1ByRuleOutcome};
-ghost use Rattle.utc.specs.UnixTime.{utcNew};
-ghost use Rattle.utc.specs.FromCalendar.{utcFromCalendar};
-ghost use Rattle.c_answers.specs.table.TableBytes.{tableBytes};
-ghost use Rattle.c_answers.specs.Delivery.{inBytes, Delivered};
-ghost use Rattle.c_answers.specs.Fields.{julianBytes};
-ghost use Rattle.c_answers.specs.rules.RuleFields.{julianRuleBytes};
+ghost use Rattle.scales.specs.Scales.{utc_outcome};
+ghost use Rattle.utc_scales.specs.UtcTai.{tai_to_utc};
+ghost use Rattle.utc_scales.specs.from_ut1.Ut1Utc.{ut1_to_utc};
+ghost use Rattle.utc_scales.specs.ByRule.{utc_to_tai_by_rule, tai_by_rule_outcome};
+ghost use Rattle.utc_scales.specs.to_ut1.ByRule.{utc_to_ut1_by_rule, ut1_by_rule_outcome};
+ghost use Rattle.utc.specs.UnixTime.{utc_new};
+ghost use Rattle.utc.specs.FromCalendar.{utc_from_calendar};
+ghost use Rattle.c_answers.specs.table.TableBytes.{table_bytes};
+ghost use Rattle.c_answers.specs.Delivery.{in_bytes, Delivered};
+ghost use Rattle.c_answers.specs.Fields.{julian_bytes};
+ghost use Rattle.c_answers.specs.rules.RuleFields.{julian_rule_bytes};
 
 use c_answers::table::arrays;
 use c_answers::{fields, refused};
@@ -22,7 +22,7 @@ use utc_scales::utc_tai;
 use utc_scales::utc_tai::TaiByRule;
 
 fn put_utc(found: UtcAnswer, out: &mut [u8]) -> i64
-    ensures { Delivered (inBytes julianBytes (utcOutcome found)) out.old result out.new }
+    ensures { Delivered (in_bytes julian_bytes (utc_outcome found)) out.old result out.new }
 {
     match found {
         UtcAnswer::Date(date) => fields::put_julian(date.0, out),
@@ -32,7 +32,7 @@ fn put_utc(found: UtcAnswer, out: &mut [u8]) -> i64
 
 #[unsafe(no_mangle)]
 pub extern "C" fn ct_utc_new(seconds: i64, nanos: u32, table: &[u8], out: &mut [u8]) -> i64
-    ensures { Delivered (inBytes julianBytes (onward (tableBytes table.now) (λ rows. utcNew rows seconds nanos))) out.old result
+    ensures { Delivered (in_bytes julian_bytes (onward (table_bytes table.now) (λ rows. utc_new rows seconds nanos))) out.old result
         out.new }
 {
     let mut months = [0; 16];
@@ -60,8 +60,8 @@ pub extern "C" fn ct_utc_from_calendar(
     table: &[u8],
     out: &mut [u8],
 ) -> i64
-    ensures { Delivered (inBytes julianBytes
-        (onward (tableBytes table.now) (λ rows. utcFromCalendar rows year month day hour minute second))) out.old result out.new }
+    ensures { Delivered (in_bytes julian_bytes
+        (onward (table_bytes table.now) (λ rows. utc_from_calendar rows year month day hour minute second))) out.old result out.new }
 {
     let mut months = [0; 16];
     let mut seconds = [0; 16];
@@ -80,7 +80,7 @@ pub extern "C" fn ct_utc_from_calendar(
 }
 
 fn put_tai_by_rule(found: TaiByRule, out: &mut [u8]) -> i64
-    ensures { Delivered (inBytes julianRuleBytes (taiByRuleOutcome found)) out.old result out.new }
+    ensures { Delivered (in_bytes julian_rule_bytes (tai_by_rule_outcome found)) out.old result out.new }
 {
     match found {
         TaiByRule::Date(date, rule) => c_answers::rules::put_julian_by_rule(date.0, rule, out),
@@ -90,7 +90,7 @@ fn put_tai_by_rule(found: TaiByRule, out: &mut [u8]) -> i64
 
 #[unsafe(no_mangle)]
 pub extern "C" fn ct_utc_to_tai(jd1: f64, jd2: f64, table: &[u8], out: &mut [u8]) -> i64
-    ensures { Delivered (inBytes julianRuleBytes (onward (tableBytes table.now) (λ rows. utcToTaiByRule rows (julian jd1 jd2))))
+    ensures { Delivered (in_bytes julian_rule_bytes (onward (table_bytes table.now) (λ rows. utc_to_tai_by_rule rows (julian jd1 jd2))))
         out.old result out.new }
 {
     let mut months = [0; 16];
@@ -110,7 +110,7 @@ pub extern "C" fn ct_utc_to_tai(jd1: f64, jd2: f64, table: &[u8], out: &mut [u8]
 
 #[unsafe(no_mangle)]
 pub extern "C" fn ct_tai_to_utc(jd1: f64, jd2: f64, table: &[u8], out: &mut [u8]) -> i64
-    ensures { Delivered (inBytes julianBytes (onward (tableBytes table.now) (λ rows. taiToUtc rows (julian jd1 jd2)))) out.old result
+    ensures { Delivered (in_bytes julian_bytes (onward (table_bytes table.now) (λ rows. tai_to_utc rows (julian jd1 jd2)))) out.old result
         out.new }
 {
     let mut months = [0; 16];
@@ -129,7 +129,7 @@ pub extern "C" fn ct_tai_to_utc(jd1: f64, jd2: f64, table: &[u8], out: &mut [u8]
 }
 
 fn put_ut1_by_rule(found: Ut1ByRule, out: &mut [u8]) -> i64
-    ensures { Delivered (inBytes julianRuleBytes (ut1ByRuleOutcome found)) out.old result out.new }
+    ensures { Delivered (in_bytes julian_rule_bytes (ut1_by_rule_outcome found)) out.old result out.new }
 {
     match found {
         Ut1ByRule::Date(date, rule) => c_answers::rules::put_julian_by_rule(date.0, rule, out),
@@ -145,7 +145,7 @@ pub extern "C" fn ct_utc_to_ut1_with_dut1(
     table: &[u8],
     out: &mut [u8],
 ) -> i64
-    ensures { Delivered (inBytes julianRuleBytes (onward (tableBytes table.now) (λ rows. utcToUt1ByRule rows (julian jd1 jd2) dut1)))
+    ensures { Delivered (in_bytes julian_rule_bytes (onward (table_bytes table.now) (λ rows. utc_to_ut1_by_rule rows (julian jd1 jd2) dut1)))
         out.old result out.new }
 {
     let mut months = [0; 16];
@@ -171,7 +171,7 @@ pub extern "C" fn ct_ut1_to_utc_with_dut1(
     table: &[u8],
     out: &mut [u8],
 ) -> i64
-    ensures { Delivered (inBytes julianBytes (onward (tableBytes table.now) (λ rows. ut1ToUtc rows (julian jd1 jd2) dut1)))
+    ensures { Delivered (in_bytes julian_bytes (onward (table_bytes table.now) (λ rows. ut1_to_utc rows (julian jd1 jd2) dut1)))
         out.old result out.new }
 {
     let mut months = [0; 16];

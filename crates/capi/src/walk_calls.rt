@@ -2,8 +2,8 @@
 // is most of what they cost.
 ghost use Rattle.std.specs.Prelude.{length};
 ghost use Rattle.refusals.specs.Outcome.{onward};
-ghost use Rattle.leap_table.specs.walk.Lists.{walkOfBytes};
-ghost use Rattle.c_answers.specs.table.TableBytes.{tableBytes};
+ghost use Rattle.leap_table.specs.walk.Lists.{walk_of_bytes};
+ghost use Rattle.c_answers.specs.table.TableBytes.{table_bytes};
 ghost use Rattle.capi.specs.WalkDelivery.{WalkDelivered};
 
 use c_answers::refused;
@@ -12,7 +12,7 @@ use leap_table::walk::WalkAnswer;
 
 #[unsafe(no_mangle)]
 pub extern "C" fn ct_offsets_at_0h(dates: &[u8], table: &[u8], out: &mut [u8]) -> i64
-    ensures { WalkDelivered (onward (tableBytes table.now) (λ rows. walkOfBytes rows dates.now (length out.old)))
+    ensures { WalkDelivered (onward (table_bytes table.now) (λ rows. walk_of_bytes rows dates.now (length out.old)))
         out.old result out.new }
 {
     if table.len() != 136 {

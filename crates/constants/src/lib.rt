@@ -2,7 +2,7 @@
 // series FAIRHD, and those of celestial_core that the files of the scope read.
 ghost use Rattle.std.specs.Prelude.{◌≡◌, get_or};
 ghost use Rattle.std.specs.Float.{nan};
-ghost use Rattle.constants.specs.Constants.{inOrder};
+ghost use Rattle.constants.specs.Constants.{in_order};
 
 pub mod scale_numbers;
 
@@ -75,7 +75,7 @@ const IN_ORDER: [f64; 15] = [
 // The constant at the place i of the list, and a NaN past its end. The contract fixes the bits of every constant, a whole number's too,
 // since its float is its cast.
 pub fn constant(i: usize) -> f64
-    ensures { result ≡ get_or inOrder i nan }
+    ensures { result ≡ get_or in_order i nan }
 {
     if i < 15 { IN_ORDER[i] } else { 0.0 / 0.0 }
 }

@@ -6,7 +6,7 @@ use lib.Ieee.{Float, nan, inf, fin, binary64, up, down, odd, units, round, fits,
 use lib.Ieee.Fits.{down_pos, round_is}
 use lib.Ieee.Exact.{HasValue}
 use lib.Ieee.Scale.{round_same}
-use Rattle.floats.specs.Whole.{toWhole, cut, downward, upward, upper}
+use Rattle.floats.specs.Whole.{to_whole, cut, downward, upward, upper}
 use Rattle.floats.proofs.Laws.{cut-exact}
 
 -- ---- n / d up to a whole number is n / d down to one, or one more
@@ -59,12 +59,12 @@ below-no m e k (fin false a b) h t = absurd (false≢true h.0)
 below-no m e k (fin true a b) h t = reaches k (m * up e) (down e) (a * up b) (down b) h.1 (down_pos b) (nltb→le (a * up b * down e) (m * up e * down b) t)
 
 -- a number that is not negative is not below its whole part
-above-no : (m : ℕ) (e : ℤ) (v : Float) → HasValue v false (m * up e / down e) 1 → T (lt (fin false m e) v) → ⊥
+above_no : (m : ℕ) (e : ℤ) (v : Float) → HasValue v false (m * up e / down e) 1 → T (lt (fin false m e) v) → ⊥
 unfolding lt
-above-no m e nan h t = h
-above-no m e (inf s) h t = h
-above-no m e (fin true a b) h t = true≢false h.0
-above-no m e (fin false a b) h t =
+above_no m e nan h t = h
+above_no m e (inf s) h t = h
+above_no m e (fin true a b) h t = true≢false h.0
+above_no m e (fin false a b) h t =
     let n = m * up e in
     let d = down e in
     let l : n < n / d * d = lt_of_mul-lt-mul_right (down b)
@@ -83,52 +83,52 @@ minus k (fin true a b) h = round_same binary64 true (a * up b * 1 + 1 * down b) 
     go : (n d : ℕ) → n * 1 ≡ k * d → (n * 1 + 1 * d) * 1 ≡ (k + 1) * (d * 1)
     go n d p = mul-one (n * 1 + 1 * d) ∙ ap (λ (z : ℕ). z + 1 * d) p ∙ sym (add-mul k 1 d) ∙ ap (λ (z : ℕ). (k + 1) * z) (sym (mul-one d))
 
-pub one-off : (x : Float) → T (fits binary64 x) → T (lt x (toWhole cut x)) → sub binary64 (toWhole cut x) (fin false 1 (pos 0)) ≡ toWhole downward x
-unfolding toWhole lt
+pub one-off : (x : Float) → T (fits binary64 x) → T (lt x (to_whole cut x)) → sub binary64 (to_whole cut x) (fin false 1 (pos 0)) ≡ to_whole downward x
+unfolding to_whole lt
 one-off nan f t = absurd t
 one-off (inf true) f t = absurd t
 one-off (inf false) f t = absurd t
-one-off (fin false m e) f t = absurd (above-no m e (toWhole cut (fin false m e)) (cut-exact false m e f) t)
+one-off (fin false m e) f t = absurd (above_no m e (to_whole cut (fin false m e)) (cut-exact false m e f) t)
 one-off (fin true m e) f t =
     let k = m * up e / down e in
     let v = cut-exact true m e f in
-    minus k (toWhole cut (fin true m e)) v
-    ∙ ap (λ (z : ℕ). round binary64 true z 1) (one_up (m * up e) (down e) k (down_pos e) refl (below-yes m e k (toWhole cut (fin true m e)) v t))
+    minus k (to_whole cut (fin true m e)) v
+    ∙ ap (λ (z : ℕ). round binary64 true z 1) (one_up (m * up e) (down e) k (down_pos e) refl (below-yes m e k (to_whole cut (fin true m e)) v t))
 
-pub none-off : (x : Float) → T (fits binary64 x) → T (not (lt x (toWhole cut x))) → toWhole cut x ≡ toWhole downward x
-unfolding toWhole
+pub none-off : (x : Float) → T (fits binary64 x) → T (not (lt x (to_whole cut x))) → to_whole cut x ≡ to_whole downward x
+unfolding to_whole
 none-off nan f t = refl
 none-off (inf s) f t = refl
 none-off (fin false m e) f t = refl
 none-off (fin true m e) f t =
     let k = m * up e / down e in
     ap (λ (z : ℕ). round binary64 true z 1)
-    (none-up (m * up e) (down e) k (down_pos e) refl (below-no m e k (toWhole cut (fin true m e)) (cut-exact true m e f) t))
+    (none-up (m * up e) (down e) k (down_pos e) refl (below-no m e k (to_whole cut (fin true m e)) (cut-exact true m e f) t))
 
 -- ---- -floor(-x)
-neg-odd : (d : ℕ) (s : Bool) (q k l : ℕ) → neg (odd d (not s) q k l) ≡ odd d s q k l
+neg_odd : (d : ℕ) (s : Bool) (q k l : ℕ) → neg (odd d (not s) q k l) ≡ odd d s q k l
 unfolding neg odd
-neg-odd d true zero k l = refl
-neg-odd d true (suc q) k l = refl
-neg-odd d false zero k l = refl
-neg-odd d false (suc q) k l = refl
+neg_odd d true zero k l = refl
+neg_odd d true (suc q) k l = refl
+neg_odd d false zero k l = refl
+neg_odd d false (suc q) k l = refl
 
-neg-units : (s : Bool) (q k : ℕ) → neg (units binary64 (not s) q k) ≡ units binary64 s q k
+neg_units : (s : Bool) (q k : ℕ) → neg (units binary64 (not s) q k) ≡ units binary64 s q k
 unfolding units neg
-neg-units s q k = go s (ltb (q * 2 ^ k) (2 ^ 2098))
+neg_units s q k = go s (ltb (q * 2 ^ k) (2 ^ 2098))
   where
     go : (s b : Bool) → neg (cond b (odd 54 (not s) q k 1074) (inf (not s))) ≡ cond b (odd 54 s q k 1074) (inf s)
-    go s true = neg-odd 54 s q k 1074
+    go s true = neg_odd 54 s q k 1074
     go true false = refl
     go false false = refl
 
-neg-round : (s : Bool) (n : ℕ) → neg (round binary64 (not s) n 1) ≡ round binary64 s n 1
-neg-round s n = ap neg (round_is binary64 (not s) n 1) ∙ neg-units s _ _ ∙ sym (round_is binary64 s n 1)
+neg_round : (s : Bool) (n : ℕ) → neg (round binary64 (not s) n 1) ≡ round binary64 s n 1
+neg_round s n = ap neg (round_is binary64 (not s) n 1) ∙ neg_units s _ _ ∙ sym (round_is binary64 s n 1)
 
-pub turned : (x : Float) → neg (toWhole downward (neg x)) ≡ toWhole upward x
-unfolding toWhole neg
+pub turned : (x : Float) → neg (to_whole downward (neg x)) ≡ to_whole upward x
+unfolding to_whole neg
 turned nan = refl
 turned (inf true) = refl
 turned (inf false) = refl
-turned (fin true m e) = neg-round true (m * up e / down e)
-turned (fin false m e) = neg-round false (upper (m * up e) (down e))
+turned (fin true m e) = neg_round true (m * up e / down e)
+turned (fin false m e) = neg_round false (upper (m * up e) (down e))

@@ -27,8 +27,8 @@ unfolding of_bits
 of_bits_is b = refl
 
 -- the field as the code takes it
-pub expo-is : (b : ℕ) → bit_and (b / 2 ^ 52) 2047 ≡ expo b
-expo-is b = and_mask (b / 2 ^ 52) 11 ∙ sym (field b 11 52)
+pub expo_is : (b : ℕ) → bit_and (b / 2 ^ 52) 2047 ≡ expo b
+expo_is b = and_mask (b / 2 ^ 52) 11 ∙ sym (field b 11 52)
 
 pub digits_lt : (b : ℕ) → digits b < 2 ^ 52
 digits_lt b = mod-lt b (pow_pos 52)
@@ -38,15 +38,15 @@ pub lead : (t : ℕ) → t < 2 ^ 52 → 2 ^ 52 + t < 2 ^ 53
 lead t h = omega arith
 
 -- ---- the value that the fields stand for, in units of 2 ^ -1074
-not-ones : (j : ℕ) → suc j < 2047 → T (eqb (suc j) 2047) → ⊥
-not-ones j h t = go (suc j) h (eqb→eq (suc j) 2047 t)
+not_ones : (j : ℕ) → suc j < 2047 → T (eqb (suc j) 2047) → ⊥
+not_ones j h t = go (suc j) h (eqb→eq (suc j) 2047 t)
   where
     go : (e : ℕ) → e < 2047 → e ≡ 2047 → ⊥
     go e a b = omega arith
 
 pub normal : (s : Bool) (j t : ℕ) → suc j < 2047 → HasValue (of_fields binary64 s (suc j) t) s ((2 ^ 52 + t) * 2 ^ j) (2 ^ 1074)
 unfolding of_fields
-normal s j t h = go (eqb (suc j) 2047) (not-ones j h)
+normal s j t h = go (eqb (suc j) 2047) (not_ones j h)
   where
     go : (a : Bool) → (T a → ⊥) → HasValue (cond a (cond (eqb t 0) (inf s) nan) (odd 53 s (2 ^ 52 + t) j 1074)) s ((2 ^ 52 + t) * 2 ^ j) (2 ^ 1074)
     go true f = absurd (f tt)

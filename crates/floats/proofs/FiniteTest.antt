@@ -5,10 +5,10 @@ use lib.Ieee.Fits.{down_pos}
 use lib.Ieee.Scale.{finite, round_same}
 use Rattle.floats.specs.Whole.{nought}
 
-zero-eq : (s : Bool) → eq (round binary64 s 0 1) nought ≡ true
+zero_eq : (s : Bool) → eq (round binary64 s 0 1) nought ≡ true
 unfolding eq round
-zero-eq true = refl
-zero-eq false = refl
+zero_eq true = refl
+zero_eq false = refl
 
 module _ (x c : ℕ) (C : 0 < c) where
   none : (s : Bool) → round binary64 s (x - x) c ≡ round binary64 s 0 1
@@ -18,8 +18,8 @@ module _ (x c : ℕ) (C : 0 < c) where
       go x c = omega arith
 
   gone : (b : Bool) (s t : Bool) → eq (cond b (round binary64 s (x - x) c) (round binary64 t (x - x) c)) nought ≡ true
-  gone true s t = ap (λ (v : Float). eq v nought) (none s) ∙ zero-eq s
-  gone false s t = ap (λ (v : Float). eq v nought) (none t) ∙ zero-eq t
+  gone true s t = ap (λ (v : Float). eq v nought) (none s) ∙ zero_eq s
+  gone false s t = ap (λ (v : Float). eq v nought) (none t) ∙ zero_eq t
 
 pub less-itself : (x : Float) → eq (sub binary64 x x) nought ≡ finite x
 unfolding sub add neg eq sum

@@ -7,7 +7,7 @@ use lib.Ieee.Fits.{and_l, and_r, down_pos, round-fits}
 use lib.Ieee.Exact.{HasValue, round_exact}
 use lib.Ieee.Back.{round_whole, whole_unique}
 use lib.Ieee.Nearest.{div_same}
-use Rattle.floats.specs.Whole.{toWhole, upper, cut, downward, upward, away}
+use Rattle.floats.specs.Whole.{to_whole, upper, cut, downward, upward, away}
 
 -- ---- the code's tests as facts
 pub yes : {b : Bool} → b ≡ true → T b
@@ -23,13 +23,13 @@ equals_itself (inf s) h = tt
 equals_itself (fin s m e) h = tt
 
 -- ---- what `fits` says of m * 2 ^ e
-pub in-format : (s : Bool) (m : ℕ) (e : ℤ) → T (fits binary64 (fin s m e)) → (m < 2 ^ 53) × (m * up e < 2 ^ 1024 * down e)
+pub in_format : (s : Bool) (m : ℕ) (e : ℤ) → T (fits binary64 (fin s m e)) → (m < 2 ^ 53) × (m * up e < 2 ^ 1024 * down e)
 unfolding fits
-in-format s zero e t = (lit< tt, zero-case (up e) (2 ^ 1024 * down e) (mul-pos (pow_pos 1024) (down_pos e)))
+in_format s zero e t = (lit< tt, zero_case (up e) (2 ^ 1024 * down e) (mul-pos (pow_pos 1024) (down_pos e)))
   where
-    zero-case : (u k : ℕ) → 0 < k → 0 * u < k
-    zero-case u k h = omega arith
-in-format s (suc m) e t =
+    zero_case : (u k : ℕ) → 0 < k → 0 * u < k
+    zero_case u k h = omega arith
+in_format s (suc m) e t =
     let A = eqb (suc m % 2) 1 in
     let B = ltb (suc m) (2 ^ 53) in
     let C = leb (down e) (2 ^ 1074) in
@@ -96,21 +96,21 @@ away-same s n d a c D C h =
     ∙ sym (add-mul (2 * a) c (2 * d)))
 
 -- ---- a float of size a / c is taken to what a / c is
-pub at : (how : Bool → ℕ → ℕ → ℕ) → ByValue how → (x : Float) (s : Bool) (a c : ℕ) → HasValue x s a c → 0 < c → toWhole how x ≡ round binary64 s (how s a c) 1
-unfolding toWhole
+pub at : (how : Bool → ℕ → ℕ → ℕ) → ByValue how → (x : Float) (s : Bool) (a c : ℕ) → HasValue x s a c → 0 < c → to_whole how x ≡ round binary64 s (how s a c) 1
+unfolding to_whole
 at how same nan s a c v C = absurd v
 at how same (inf t) s a c v C = absurd v
 at how same (fin t m e) s a c v C = ap (λ (z : Bool). round binary64 z (how z (m * up e) (down e)) 1) v.0
     ∙ ap (λ (k : ℕ). round binary64 s k 1) (same s (m * up e) (down e) a c (down_pos e) C v.1)
 
-pub nan-stays : (how : Bool → ℕ → ℕ → ℕ) (x : Float) → x ≡ nan → x ≡ toWhole how x
-unfolding toWhole
-nan-stays how x h = h ∙ sym (ap (toWhole how) h)
+pub nan_stays : (how : Bool → ℕ → ℕ → ℕ) (x : Float) → x ≡ nan → x ≡ to_whole how x
+unfolding to_whole
+nan_stays how x h = h ∙ sym (ap (to_whole how) h)
 
 -- ---- a float whose exponent is not negative is a whole number, and every rounding leaves it as it is
 whole_back : (s : Bool) (m a : ℕ) → T (fits binary64 (fin s m (pos a))) → round binary64 s (m * 2 ^ a) 1 ≡ fin s m (pos a)
 whole_back s m a f =
-    let i = in-format s m (pos a) f in
+    let i = in_format s m (pos a) f in
     let n = m * 2 ^ a in
     let e : m * 2 ^ (a + 1074) ≡ n * 2 ^ 1074 = ap (λ (k : ℕ). m * k) (pow-add 2 a 1074) ∙ sym (mul_assoc m (2 ^ a) (2 ^ 1074)) in
     let h : n < 2 ^ 1024 = subst (λ (k : ℕ). n < k) (mul-one (2 ^ 1024)) i.1 in
@@ -121,17 +121,17 @@ whole_back s m a f =
     (refl, refl)
 
 module _ (how : Bool → ℕ → ℕ → ℕ) (one : LeavesWhole how) where
-  whole-stays : (s : Bool) (m a : ℕ) → T (fits binary64 (fin s m (pos a))) → fin s m (pos a) ≡ toWhole how (fin s m (pos a))
-  unfolding toWhole
+  whole-stays : (s : Bool) (m a : ℕ) → T (fits binary64 (fin s m (pos a))) → fin s m (pos a) ≡ to_whole how (fin s m (pos a))
+  unfolding to_whole
   whole-stays s m a f = sym (ap (λ (k : ℕ). round binary64 s k 1) (one s (m * 2 ^ a)) ∙ whole_back s m a f)
 
   -- from 2 ^ 52 on, where no float has a negative exponent
-  pub large : (x : Float) → T (fits binary64 x) → (s : Bool) (a c : ℕ) → HasValue x s a c → 0 < c → 2 ^ 52 * c ≤ a → x ≡ toWhole how x
+  pub large : (x : Float) → T (fits binary64 x) → (s : Bool) (a c : ℕ) → HasValue x s a c → 0 < c → 2 ^ 52 * c ≤ a → x ≡ to_whole how x
   large nan f s a c v C h = absurd v
   large (inf t) f s a c v C h = absurd v
   large (fin t m (pos k)) f s a c v C h = whole-stays t m k f
   large (fin t m (negsuc k)) f s a c v C h =
-      absurd (go m k (in-format t m (negsuc k) f).0 (pow_pos k)
+      absurd (go m k (in_format t m (negsuc k) f).0 (pow_pos k)
       (le_of_mul-le-mul_right (le_trans (le_of_eq (mul_right_comm (2 ^ 52) (2 ^ suc k) c))
       (le_trans (mul-le-mul_right (2 ^ suc k) h) (le_of_eq (sym v.1)))) C))
     where
@@ -139,21 +139,21 @@ module _ (how : Bool → ℕ → ℕ → ℕ) (one : LeavesWhole how) where
       go m k h p l = omega arith
 
   -- the result is the whole number itself, and not only the float nearest to it
-  pub exact : StaysBelow how → (s : Bool) (m : ℕ) (e : ℤ) → T (fits binary64 (fin s m e)) → HasValue (toWhole how (fin s m e)) s (how s (m * up e) (down e)) 1
-  unfolding toWhole
+  pub exact : StaysBelow how → (s : Bool) (m : ℕ) (e : ℤ) → T (fits binary64 (fin s m e)) → HasValue (to_whole how (fin s m e)) s (how s (m * up e) (down e)) 1
+  unfolding to_whole
   exact most s m (pos a) f = subst (λ (v : Float). HasValue v s (how s (m * 2 ^ a) 1) 1) (whole-stays s m a f)
       (refl, sym (ap (λ (k : ℕ). k * 1) (one s (m * 2 ^ a))))
   exact most s m (negsuc a) f = round_whole binary64 s (how s (m * 1) (2 ^ suc a))
-      (most s (m * 1) (2 ^ suc a) (pow_pos (suc a)) (go m (2 ^ suc a) (in-format s m (negsuc a) f).0 (pow_pos (suc a))))
+      (most s (m * 1) (2 ^ suc a) (pow_pos (suc a)) (go m (2 ^ suc a) (in_format s m (negsuc a) f).0 (pow_pos (suc a))))
     where
       go : (m p : ℕ) → m < 9007199254740992 → 0 < p → m * 1 < 9007199254740992 * p
       go m p h k = omega arith
 
-pub cut-exact : (s : Bool) (m : ℕ) (e : ℤ) → T (fits binary64 (fin s m e)) → HasValue (toWhole cut (fin s m e)) s (cut s (m * up e) (down e)) 1
+pub cut-exact : (s : Bool) (m : ℕ) (e : ℤ) → T (fits binary64 (fin s m e)) → HasValue (to_whole cut (fin s m e)) s (cut s (m * up e) (down e)) 1
 cut-exact = exact cut cut-one cut_most
 
-pub downward-exact : (s : Bool) (m : ℕ) (e : ℤ) → T (fits binary64 (fin s m e)) → HasValue (toWhole downward (fin s m e)) s (downward s (m * up e) (down e)) 1
+pub downward-exact : (s : Bool) (m : ℕ) (e : ℤ) → T (fits binary64 (fin s m e)) → HasValue (to_whole downward (fin s m e)) s (downward s (m * up e) (down e)) 1
 downward-exact = exact downward downward-one downward-most
 
-pub upward-exact : (s : Bool) (m : ℕ) (e : ℤ) → T (fits binary64 (fin s m e)) → HasValue (toWhole upward (fin s m e)) s (upward s (m * up e) (down e)) 1
+pub upward-exact : (s : Bool) (m : ℕ) (e : ℤ) → T (fits binary64 (fin s m e)) → HasValue (to_whole upward (fin s m e)) s (upward s (m * up e) (down e)) 1
 upward-exact = exact upward upward-one upward-most

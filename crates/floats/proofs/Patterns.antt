@@ -4,8 +4,8 @@ use lib.Ieee.{Float, nan, inf, fin, binary64, of_bits, to_bits, nan_bits, is_nan
 use lib.Ieee.Bits.{nan_bits_is, nan_bits_above}
 
 -- without its sign's bit, a NaN's pattern is above the infinity's
-pub no-nan-pattern : (n : ℕ) → n % 0x8000_0000_0000_0000 ≤ 0x7ff0_0000_0000_0000 → T (not (nan_bits binary64 n))
-no-nan-pattern n h = subst (λ (b : Bool). T (not b)) (sym (nan_bits_above binary64 n ∙ le-ltb _ _ h)) tt
+pub no_nan_pattern : (n : ℕ) → n % 0x8000_0000_0000_0000 ≤ 0x7ff0_0000_0000_0000 → T (not (nan_bits binary64 n))
+no_nan_pattern n h = subst (λ (b : Bool). T (not b)) (sym (nan_bits_above binary64 n ∙ le-ltb _ _ h)) tt
 
 the_nan : (x : Float) → is_nan x ≡ true → nan ≡ x
 unfolding is_nan

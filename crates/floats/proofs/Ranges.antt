@@ -6,14 +6,14 @@ use lib.Bits.{bit_and, and_high}
 use lib.Ieee.{Float, nan, inf, fin, binary64, odd, round, fits, is_nan, of_fields, of_bits, to_bits, nan_bits}
 use lib.Ieee.Bits.{of_bits-to_bits, to_bits-lt, nan_bits_is}
 use lib.Ieee.Exact.{HasValue, odd_sign}
-use Rattle.floats.specs.Whole.{toWhole}
+use Rattle.floats.specs.Whole.{to_whole}
 use Rattle.floats.proofs.Laws.{LeavesWhole, ByValue, at, large}
-use Rattle.floats.proofs.Fields.{sign, expo, digits, digits_lt, of_bits_is, expo-is, lead, normal, subnormal, no_nan, value, rounded}
+use Rattle.floats.proofs.Fields.{sign, expo, digits, digits_lt, of_bits_is, expo_is, lead, normal, subnormal, no_nan, value, rounded}
 
 -- ---- from 2 ^ 52 on: a whole number or an infinity
 high-fields : (how : Bool → ℕ → ℕ → ℕ) → LeavesWhole how → (s : Bool) (e t : ℕ) → 1075 ≤ e → T (not (is_nan (of_fields binary64 s e t)))
-    → T (fits binary64 (of_fields binary64 s e t)) → of_fields binary64 s e t ≡ toWhole how (of_fields binary64 s e t)
-unfolding of_fields is_nan toWhole
+    → T (fits binary64 (of_fields binary64 s e t)) → of_fields binary64 s e t ≡ to_whole how (of_fields binary64 s e t)
+unfolding of_fields is_nan to_whole
 high-fields how one s zero t lo n f = absurd (none lo)
   where
     none : 1075 ≤ 0 → ⊥
@@ -23,8 +23,8 @@ high-fields how one s (suc j) t lo n f =
     (λ g. large how one (odd 53 s (2 ^ 52 + t) j 1074) g s ((2 ^ 52 + t) * 2 ^ j) (2 ^ 1074) (odd_sign 53 s (2 ^ 52 + t) j 1074) (pow_pos 1074)
     (mul-le-mul (le-add_right (2 ^ 52) t) (pow_mono (le_of_suc-le-suc lo)))) n f
   where
-    go : (a z : Bool) (w : Float) → (T (fits binary64 w) → w ≡ toWhole how w) → T (not (is_nan (cond a (cond z (inf s) nan) w)))
-        → T (fits binary64 (cond a (cond z (inf s) nan) w)) → cond a (cond z (inf s) nan) w ≡ toWhole how (cond a (cond z (inf s) nan) w)
+    go : (a z : Bool) (w : Float) → (T (fits binary64 w) → w ≡ to_whole how w) → T (not (is_nan (cond a (cond z (inf s) nan) w)))
+        → T (fits binary64 (cond a (cond z (inf s) nan) w)) → cond a (cond z (inf s) nan) w ≡ to_whole how (cond a (cond z (inf s) nan) w)
     go true true w k n f = refl
     go true false w k n f = absurd n
     go false z w k n f = k f
@@ -72,18 +72,18 @@ module _ (x : Float) (F : T (fits binary64 x)) (N : T (not (is_nan x))) where
   b_lt : b < 2 ^ 64
   b_lt = to_bits-lt binary64 x F
 
-  pub high : (how : Bool → ℕ → ℕ → ℕ) → LeavesWhole how → 1075 ≤ e → x ≡ toWhole how x
+  pub high : (how : Bool → ℕ → ℕ → ℕ) → LeavesWhole how → 1075 ≤ e → x ≡ to_whole how x
   high how one h =
-      subst (λ (v : Float). T (not (is_nan v)) → T (fits binary64 v) → v ≡ toWhole how v) (sym is)
-      (high-fields how one (sign b) (expo b) (digits b) (subst (λ (z : ℕ). 1075 ≤ z) (expo-is b) h)) N F
+      subst (λ (v : Float). T (not (is_nan v)) → T (fits binary64 v) → v ≡ to_whole how v) (sym is)
+      (high-fields how one (sign b) (expo b) (digits b) (subst (λ (z : ℕ). 1075 ≤ z) (expo_is b) h)) N F
 
   -- where the rounding takes every size below 2 ^ (52 + p) units to 0
   pub low : (how : Bool → ℕ → ℕ → ℕ) → ByValue how → (p : ℕ) → p ≤ 1022 → ((s : Bool) (a : ℕ) → a < 2 ^ (52 + p) → how s a (2 ^ 1074) ≡ 0) → e < suc p
-      → of_bits binary64 (bit_and b (2 ^ 63)) ≡ toWhole how x
+      → of_bits binary64 (bit_and b (2 ^ 63)) ≡ to_whole how x
   low how same p P none h =
-      let v = small-fields (sign b) (expo b) (digits b) p (digits_lt b) (subst (λ (z : ℕ). z < suc p) (expo-is b) h) P in
+      let v = small-fields (sign b) (expo b) (digits b) p (digits_lt b) (subst (λ (z : ℕ). z < suc p) (expo_is b) h) P in
       sign_bit b b_lt
-      ∙ sym (ap (toWhole how) is ∙ at how same (of_fields binary64 (sign b) (expo b) (digits b)) (sign b) v.0 (2 ^ 1074) v.1 (pow_pos 1074)
+      ∙ sym (ap (to_whole how) is ∙ at how same (of_fields binary64 (sign b) (expo b) (digits b)) (sign b) v.0 (2 ^ 1074) v.1 (pow_pos 1074)
       ∙ ap (λ (z : ℕ). round binary64 (sign b) z 1) (none (sign b) v.0 v.2))
 
   pub low-no-nan : T (not (nan_bits binary64 (bit_and b (2 ^ 63))))
@@ -107,11 +107,11 @@ module _ (x : Float) (F : T (fits binary64 x)) (N : T (not (is_nan x))) where
         go : (e : ℕ) → 1023 ≤ e → e < 1075 → (1075 - e ≤ 52) × (1075 - e + (e - 1) ≡ 1074) × (e - 1 < 1074) × (suc (e - 1) ≡ e) × (suc (e - 1) < 2047)
         go e a b = omega arith
 
-    expo-suc : expo b ≡ suc j
-    expo-suc = sym (facts.3 ∙ expo-is b)
+    expo_suc : expo b ≡ suc j
+    expo_suc = sym (facts.3 ∙ expo_is b)
 
     pub sum_lt : b + a < 2 ^ 64
-    sum_lt = go b a b_lt (subst (λ (z : ℕ). z < 1075) (expo-is b) hi) (lt_of_lt_of_le A (pow_mono facts.0))
+    sum_lt = go b a b_lt (subst (λ (z : ℕ). z < 1075) (expo_is b) hi) (lt_of_lt_of_le A (pow_mono facts.0))
       where
         go : (b a : ℕ) → b < 18446744073709551616 → b % 9223372036854775808 / 4503599627370496 < 1075 → a < 4503599627370496 → b + a < 18446744073709551616
         go b a p q r = omega arith
@@ -124,17 +124,17 @@ module _ (x : Float) (F : T (fits binary64 x)) (N : T (not (is_nan x))) where
     units = sym (mul_assoc q (2 ^ j) (2 ^ k) ∙ ap (λ (z : ℕ). q * z) (mul_comm (2 ^ j) (2 ^ k) ∙ sym (pow-add 2 k j) ∙ ap (λ (z : ℕ). 2 ^ z) facts.1))
 
     pub mid : (how : Bool → ℕ → ℕ → ℕ) → ByValue how → ((s : Bool) → (q + a) / 2 ^ k ≡ how s q (2 ^ k))
-        → of_bits binary64 ((b + a) / 2 ^ k * 2 ^ k % 2 ^ 64) ≡ toWhole how x
+        → of_bits binary64 ((b + a) / 2 ^ k * 2 ^ k % 2 ^ 64) ≡ to_whole how x
     mid how same taken =
         ap (of_bits binary64) kept
-        ∙ rounded k facts.0 b j a facts.1 facts.2 expo-suc A
+        ∙ rounded k facts.0 b j a facts.1 facts.2 expo_suc A
         ∙ ap (λ (z : ℕ). round binary64 (sign b) z 1) (taken (sign b) ∙ same (sign b) q (2 ^ k) (q * 2 ^ j) (2 ^ 1074) (pow_pos k) (pow_pos 1074) units)
-        ∙ sym (ap (toWhole how) (is ∙ ap (λ (z : ℕ). of_fields binary64 (sign b) z (digits b)) expo-suc)
+        ∙ sym (ap (to_whole how) (is ∙ ap (λ (z : ℕ). of_fields binary64 (sign b) z (digits b)) expo_suc)
         ∙ at how same (of_fields binary64 (sign b) (suc j) (digits b)) (sign b) (q * 2 ^ j) (2 ^ 1074) (normal (sign b) j (digits b) facts.4)
         (pow_pos 1074))
 
-    pub mid-no-nan : T (not (nan_bits binary64 ((b + a) / 2 ^ k * 2 ^ k % 2 ^ 64)))
-    mid-no-nan =
+    pub mid_no_nan : T (not (nan_bits binary64 ((b + a) / 2 ^ k * 2 ^ k % 2 ^ 64)))
+    mid_no_nan =
         subst (λ (z : Bool). T (not z)) (sym (nan_bits_is binary64 ((b + a) / 2 ^ k * 2 ^ k % 2 ^ 64)))
         (subst (λ (v : ℕ). T (not (is_nan (of_bits binary64 v)))) (sym kept)
-        (no_nan (of_bits binary64 ((b + a) / 2 ^ k * 2 ^ k)) (sign b) ((q + a) / 2 ^ k) 1 (value k facts.0 b j a facts.1 facts.2 expo-suc A)))
+        (no_nan (of_bits binary64 ((b + a) / 2 ^ k * 2 ^ k)) (sign b) ((q + a) / 2 ^ k) 1 (value k facts.0 b j a facts.1 facts.2 expo_suc A)))

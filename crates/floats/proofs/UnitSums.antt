@@ -12,7 +12,7 @@ use lib.Ieee.Exact.{HasValue, odd_sign, units_val}
 use lib.Ieee.Back.{round_whole, positive_back}
 use lib.Ieee.Nearest.{div_same, nearest-ge}
 use lib.Ieee.Scale.{round_same}
-use Rattle.floats.specs.Whole.{one, toWhole, downward}
+use Rattle.floats.specs.Whole.{one, to_whole, downward}
 use Rattle.floats.proofs.Laws.{yes, no}
 
 -- 2 ^ 52
@@ -45,21 +45,21 @@ module _ (a c : ℕ) (C : 0 < c) (lo : 2 ^ 52 * c ≤ a) (hi : a < 2 ^ 53 * c) w
   abbrev pub rounded : ℕ
   rounded = nearest (scaled / (c * 2 ^ 1074)) rest
 
-  floor-is : scaled / (c * 2 ^ 1074) ≡ a / c
-  floor-is = div_same scaled (c * 2 ^ 1074) a c (lt_of_lt_of_le (pow_pos 1074) (least-of c (2 ^ 1074) C)) C
+  floor_is : scaled / (c * 2 ^ 1074) ≡ a / c
+  floor_is = div_same scaled (c * 2 ^ 1074) a c (lt_of_lt_of_le (pow_pos 1074) (least-of c (2 ^ 1074) C)) C
       (mul_assoc a (2 ^ 1074) c ∙ ap (λ (z : ℕ). a * z) (mul_comm (2 ^ 1074) c))
     where
       least-of : (c p : ℕ) → 0 < c → p ≤ c * p
       least-of c p h = le_trans (le_of_eq (sym (one-mul p))) (mul-le-mul_right p h)
 
-  pub rounded-low : a / c ≤ rounded
-  rounded-low = subst (λ (z : ℕ). z ≤ rounded) floor-is (nearest-ge (scaled / (c * 2 ^ 1074)) rest)
+  pub rounded_low : a / c ≤ rounded
+  rounded_low = subst (λ (z : ℕ). z ≤ rounded) floor_is (nearest-ge (scaled / (c * 2 ^ 1074)) rest)
 
-  pub rounded-high : rounded ≤ suc (a / c)
-  rounded-high = subst (λ (z : ℕ). rounded ≤ suc z) floor-is (nearest-le (scaled / (c * 2 ^ 1074)) rest)
+  pub rounded_high : rounded ≤ suc (a / c)
+  rounded_high = subst (λ (z : ℕ). rounded ≤ suc z) floor_is (nearest-le (scaled / (c * 2 ^ 1074)) rest)
 
-  rounded-small : rounded < 2 ^ 1024
-  rounded-small = lt_of_le_of_lt rounded-high (lt_of_le_of_lt ((div-lt_iff_lt-mul C).1 hi) (lit< tt))
+  rounded_small : rounded < 2 ^ 1024
+  rounded_small = lt_of_le_of_lt rounded_high (lt_of_le_of_lt ((div-lt_iff_lt-mul C).1 hi) (lit< tt))
 
   to_one : (x : Float) (k : ℕ) → HasValue x false (k * 2 ^ 1074) (2 ^ 1074) → HasValue x false k 1
   to_one nan k h = h
@@ -70,11 +70,11 @@ module _ (a c : ℕ) (C : 0 < c) (lo : 2 ^ 52 * c ≤ a) (hi : a < 2 ^ 53 * c) w
         (ap (λ (z : ℕ). z * 2 ^ 1074) (mul-one (m * up e)) ∙ h.1 ∙ mul_right_comm k (2 ^ 1074) (down e)),
   )
 
-  pub rounded-value : HasValue (round binary64 false a c) false rounded 1
-  rounded-value = to_one (round binary64 false a c) rounded
+  pub rounded_value : HasValue (round binary64 false a c) false rounded 1
+  rounded_value = to_one (round binary64 false a c) rounded
       (subst (λ (x : Float). HasValue x false (rounded * 2 ^ 1074) (2 ^ 1074))
       (sym (round_is binary64 false a c ∙ ap (λ (k : ℕ). core binary64 false scaled c k) dropped))
-      (units_val binary64 false rounded 1074 (shl_lt 1024 1074 rounded-small)))
+      (units_val binary64 false rounded 1074 (shl_lt 1024 1074 rounded_small)))
 
 -- ---- a power of 2 taken off a whole number that is no less
 pub taken-off : (v : Float) (k p : ℕ) → HasValue v false k 1 → 2 ^ p ≤ k → sub binary64 v (fin false 1 (pos p)) ≡ round binary64 false (k - 2 ^ p) 1
@@ -135,7 +135,7 @@ module _ (m : ℕ) (e : ℤ) (h : lt (fin false m e) two-52 ≡ true) where
 
   near : (2 ^ 52 ≤ k) × (n / d ≤ j) × (j ≤ suc (n / d))
   near = go (n / d) (a / d) k (add-mul-div_right n (2 ^ 52) (down_pos e))
-      (rounded-low a d (down_pos e) a-low a-high) (rounded-high a d (down_pos e) a-low a-high)
+      (rounded_low a d (down_pos e) a-low a-high) (rounded_high a d (down_pos e) a-low a-high)
     where
       go : (q s k : ℕ) → s ≡ q + 4503599627370496 → s ≤ k → k ≤ suc s → (4503599627370496 ≤ k) × (q ≤ k - 4503599627370496) × (k - 4503599627370496 ≤ suc q)
       go q s k p l u = omega arith
@@ -151,7 +151,7 @@ module _ (m : ℕ) (e : ℤ) (h : lt (fin false m e) two-52 ≡ true) where
 
   beside-is : beside (fin false m e) ≡ round binary64 false j 1
   beside-is = ap (λ (x : Float). sub binary64 x two-52) sum_is
-      ∙ taken-off (round binary64 false a d) k 52 (rounded-value a d (down_pos e) a-low a-high) near.0
+      ∙ taken-off (round binary64 false a d) k 52 (rounded_value a d (down_pos e) a-low a-high) near.0
 
   j-small : j ≤ 2 ^ 53
   j-small = le_trans near.2 (le_trans small (lit≤ tt))
@@ -160,8 +160,8 @@ module _ (m : ℕ) (e : ℤ) (h : lt (fin false m e) two-52 ≡ true) where
   beside-value = subst (λ (x : Float). HasValue x false j 1) (sym beside-is) (round_whole binary64 false j j-small)
 
   -- a comparison of t with the whole number j
-  scaled-by : (a b : ℕ) → a * 1 ≡ j * b → a * d ≡ j * d * b
-  scaled-by a b v = ap (λ (z : ℕ). z * d) (sym (mul-one a) ∙ v) ∙ mul_right_comm j b d
+  scaled_by : (a b : ℕ) → a * 1 ≡ j * b → a * d ≡ j * d * b
+  scaled_by a b v = ap (λ (z : ℕ). z * d) (sym (mul-one a) ∙ v) ∙ mul_right_comm j b d
 
   is-above : (v : Float) → HasValue v false j 1 → T (lt (fin false m e) v) → n < j * d
   unfolding lt
@@ -169,7 +169,7 @@ module _ (m : ℕ) (e : ℤ) (h : lt (fin false m e) two-52 ≡ true) where
   is-above (inf s) w t = absurd w
   is-above (fin true a b) w t = absurd (true≢false w.0)
   is-above (fin false a b) w t = lt_of_mul-lt-mul_right (down b)
-      (subst (λ (z : ℕ). n * down b < z) (scaled-by (a * up b) (down b) w.1) (ltb→lt (n * down b) (a * up b * d) t))
+      (subst (λ (z : ℕ). n * down b < z) (scaled_by (a * up b) (down b) w.1) (ltb→lt (n * down b) (a * up b * d) t))
 
   is-not-above : (v : Float) → HasValue v false j 1 → lt (fin false m e) v ≡ false → j * d ≤ n
   unfolding lt
@@ -177,7 +177,7 @@ module _ (m : ℕ) (e : ℤ) (h : lt (fin false m e) two-52 ≡ true) where
   is-not-above (inf s) w t = absurd w
   is-not-above (fin true a b) w t = absurd (true≢false w.0)
   is-not-above (fin false a b) w t = le_of_mul-le-mul_right
-      (subst (λ (z : ℕ). z ≤ n * down b) (scaled-by (a * up b) (down b) w.1) (nltb→le (n * down b) (a * up b * d) (no t))) (down_pos b)
+      (subst (λ (z : ℕ). z ≤ n * down b) (scaled_by (a * up b) (down b) w.1) (nltb→le (n * down b) (a * up b * d) (no t))) (down_pos b)
 
   above_floor : n < j * d → (1 ≤ j) × (j - 1 ≡ n / d)
   above_floor l = go (n / d) j near.1 near.2 (λ (g : j ≤ n / d). not-le_of_lt l (le_trans (mul-le-mul_right d g) (div-mul-le_self n d)))
@@ -185,8 +185,8 @@ module _ (m : ℕ) (e : ℤ) (h : lt (fin false m e) two-52 ≡ true) where
       go : (q j : ℕ) → q ≤ j → j ≤ suc q → (j ≤ q → ⊥) → (1 ≤ j) × (j - 1 ≡ q)
       go q j a b f = let l : q < j = lt_of_not-le f in omega arith
 
-  at-floor : j * d ≤ n → j ≡ n / d
-  at-floor l = go (n / d) j near.1 ((le-div_iff_mul-le (down_pos e)).1 l)
+  at_floor : j * d ≤ n → j ≡ n / d
+  at_floor l = go (n / d) j near.1 ((le-div_iff_mul-le (down_pos e)).1 l)
     where
       go : (q j : ℕ) → q ≤ j → j ≤ q → j ≡ q
       go q j a b = omega arith
@@ -197,15 +197,15 @@ module _ (m : ℕ) (e : ℤ) (h : lt (fin false m e) two-52 ≡ true) where
       taken-off (beside (fin false m e)) j 0 beside-value f.0 ∙ ap (λ (z : ℕ). round binary64 false z 1) f.1
 
   stays-is : lt (fin false m e) (beside (fin false m e)) ≡ false → beside (fin false m e) ≡ round binary64 false (n / d) 1
-  stays-is t = beside-is ∙ ap (λ (z : ℕ). round binary64 false z 1) (at-floor (is-not-above (beside (fin false m e)) beside-value t))
+  stays-is t = beside-is ∙ ap (λ (z : ℕ). round binary64 false z 1) (at_floor (is-not-above (beside (fin false m e)) beside-value t))
 
 -- ---- v is t down to a whole number, and the cast to an integer loses nothing of it
 pub record Floored (t v : Float) : Type 0 where
-  pub is : v ≡ toWhole downward t
+  pub is : v ≡ to_whole downward t
   pub whole : T (in_signed binary64 63 v)
 
 floored : (m : ℕ) (e : ℤ) (v : Float) → lt (fin false m e) two-52 ≡ true → v ≡ round binary64 false (m * up e / down e) 1 → Floored (fin false m e) v
-unfolding toWhole of_int in_float
+unfolding to_whole of_int in_float
 floored m e v h q = record {
   is = q;
   whole =
@@ -249,7 +249,7 @@ units-plain q k = go (ltb (q * 2 ^ k) (2 ^ 2098))
     go true t = plain_of (odd 54 false q k 1074) (q * 2 ^ k) (2 ^ 1074) (odd_sign 54 false q k 1074)
     go false t = absurd (false≢true t)
 
-pub round-plain : (a c : ℕ) → lt (round binary64 false a c) two-52 ≡ true → Plain (round binary64 false a c)
-round-plain a c h =
+pub round_plain : (a c : ℕ) → lt (round binary64 false a c) two-52 ≡ true → Plain (round binary64 false a c)
+round_plain a c h =
     let i = round_is binary64 false a c in
     subst Plain (sym i) (units-plain _ _ (ap (λ (x : Float). lt x two-52) (sym i) ∙ h))

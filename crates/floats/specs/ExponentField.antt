@@ -3,5 +3,5 @@
 use Rattle.std.specs.Prelude.{ℕ, ◌/◌, ◌%◌, ◌^◌}
 
 -- bits 52 to 62
-abbrev pub exponentField : ℕ → ℕ
-exponentField bits = bits / 2 ^ 52 % 2 ^ 11
+abbrev pub exponent_field : ℕ → ℕ
+exponent_field bits = bits / 2 ^ 52 % 2 ^ 11

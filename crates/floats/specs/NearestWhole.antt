@@ -2,7 +2,7 @@
 use Rattle.std.specs.Prelude.{Float}
 use Rattle.std.specs.Float.Ieee.{to_signed}
 use Rattle.floats.specs.declared.NearestWhole.{NearestWhole}
-use Rattle.floats.specs.Whole.{nearestInt}
+use Rattle.floats.specs.Whole.{nearest_int}
 
-unfoldable pub nearestWhole : Float → NearestWhole
-nearestWhole a = record { value = nearestInt a; number = to_signed 63 (nearestInt a) }
+unfoldable pub nearest_whole : Float → NearestWhole
+nearest_whole a = record { value = nearest_int a; number = to_signed 63 (nearest_int a) }

@@ -4,8 +4,8 @@ ghost use Rattle.std.specs.Prelude.{◌≡◌, from_bits, to_bits};
 ghost use Rattle.std.specs.Float.{binary64};
 ghost use Rattle.std.specs.Float.Ieee.{to_signed, lt, le};
 ghost use Rattle.std.specs.Float.Ieee.Scale.{finite};
-ghost use Rattle.floats.specs.Whole.{abs, toWhole, cut, downward, upward, away, nearestInt};
-ghost use Rattle.floats.specs.NearestWhole.{nearestWhole};
+ghost use Rattle.floats.specs.Whole.{abs, to_whole, cut, downward, upward, away, nearest_int};
+ghost use Rattle.floats.specs.NearestWhole.{nearest_whole};
 ghost use Rattle.floats.specs.Size.{size};
 
 // The exponent's fields of 0.5 and of 1.0.
@@ -60,7 +60,7 @@ pub fn larger_in_size(x: f64, y: f64) -> bool
 
 // x toward zero to a whole number.
 pub fn trunc(x: f64) -> f64
-    ensures { result ≡ toWhole cut x }
+    ensures { result ≡ to_whole cut x }
 {
     if x != x {
         return x;
@@ -79,7 +79,7 @@ pub fn trunc(x: f64) -> f64
 
 // x down to a whole number.
 pub fn floor(x: f64) -> f64
-    ensures { result ≡ toWhole downward x }
+    ensures { result ≡ to_whole downward x }
 {
     let t = trunc(x);
     if x < t { t - 1.0 } else { t }
@@ -87,14 +87,14 @@ pub fn floor(x: f64) -> f64
 
 // x up to a whole number.
 pub fn ceil(x: f64) -> f64
-    ensures { result ≡ toWhole upward x }
+    ensures { result ≡ to_whole upward x }
 {
     -floor(-x)
 }
 
 // x to the nearest whole number, a half going away from zero.
 pub fn round(x: f64) -> f64
-    ensures { result ≡ toWhole away x }
+    ensures { result ≡ to_whole away x }
 {
     if x != x {
         return x;
@@ -116,7 +116,7 @@ pub fn round(x: f64) -> f64
 
 // The Rust's nearest_int, in its order of operations.
 pub fn nearest_int(a: f64) -> f64
-    ensures { result ≡ nearestInt a }
+    ensures { result ≡ nearest_int a }
 {
     if fabs(a) < 0.5 {
         0.0
@@ -130,7 +130,7 @@ pub fn nearest_int(a: f64) -> f64
 // The Rust's nearest_int with its `as i64`. A part of a date is mostly between -0.5 and 2^52. From 0.5 on, the sum of a + 0.5 and 2^52 has no digit below the
 // unit: with 2^52 taken off again a whole number next to a + 0.5 is left, and where that is above it, the one before is the floor.
 pub fn nearest_whole(a: f64) -> NearestWhole
-    ensures { result ≡ nearestWhole a }
+    ensures { result ≡ nearest_whole a }
 {
     if a >= 0.5 {
         let t = a + 0.5;

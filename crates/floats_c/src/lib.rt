@@ -3,7 +3,7 @@ ghost use Rattle.std.specs.Prelude.{◌≡◌};
 ghost use Rattle.std.specs.Float.{binary64};
 ghost use Rattle.std.specs.Float.Ieee.{of_bits, to_bits, to_signed};
 ghost use Rattle.std.specs.Float.Ieee.Scale.{finite};
-ghost use Rattle.floats.specs.Whole.{abs, toWhole, cut, downward, upward, away, nearestInt};
+ghost use Rattle.floats.specs.Whole.{abs, to_whole, cut, downward, upward, away, nearest_int};
 
 #[unsafe(no_mangle)]
 pub extern "C" fn ct_fabs(x: f64) -> f64
@@ -14,35 +14,35 @@ pub extern "C" fn ct_fabs(x: f64) -> f64
 
 #[unsafe(no_mangle)]
 pub extern "C" fn ct_trunc(x: f64) -> f64
-    ensures { result ≡ toWhole cut x }
+    ensures { result ≡ to_whole cut x }
 {
     floats::trunc(x)
 }
 
 #[unsafe(no_mangle)]
 pub extern "C" fn ct_floor(x: f64) -> f64
-    ensures { result ≡ toWhole downward x }
+    ensures { result ≡ to_whole downward x }
 {
     floats::floor(x)
 }
 
 #[unsafe(no_mangle)]
 pub extern "C" fn ct_ceil(x: f64) -> f64
-    ensures { result ≡ toWhole upward x }
+    ensures { result ≡ to_whole upward x }
 {
     floats::ceil(x)
 }
 
 #[unsafe(no_mangle)]
 pub extern "C" fn ct_round(x: f64) -> f64
-    ensures { result ≡ toWhole away x }
+    ensures { result ≡ to_whole away x }
 {
     floats::round(x)
 }
 
 #[unsafe(no_mangle)]
 pub extern "C" fn ct_nearest_int(a: f64) -> f64
-    ensures { result ≡ nearestInt a }
+    ensures { result ≡ nearest_int a }
 {
     floats::nearest_int(a)
 }

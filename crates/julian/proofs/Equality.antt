@@ -17,30 +17,30 @@ use Rattle.rounding.proofs.TwoSumFloat.{two-sum-under}
 use Rattle.rounding.proofs.TwoSumFinite.{two-sum-finite}
 use Rattle.julian.specs.declared.JulianDate.{JulianDate}
 use Rattle.julian.specs.declared.ExactSum.{ExactSum}
-use Rattle.julian.specs.Finite.{bothFinite}
-use Rattle.julian.specs.Equality.{twoSumError, exactSum, sums, FiniteSums, same_pair, equal}
+use Rattle.julian.specs.Finite.{both_finite}
+use Rattle.julian.specs.Equality.{two_sum_error, exact_sum, sums, FiniteSums, same_pair, equal}
 use Rattle.julian.specs.Worth.{Worth, SmallParts}
 
 -- ---- the two cases of the test, for sums that are handed in
 
-pub equal-finite : (d e : JulianDate) (s t : ExactSum) → s ≡ sums d → t ≡ sums e → bothFinite s.sum t.sum ≡ true
+pub equal-finite : (d e : JulianDate) (s t : ExactSum) → s ≡ sums d → t ≡ sums e → both_finite s.sum t.sum ≡ true
     → same_pair s.sum s.error t.sum t.error ≡ equal d e
 unfolding equal
 equal-finite d e s t p q h =
-    let k : bothFinite (sums d).sum (sums e).sum ≡ true = rw (p, q) at h in
+    let k : both_finite (sums d).sum (sums e).sum ≡ true = rw (p, q) at h in
     rw (p, q, k)
 
-pub equal-parts : (d e : JulianDate) (s t : ExactSum) → s ≡ sums d → t ≡ sums e → bothFinite s.sum t.sum ≡ false
+pub equal-parts : (d e : JulianDate) (s t : ExactSum) → s ≡ sums d → t ≡ sums e → both_finite s.sum t.sum ≡ false
     → same_pair d.jd1 d.jd2 e.jd1 e.jd2 ≡ equal d e
 unfolding equal
 equal-parts d e s t p q h =
-    let k : bothFinite (sums d).sum (sums e).sum ≡ false = rw (p, q) at h in
+    let k : both_finite (sums d).sum (sums e).sum ≡ false = rw (p, q) at h in
     rw k
 
 -- ---- one number has one nearest float, as far as its value goes
 
-zero-stays : {z : Float} {P N p n : ℕ} → P ≡ N → Rounds binary64 z P N L → Val z p n L → p ≡ n
-zero-stays {z} {P} {N} {p} {n} e r v =
+zero_stays : {z : Float} {P N p n : ℕ} → P ≡ N → Rounds binary64 z P N L → Val z p n L → p ≡ n
+zero_stays {z} {P} {N} {p} {n} e r v =
     let w = rounds-exact 1074 (lit≤ tt) (omega arith) (omega arith) (subst (Rounds binary64 z P N) L-is r) in
     let u : p + N ≡ P + n = val-unique v (subst (Val z P N) (sym L-is) w) in
     omega arith
@@ -54,8 +54,8 @@ same-rounded {z} {y} {P} {N} {Q} {M} {p} {n} {q} {m} r s e v w = go r.sign s.sig
 
     apart : (P ≡ N) × (Q ≡ M) → p + m ≡ q + n
     apart h =
-        let i : p ≡ n = zero-stays h.0 r v in
-        let j : q ≡ m = zero-stays h.1 s w in
+        let i : p ≡ n = zero_stays h.0 r v in
+        let j : q ≡ m = zero_stays h.1 s w in
         omega arith
 
     go : (a b : Bool) → Signed a r.size P N → Signed b s.size Q M → z ≡ round binary64 a r.size L → y ≡ round binary64 b s.size L → p + m ≡ q + n
@@ -75,11 +75,11 @@ worth d s =
 
 -- and its two-sum does not overflow
 pub small-sums : (d : JulianDate) → SmallParts d → FiniteSums d
-unfolding sums exactSum twoSumError
+unfolding sums exact_sum two_sum_error
 small-sums d s =
     let w = (worth d s).2 in
     let x = two-sum-under s.first s.second w.first w.second in
-    record { first-float = s.first.held; second-float = s.second.held; sum = val-finite x.sum; error = val-finite x.err }
+    record { first_float = s.first.held; second_float = s.second.held; sum = val-finite x.sum; error = val-finite x.err }
 
 -- the values of the rounded sum and of its error, which together are the exact sum (P - N) / L
 pub record SumAndError (d : JulianDate) (P N : ℕ) : Type 0 where
@@ -93,10 +93,10 @@ pub record SumAndError (d : JulianDate) (P N : ℕ) : Type 0 where
   pub rounded : Rounds binary64 (sums d).sum P N L
 
 pub sums-of : {d : JulianDate} {P N : ℕ} → FiniteSums d → Worth d P N L → SumAndError d P N
-unfolding sums exactSum twoSumError
+unfolding sums exact_sum two_sum_error
 sums-of {d} {P} {N} s w =
-    let x = two-sum-finite d.jd1 d.jd2 w.p w.n w.q w.m w.first w.second (val-rep s.first-float w.first)
-    (val-rep s.second-float w.second) s.sum s.error in
+    let x = two-sum-finite d.jd1 d.jd2 w.p w.n w.q w.m w.first w.second (val-rep s.first_float w.first)
+    (val-rep s.second_float w.second) s.sum s.error in
     record {
       sp = x.sp;
       sn = x.sn;

@@ -1,5 +1,5 @@
 -- What `day_number_and_fraction` answers, in the order in which a reader needs it. specs/ExactDay has what demand 3 is written in: `OnGrid x`, the part x is a
--- multiple of 2 ^ -52 day under 2 ^ 52 days in size; `InJulianRange sum`, the exact sum is from -68569.5 to 10 ^ 9; `exactDay` and `exactFraction`. To follow
+-- multiple of 2 ^ -52 day under 2 ^ 52 days in size; `InJulianRange sum`, the exact sum is from -68569.5 to 10 ^ 9; `exact_day` and `exact_fraction`. To follow
 -- the proof of `exact`: a pair passes the range test (JulianRange); each part falls into a whole number and a rest (NearestInt, Parts); the two rests add up
 -- exactly (SplitOnGrid); the whole numbers add up without a wrap (IntegerSum); together they are the exact day and fraction (GridPairs), and there is only one
 -- (ExactDay).

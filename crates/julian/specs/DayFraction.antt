@@ -6,28 +6,28 @@ use Rattle.std.specs.Float.Ieee.{of_int, add, mul, div, lt, le}
 use Rattle.std.specs.Float.Ieee.Scale.{finite}
 use Rattle.refusals.specs.Outcome.{Outcome, answer, refusal}
 use Rattle.floats.specs.Whole.{nought}
-use Rattle.constants.specs.Constants.{decimal, secondsPerDay}
+use Rattle.constants.specs.Constants.{decimal, seconds_per_day}
 use Rattle.julian.specs.declared.FractionAnswer.TheVariants as Answer
 use Rattle.julian.specs.declared.FractionAnswer.{FractionAnswer}
 
 -- document 01's answer: a fraction as a float, or a refusal number
-unfoldable pub fractionOutcome : FractionAnswer → Outcome Float
-fractionOutcome (Answer.Fraction x) = answer x
-fractionOutcome (Answer.Refused number) = refusal number
+unfoldable pub fraction_outcome : FractionAnswer → Outcome Float
+fraction_outcome (Answer.Fraction x) = answer x
+fraction_outcome (Answer.Refused number) = refusal number
 
 -- what the second is below; `leap` is the day's length less 86,400 s
-unfoldable pub secondLimit : ℕ → ℕ → Float → Float
-secondLimit hour minute leap = cond (eqb hour 23 && eqb minute 59) (add binary64 (decimal 60 0) leap) (decimal 60 0)
+unfoldable pub second_limit : ℕ → ℕ → Float → Float
+second_limit hour minute leap = cond (eqb hour 23 && eqb minute 59) (add binary64 (decimal 60 0) leap) (decimal 60 0)
 
 -- A second that is a NaN is neither 0.0 or more nor below the limit. A day whose leap is not finite has no times, where the Rust takes every one but those of
 -- the last minute: no leap of a day is so.
-unfoldable pub timeInDay : ℕ → ℕ → Float → Float → Bool
-timeInDay hour minute second leap =
-    (leb hour 23 && leb minute 59) && (finite leap && (le nought second && lt second (secondLimit hour minute leap)))
+unfoldable pub time_in_day : ℕ → ℕ → Float → Float → Bool
+time_in_day hour minute second leap =
+    (leb hour 23 && leb minute 59) && (finite leap && (le nought second && lt second (second_limit hour minute leap)))
 
 -- 4 where the time is not in the day
-unfoldable pub dayFraction : ℕ → ℕ → Float → Float → Outcome Float
-dayFraction hour minute second leap =
-    cond (timeInDay hour minute second leap)
-    (answer (div binary64 (add binary64 (mul binary64 (decimal 60 0) (of_int binary64 (pos (60 * hour + minute)))) second) (add binary64 secondsPerDay leap)))
+unfoldable pub day_fraction : ℕ → ℕ → Float → Float → Outcome Float
+day_fraction hour minute second leap =
+    cond (time_in_day hour minute second leap)
+    (answer (div binary64 (add binary64 (mul binary64 (decimal 60 0) (of_int binary64 (pos (60 * hour + minute)))) second) (add binary64 seconds_per_day leap)))
     (refusal 4)

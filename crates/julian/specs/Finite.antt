@@ -7,21 +7,21 @@ use Rattle.julian.specs.declared.OffsetAnswer.TheVariants as Answer
 use Rattle.julian.specs.declared.JulianDate.{JulianDate}
 use Rattle.julian.specs.declared.OffsetAnswer.{OffsetAnswer}
 
-unfoldable pub offsetOutcome : OffsetAnswer → Outcome Float
-offsetOutcome (Answer.Offset x) = answer x
-offsetOutcome (Answer.Refused number) = refusal number
+unfoldable pub offset_outcome : OffsetAnswer → Outcome Float
+offset_outcome (Answer.Offset x) = answer x
+offset_outcome (Answer.Refused number) = refusal number
 
-abbrev pub bothFinite : Float → Float → Bool
-bothFinite a b = finite a && finite b
+abbrev pub both_finite : Float → Float → Bool
+both_finite a b = finite a && finite b
 
 -- whether both parts are finite
-abbrev pub finiteParts : JulianDate → Bool
-finiteParts d = bothFinite d.jd1 d.jd2
+abbrev pub finite_parts : JulianDate → Bool
+finite_parts d = both_finite d.jd1 d.jd2
 
 -- 9: a part of the date is not finite
-unfoldable pub finiteJd : JulianDate → Outcome JulianDate
-finiteJd d = cond (finiteParts d) (answer d) (refusal 9)
+unfoldable pub finite_jd : JulianDate → Outcome JulianDate
+finite_jd d = cond (finite_parts d) (answer d) (refusal 9)
 
 -- 10: the offset is not finite
-unfoldable pub finiteArg : Float → Outcome Float
-finiteArg x = cond (finite x) (answer x) (refusal 10)
+unfoldable pub finite_arg : Float → Outcome Float
+finite_arg x = cond (finite x) (answer x) (refusal 10)

@@ -4,8 +4,8 @@ use Rattle.std.specs.Prelude.{Float}
 use Rattle.std.specs.Float.{binary64}
 use Rattle.std.specs.Float.Ieee.{add, sub, div}
 use Rattle.refusals.specs.Outcome.{Outcome, answer, refusal}
-use Rattle.floats.specs.Whole.{toWhole, cut}
-use Rattle.constants.specs.Constants.{secondsPerDay}
+use Rattle.floats.specs.Whole.{to_whole, cut}
+use Rattle.constants.specs.Constants.{seconds_per_day}
 use Rattle.julian.specs.declared.JulianAnswer.TheVariants as Answer
 use Rattle.julian.specs.declared.JulianDate.{JulianDate}
 use Rattle.julian.specs.declared.JulianAnswer.{JulianAnswer}
@@ -15,26 +15,26 @@ abbrev pub julian : Float → Float → JulianDate
 julian a b = record { jd1 = a; jd2 = b }
 
 -- document 01's answer: a date as floats, or a refusal number
-unfoldable pub julianOutcome : JulianAnswer → Outcome JulianDate
-julianOutcome (Answer.Date d) = answer d
-julianOutcome (Answer.Refused number) = refusal number
+unfoldable pub julian_outcome : JulianAnswer → Outcome JulianDate
+julian_outcome (Answer.Date d) = answer d
+julian_outcome (Answer.Refused number) = refusal number
 
 -- the sum of the parts, rounded once
-unfoldable pub roundedSum : JulianDate → Float
-roundedSum d = add binary64 d.jd1 d.jd2
+unfoldable pub rounded_sum : JulianDate → Float
+rounded_sum d = add binary64 d.jd1 d.jd2
 
 -- jd2 with the part of a day added, whole days not yet carried; `cut` is the Rust's trunc
 unfoldable pub uncarried : JulianDate → Float → Float
-uncarried d days = add binary64 d.jd2 (sub binary64 days (toWhole cut days))
+uncarried d days = add binary64 d.jd2 (sub binary64 days (to_whole cut days))
 
 -- the whole days of the sum, and of `days`, go into jd1
-unfoldable pub addDays : JulianDate → Float → JulianDate
-addDays d days =
-    julian (add binary64 d.jd1 (add binary64 (toWhole cut days) (toWhole cut (uncarried d days))))
-    (sub binary64 (uncarried d days) (toWhole cut (uncarried d days)))
+unfoldable pub add_days : JulianDate → Float → JulianDate
+add_days d days =
+    julian (add binary64 d.jd1 (add binary64 (to_whole cut days) (to_whole cut (uncarried d days))))
+    (sub binary64 (uncarried d days) (to_whole cut (uncarried d days)))
 
-unfoldable pub addSeconds : JulianDate → Float → JulianDate
-addSeconds d seconds = addDays d (div binary64 seconds secondsPerDay)
+unfoldable pub add_seconds : JulianDate → Float → JulianDate
+add_seconds d seconds = add_days d (div binary64 seconds seconds_per_day)
 
 -- document 01: "The difference of two dates adds the differences of the parts"
 unfoldable pub difference : JulianDate → JulianDate → Float

@@ -3,23 +3,23 @@
 use Rattle.std.specs.Prelude.{ℕ, suc, ◌/◌, ◌%◌, ℤ, pos, negsuc, neg_ℤ, Float}
 use Rattle.std.specs.Float.{binary64}
 use Rattle.std.specs.Float.Ieee.{of_int, add, div}
-use Rattle.constants.specs.Constants.{secondsPerDay, nanosecondsPerSecond, unixEpochJd}
+use Rattle.constants.specs.Constants.{seconds_per_day, nanoseconds_per_second, unix_epoch_jd}
 use Rattle.julian.specs.declared.JulianDate.{JulianDate}
 use Rattle.julian.specs.JulianDate.{julian}
 
 -- document 01: "`from_unix_time` divides toward zero"; `negsuc s` is -(s + 1)
-abbrev pub daysTowardZero : ℤ → ℤ
-daysTowardZero (pos s) = pos (s / 86400)
-daysTowardZero (negsuc s) = neg_ℤ (pos (suc s / 86400))
+abbrev pub days_toward_zero : ℤ → ℤ
+days_toward_zero (pos s) = pos (s / 86400)
+days_toward_zero (negsuc s) = neg_ℤ (pos (suc s / 86400))
 
 -- the seconds that are left, with the sign of all
-abbrev pub secondsLeft : ℤ → ℤ
-secondsLeft (pos s) = pos (s % 86400)
-secondsLeft (negsuc s) = neg_ℤ (pos (suc s % 86400))
+abbrev pub seconds_left : ℤ → ℤ
+seconds_left (pos s) = pos (s % 86400)
+seconds_left (negsuc s) = neg_ℤ (pos (suc s % 86400))
 
-unfoldable pub secondOfDay : ℤ → ℕ → Float
-secondOfDay seconds nanos = add binary64 (of_int binary64 (secondsLeft seconds)) (div binary64 (of_int binary64 (pos nanos)) nanosecondsPerSecond)
+unfoldable pub second_of_day : ℤ → ℕ → Float
+second_of_day seconds nanos = add binary64 (of_int binary64 (seconds_left seconds)) (div binary64 (of_int binary64 (pos nanos)) nanoseconds_per_second)
 
-unfoldable pub fromUnixTime : ℤ → ℕ → JulianDate
-fromUnixTime seconds nanos = julian (add binary64 unixEpochJd (of_int binary64 (daysTowardZero seconds)))
-    (div binary64 (secondOfDay seconds nanos) secondsPerDay)
+unfoldable pub from_unix_time : ℤ → ℕ → JulianDate
+from_unix_time seconds nanos = julian (add binary64 unix_epoch_jd (of_int binary64 (days_toward_zero seconds)))
+    (div binary64 (second_of_day seconds nanos) seconds_per_day)

@@ -1,9 +1,9 @@
 // The day and the fraction of a date, whichever way it is divided into two parts. From the Rust's utc_tai/calendar.rs but for its calendar.
 ghost use Rattle.std.specs.Prelude.{◌≡◌, true, ◌≤◌, pos, ◌+ℤ◌, ◌-ℤ◌};
 ghost use Rattle.julian.specs.day_number.DayNumber as S;
-ghost use Rattle.julian.specs.day_number.Answer.{dayOutcome, dayNumberAndFraction};
+ghost use Rattle.julian.specs.day_number.Answer.{day_outcome, day_number_and_fraction};
 ghost use Rattle.julian.specs.day_number.Sums.{Sums};
-ghost use Rattle.floats.specs.NearestWhole.{nearestWhole};
+ghost use Rattle.floats.specs.NearestWhole.{nearest_whole};
 
 // A civil day by its Julian Day number, and the fraction of it since its midnight, from 0.0 to below 1.0.
 #[derive(Drop)]
@@ -65,7 +65,7 @@ const DBL_EPSILON: f64 = 2.220446049250313e-16;
 
 // Whether the rounded sum of a date's parts is in the range. A NaN is not.
 fn check_julian_range(dj: f64) -> bool
-    ensures { result ≡ S.inJulianRange dj }
+    ensures { result ≡ S.in_julian_range dj }
 {
     dj >= DJMIN && dj <= DJMAX
 }
@@ -84,7 +84,7 @@ fn compensation(sum: f64, frac: f64, temp: f64) -> f64
 // One turn of the Rust's loop: the fraction added, and a whole day carried.
 fn add_fraction(carry: u64, kahan: Kahan, frac: f64) -> Summed
     requires { carry ≤ 1 }
-    ensures { result ≡ S.addFraction carry kahan frac }
+    ensures { result ≡ S.add_fraction carry kahan frac }
 {
     let temp = kahan.sum + frac;
     let correction = kahan.correction + compensation(kahan.sum, frac, temp);
@@ -109,7 +109,7 @@ fn add_fraction(carry: u64, kahan: Kahan, frac: f64) -> Summed
 
 // Starting the sum at 0.5 moves the day boundary from noon to midnight.
 fn sum_fractions(first: f64, second: f64) -> Summed
-    ensures { result ≡ S.sumFractions first second }
+    ensures { result ≡ S.sum_fractions first second }
 {
     let start = Kahan {
         sum: 0.5,
@@ -122,7 +122,7 @@ fn sum_fractions(first: f64, second: f64) -> Summed
 
 // One day more in the sum, where its fraction is below 0.0.
 fn borrow_day(kahan: Kahan) -> Borrowed
-    ensures { result ≡ S.borrowDay kahan }
+    ensures { result ≡ S.borrow_day kahan }
 {
     let sum = kahan.sum + 1.0;
     let correction = kahan.correction + ((1.0 - sum) + kahan.sum);
@@ -139,7 +139,7 @@ fn borrow_day(kahan: Kahan) -> Borrowed
 
 // A fraction less than 2^-54 below 1.0, or above, carries into the next day.
 fn carry_day(kahan: Kahan, fraction: f64) -> Carried
-    ensures { result ≡ S.carryDay kahan fraction }
+    ensures { result ≡ S.carry_day kahan fraction }
 {
     if (fraction - 1.0) < -DBL_EPSILON / 4.0 {
         return Carried {
@@ -165,7 +165,7 @@ fn carry_day(kahan: Kahan, fraction: f64) -> Carried
 
 // Brings the compensated sum into [0, 1).
 fn normalize_fraction(kahan: Kahan) -> Normalized
-    ensures { result ≡ S.normalizeFraction kahan }
+    ensures { result ≡ S.normalize_fraction kahan }
 {
     let fraction = kahan.sum + kahan.correction;
     let settled = Kahan {
@@ -206,8 +206,8 @@ fn day_by_sums(
     first: floats::NearestWhole,
     second: floats::NearestWhole,
 ) -> DayNumber
-    requires { (S.accepted jd1 jd2 ≡ true) × (first ≡ nearestWhole jd1) × (second ≡ nearestWhole jd2) }
-    ensures { result ≡ S.dayOf jd1 jd2 }
+    requires { (S.accepted jd1 jd2 ≡ true) × (first ≡ nearest_whole jd1) × (second ≡ nearest_whole jd2) }
+    ensures { result ≡ S.day_of jd1 jd2 }
 {
     let summed = sum_fractions(jd1 - first.value, jd2 - second.value);
     let kahan = summed.kahan;
@@ -229,7 +229,7 @@ fn day_by_sums(
 // is left is jd2's fraction, of which a sum with 0.0 loses nothing, and with a day borrowed no more than its one rounding.
 fn day_in_range(jd1: f64, jd2: f64) -> DayNumber
     requires { S.accepted jd1 jd2 ≡ true }
-    ensures { result ≡ S.dayOf jd1 jd2 }
+    ensures { result ≡ S.day_of jd1 jd2 }
 {
     let first = floats::nearest_whole(jd1);
     let second = floats::nearest_whole(jd2);
@@ -259,7 +259,7 @@ fn day_in_range(jd1: f64, jd2: f64) -> DayNumber
 
 // The day and the fraction of any two floats, or 6 where their rounded sum is outside the range.
 pub fn day_number_and_fraction(jd1: f64, jd2: f64) -> DayAnswer
-    ensures { dayOutcome result ≡ dayNumberAndFraction jd1 jd2 }
+    ensures { day_outcome result ≡ day_number_and_fraction jd1 jd2 }
 {
     if check_julian_range(jd1 + jd2) {
         DayAnswer::Day(day_in_range(jd1, jd2))

@@ -1,7 +1,7 @@
 // Two-part Julian dates: from the calendar and Unix time and back, equality, difference, each operation in the Rust's order.
 ghost use Rattle.std.specs.Prelude.{◌≡◌};
 ghost use Rattle.floats.specs.Whole.{nought};
-ghost use Rattle.constants.specs.Constants.{j2000Jd, unixEpochJd};
+ghost use Rattle.constants.specs.Constants.{j2000_jd, unix_epoch_jd};
 ghost use Rattle.julian.specs.JulianDate as D;
 ghost use Rattle.julian.specs.UnixTime as U;
 ghost use Rattle.julian.specs.JulianYear as Y;
@@ -83,13 +83,13 @@ impl JulianDate {
     }
 
     pub fn j2000() -> JulianDate
-        ensures { result ≡ D.julian j2000Jd nought }
+        ensures { result ≡ D.julian j2000_jd nought }
     {
         JulianDate::new(JulianDate::J2000_JD, 0.0)
     }
 
     pub fn unix_epoch() -> JulianDate
-        ensures { result ≡ D.julian unixEpochJd nought }
+        ensures { result ≡ D.julian unix_epoch_jd nought }
     {
         JulianDate::new(constants::UNIX_EPOCH_JD, 0.0)
     }
@@ -108,14 +108,14 @@ impl JulianDate {
 
     // The rounded sum of the parts.
     pub fn to_f64(self) -> f64
-        ensures { result ≡ D.roundedSum self }
+        ensures { result ≡ D.rounded_sum self }
     {
         self.jd1 + self.jd2
     }
 
     // Whole days are carried into jd1. Left in jd2 they would grow it until small steps round away.
     pub fn add_days(self, days: f64) -> JulianDate
-        ensures { result ≡ D.addDays self days }
+        ensures { result ≡ D.add_days self days }
     {
         let whole_days = floats::trunc(days);
         let jd2 = self.jd2 + (days - whole_days);
@@ -124,14 +124,14 @@ impl JulianDate {
     }
 
     pub fn add_seconds(self, seconds: f64) -> JulianDate
-        ensures { result ≡ D.addSeconds self seconds }
+        ensures { result ≡ D.add_seconds self seconds }
     {
         self.add_days(seconds / constants::SECONDS_PER_DAY_F64)
     }
 
     // Whole days and the time of day are kept apart so nanoseconds survive. The day is the one toward 1970.
     pub fn from_unix_time(seconds: i64, nanos: u32) -> JulianDate
-        ensures { result ≡ U.fromUnixTime seconds nanos }
+        ensures { result ≡ U.from_unix_time seconds nanos }
     {
         let days = (seconds / constants::SECONDS_PER_DAY) as f64;
         let rest = (seconds % constants::SECONDS_PER_DAY) as f64;
@@ -151,7 +151,7 @@ impl JulianDate {
         minute: u8,
         second: f64,
     ) -> JulianAnswer
-        ensures { D.julianOutcome result ≡ C.fromCalendar year month day hour minute second }
+        ensures { D.julian_outcome result ≡ C.from_calendar year month day hour minute second }
     {
         match calendar_to_julian(year, month as i32, day as i32) {
             JulianAnswer::Refused(number) => JulianAnswer::Refused(number),
@@ -163,7 +163,7 @@ impl JulianDate {
 
     // The rounded sum of the parts in jd1, and the fraction in jd2.
     fn at_time(self, fraction: FractionAnswer) -> JulianAnswer
-        ensures { D.julianOutcome result ≡ C.atTime self (F.fractionOutcome fraction) }
+        ensures { D.julian_outcome result ≡ C.at_time self (F.fraction_outcome fraction) }
     {
         match fraction {
             FractionAnswer::Refused(number) => JulianAnswer::Refused(number),
@@ -176,14 +176,14 @@ impl JulianDate {
 
     // Subtracting J2000 from jd1 before adding jd2 keeps jd2's low bits, as eraEpj does.
     pub fn to_julian_year(self) -> f64
-        ensures { result ≡ Y.toJulianYear self }
+        ensures { result ≡ Y.to_julian_year self }
     {
         2000.0 + ((self.jd1 - JulianDate::J2000_JD) + self.jd2) / constants::DAYS_PER_JULIAN_YEAR
     }
 
     // eraEpj2jd's split: the MJD zero point in jd1 and the MJD in jd2.
     pub fn from_julian_year(year: f64) -> JulianDate
-        ensures { result ≡ Y.fromJulianYear year }
+        ensures { result ≡ Y.from_julian_year year }
     {
         let mjd = (JulianDate::J2000_JD - JulianDate::MJD_ZERO_POINT)
             + (year - 2000.0) * constants::DAYS_PER_JULIAN_YEAR;
@@ -214,7 +214,7 @@ impl JulianDate {
 
 // (2400000.5, the Modified Julian Date) of a date's midnight. Refusals in order: 1 the year, 2 the month, 3 the day.
 pub fn calendar_to_julian(year: i32, month: i32, day: i32) -> JulianAnswer
-    ensures { D.julianOutcome result ≡ C.calendarToJulian year month day }
+    ensures { D.julian_outcome result ≡ C.calendar_to_julian year month day }
 {
     match calendar::modified_julian_day(year, month, day) {
         calendar::MjdAnswer::Refused(number) => JulianAnswer::Refused(number),
@@ -228,7 +228,7 @@ pub fn calendar_to_julian(year: i32, month: i32, day: i32) -> JulianAnswer
 // The calendar date of the day, and the fraction of the day that has passed; 6 where the rounded sum of the parts is outside -68569.5
 // to 1e9, or a NaN.
 pub fn julian_to_calendar(jd1: f64, jd2: f64) -> CalendarAnswer
-    ensures { C.calendarOutcome result ≡ C.julianToCalendar jd1 jd2 }
+    ensures { C.calendar_outcome result ≡ C.julian_to_calendar jd1 jd2 }
 {
     match crate::day_number::day_number_and_fraction(jd1, jd2) {
         crate::day_number::DayAnswer::Refused(number) => CalendarAnswer::Refused(number),
@@ -244,7 +244,7 @@ pub fn julian_to_calendar(jd1: f64, jd2: f64) -> CalendarAnswer
 
 // Knuth's two-sum.
 pub fn exact_sum(a: f64, b: f64) -> ExactSum
-    ensures { result ≡ E.exactSum a b }
+    ensures { result ≡ E.exact_sum a b }
 {
     let sum = a + b;
     let b_rounded = sum - a;
@@ -255,7 +255,7 @@ pub fn exact_sum(a: f64, b: f64) -> ExactSum
 // The part of the day that has passed; 4 where the time is not in the day. `leap` is how much longer than 86,400 s the day is, and
 // the extra time goes into the seconds of its last minute; a day whose leap is not finite has no times.
 pub fn day_fraction(hour: u8, minute: u8, second: f64, leap: f64) -> FractionAnswer
-    ensures { F.fractionOutcome result ≡ F.dayFraction hour minute second leap }
+    ensures { F.fraction_outcome result ≡ F.day_fraction hour minute second leap }
 {
     if !time_in_day(hour, minute, second, leap) {
         return FractionAnswer::Refused(refusals::TIME_NOT_IN_DAY);
@@ -266,7 +266,7 @@ pub fn day_fraction(hour: u8, minute: u8, second: f64, leap: f64) -> FractionAns
 
 // A second that is a NaN is in no day.
 fn time_in_day(hour: u8, minute: u8, second: f64, leap: f64) -> bool
-    ensures { result ≡ F.timeInDay hour minute second leap }
+    ensures { result ≡ F.time_in_day hour minute second leap }
 {
     let limit = second_limit(hour, minute, leap);
     if hour > 23 {
@@ -283,7 +283,7 @@ fn time_in_day(hour: u8, minute: u8, second: f64, leap: f64) -> bool
 
 // What a second of the minute is below.
 fn second_limit(hour: u8, minute: u8, leap: f64) -> f64
-    ensures { result ≡ F.secondLimit hour minute leap }
+    ensures { result ≡ F.second_limit hour minute leap }
 {
     if hour == 23 && minute == 59 {
         60.0 + leap
@@ -293,7 +293,7 @@ fn second_limit(hour: u8, minute: u8, leap: f64) -> f64
 }
 
 fn both_finite(a: f64, b: f64) -> bool
-    ensures { result ≡ N.bothFinite a b }
+    ensures { result ≡ N.both_finite a b }
 {
     floats::is_finite(a) && floats::is_finite(b)
 }
@@ -307,7 +307,7 @@ fn same_pair(a: f64, b: f64, c: f64, d: f64) -> bool
 
 // The date, where both parts are finite; else 9.
 pub fn finite_jd(jd: JulianDate) -> JulianAnswer
-    ensures { D.julianOutcome result ≡ N.finiteJd jd }
+    ensures { D.julian_outcome result ≡ N.finite_jd jd }
 {
     if both_finite(jd.jd1, jd.jd2) {
         return JulianAnswer::Date(jd);
@@ -317,7 +317,7 @@ pub fn finite_jd(jd: JulianDate) -> JulianAnswer
 
 // The offset, where it is finite; else 10.
 pub fn finite_arg(value: f64) -> OffsetAnswer
-    ensures { N.offsetOutcome result ≡ N.finiteArg value }
+    ensures { N.offset_outcome result ≡ N.finite_arg value }
 {
     if floats::is_finite(value) {
         return OffsetAnswer::Offset(value);

@@ -28,7 +28,7 @@ fn sooner(s: crate::ExactSum, t: crate::ExactSum) -> bool
 // The order of the exact sums, however each date is divided. 9 where a part is not finite, or so large that the two-sum overflows: then the error is not
 // finite.
 pub fn compare(a: crate::JulianDate, b: crate::JulianDate) -> OrderAnswer
-    ensures { O.orderOutcome result ≡ O.comparison a b }
+    ensures { O.order_outcome result ≡ O.comparison a b }
 {
     let one = crate::exact_sum(a.jd1, a.jd2);
     let two = crate::exact_sum(b.jd1, b.jd2);
@@ -49,7 +49,7 @@ pub fn compare(a: crate::JulianDate, b: crate::JulianDate) -> OrderAnswer
 
 // Whether a date has a place in the order: `compare` refuses it by 9 where it has none.
 pub fn has_place(a: crate::JulianDate) -> bool
-    ensures { result ≡ P.hasPlace a }
+    ensures { result ≡ P.has_place a }
 {
     let one = crate::exact_sum(a.jd1, a.jd2);
     floats::is_finite(one.error)
@@ -57,7 +57,7 @@ pub fn has_place(a: crate::JulianDate) -> bool
 
 // Whether the one date comes before the other; of dates that have a place.
 pub fn is_earlier(a: crate::JulianDate, b: crate::JulianDate) -> bool
-    ensures { result ≡ P.isEarlier a b }
+    ensures { result ≡ P.is_earlier a b }
 {
     let one = crate::exact_sum(a.jd1, a.jd2);
     let two = crate::exact_sum(b.jd1, b.jd2);

@@ -1,7 +1,7 @@
 -- The days that end in a leap second, and what the leap at the end of a day can be. The list is written from the IERS Bulletins C. Assumes nothing.
 use Rattle.std.specs.Prelude.{ℕ, ◌≡◌, Bool, false, ◌&&◌, ◌||◌, List, [], ◌∷◌, T, eqb, Float}
 use Rattle.floats.specs.Whole.{one}
-use Rattle.time_of_day.specs.ExactTime.{leap1959, minus-one-f}
+use Rattle.time_of_day.specs.ExactTime.{leap1959, minus_one_f}
 use Rattle.leap_days.specs.drift.Small.{small}
 
 pub record Day : Type 0 where
@@ -12,8 +12,8 @@ pub record Day : Type 0 where
 abbrev pub on : ℕ → ℕ → ℕ → Day
 on y m d = record { year = y; month = m; day = d }
 
-unfoldable pub leapSeconds : List Day
-leapSeconds =
+unfoldable pub leap_seconds : List Day
+leap_seconds =
     (on 1972 6 30) ∷
     (on 1972 12 31) ∷
     (on 1973 12 31) ∷
@@ -47,12 +47,12 @@ abbrev pub listed : List Day → ℕ → ℕ → ℕ → Bool
 listed [] y m d = false
 listed (t ∷ rest) y m d = (eqb y t.year && (eqb m t.month && eqb d t.day)) || listed rest y m d
 
-unfoldable pub isLeapSecond : ℕ → ℕ → ℕ → Bool
-isLeapSecond y m d = listed leapSeconds y m d
+unfoldable pub is_leap_second : ℕ → ℕ → ℕ → Bool
+is_leap_second y m d = listed leap_seconds y m d
 
 -- the leaps that a table gives: fewer than `Leap` of `time_of_day` has, which a text is shown for; the fixed table gives no short day
 pub data TableLeap (x : Float) : Type 0 where
   within : T (small x) → TableLeap x
   second : x ≡ one → TableLeap x
   first : x ≡ leap1959 → TableLeap x
-  shorter : x ≡ minus-one-f → TableLeap x
+  shorter : x ≡ minus_one_f → TableLeap x

@@ -10,104 +10,104 @@ use Prim.Native.String as Native
 use lib.ListN.{length, drop, get_or, replicate}
 use lib.Dec.{eqb}
 use lib.IntN.{ℤ, pos}
-use Rattle.numerals.specs.digits.Decimal.{isDigit}
-use Rattle.calendar.specs.Calendar.{leapSize, lengths}
-use Rattle.leap_table.specs.rows.Table.{Row, fixed, reached, monthNumber, none, fixedRows, lastMonth}
-use Rattle.leap_table.specs.offsets.WholeSeconds.{wholeSeconds}
+use Rattle.numerals.specs.digits.Decimal.{is_digit}
+use Rattle.calendar.specs.Calendar.{leap_size, lengths}
+use Rattle.leap_table.specs.rows.Table.{Row, fixed, reached, month_number, none, fixed_rows, last_month}
+use Rattle.leap_table.specs.offsets.WholeSeconds.{whole_seconds}
 use Rattle.leap_lists.specs.declared.ListAnswer.{ListAnswer}
 use Rattle.leap_lists.specs.declared.lines.Line.{Line}
 use Rattle.leap_lists.specs.declared.lines.Line.TheVariants as K
-use Rattle.leap_lists.specs.lines.Scan.{lineBlank, behindBlanks, firstDigits, ended, numberThen, lastNumber}
-use Rattle.leap_lists.specs.lines.Months.{monthDays, monthAfter, monthFrom}
-use Rattle.leap_lists.specs.lines.Lines.{rowWith, monthRow, ntpRow, rowBehind, row_of, expiryOf, lineFrom, lineSays}
-use Rattle.leap_lists.specs.Held.{secondsFrom, libraryRow, noneHeld, laterFault, lineFault, withLine}
-use Rattle.leap_lists.specs.Texts.{onFirst, lines_of}
-use Rattle.leap_lists.specs.Reading.{answered, refusedAt, readFrom, read_of}
-use Rattle.leap_lists.specs.Writer.{linesText}
+use Rattle.leap_lists.specs.lines.Scan.{line_blank, behind_blanks, first_digits, ended, number_then, last_number}
+use Rattle.leap_lists.specs.lines.Months.{month_days, month_after, month_from}
+use Rattle.leap_lists.specs.lines.Lines.{row_with, month_row, ntp_row, row_behind, row_of, expiry_of, line_from, line_says}
+use Rattle.leap_lists.specs.Held.{seconds_from, library_row, none_held, later_fault, line_fault, with_line}
+use Rattle.leap_lists.specs.Texts.{on_first, lines_of}
+use Rattle.leap_lists.specs.Reading.{answered, refused_at, read_from, read_of}
+use Rattle.leap_lists.specs.Writer.{lines_text}
 
 -- the bytes of a text that is written out here
-abbrev pub asciiBytes : String → List ℕ
-asciiBytes Native.[] = []
-asciiBytes (Native.◌∷◌ c s) = code c ∷ asciiBytes s
+abbrev pub ascii_bytes : String → List ℕ
+ascii_bytes Native.[] = []
+ascii_bytes (Native.◌∷◌ c s) = code c ∷ ascii_bytes s
 
 -- ---- lines outside the grammar
 unfoldable pub others : List (List ℕ)
 others =
-    asciiBytes "x" ∷
-    asciiBytes "2027" ∷
-    asciiBytes "2027-01" ∷
-    asciiBytes "2027-01 " ∷
-    asciiBytes "2027-01 x" ∷
-    asciiBytes "2027-1 38" ∷
-    asciiBytes "2027-001 38" ∷
-    asciiBytes "02027-01 38" ∷
-    asciiBytes "202-01 38" ∷
-    asciiBytes "2027-00 38" ∷
-    asciiBytes "2027-13 38" ∷
-    asciiBytes "2027-0138" ∷
-    asciiBytes "2027-01-38" ∷
-    asciiBytes "2027-01 38 9" ∷
-    asciiBytes "2027-01 38x" ∷
-    asciiBytes "2027-01 -38" ∷
-    asciiBytes "2027-01 +38" ∷
-    asciiBytes "2027-01 38.0" ∷
-    asciiBytes "2027-01 1234567890" ∷
-    (asciiBytes "2027-01" ++ (13 ∷ asciiBytes "38")) ∷
-    asciiBytes "2027/01 38" ∷
-    asciiBytes "-027-01 38" ∷
-    asciiBytes "2027 -01 38" ∷
-    asciiBytes "2027- 01 38" ∷
-    asciiBytes "2027-01,38" ∷
-    asciiBytes "2027-01 #38" ∷
-    asciiBytes "2272060800" ∷
-    asciiBytes "2272060801 10" ∷
-    asciiBytes "2272147200 10" ∷
-    asciiBytes "2272060800 10s" ∷
-    asciiBytes "2272060800,10" ∷
-    asciiBytes "1234567890123 10" ∷
-    asciiBytes "255611289600 10" ∷
-    asciiBytes "#@" ∷
-    asciiBytes "#@ " ∷
-    asciiBytes "#@3928521600" ∷
-    asciiBytes "#@ x" ∷
-    asciiBytes "#@ 3928521600 x" ∷
-    asciiBytes "#@ 1234567890123" ∷
-    asciiBytes "@ 3928521600" ∷
-    asciiBytes "0 0x" ∷
+    ascii_bytes "x" ∷
+    ascii_bytes "2027" ∷
+    ascii_bytes "2027-01" ∷
+    ascii_bytes "2027-01 " ∷
+    ascii_bytes "2027-01 x" ∷
+    ascii_bytes "2027-1 38" ∷
+    ascii_bytes "2027-001 38" ∷
+    ascii_bytes "02027-01 38" ∷
+    ascii_bytes "202-01 38" ∷
+    ascii_bytes "2027-00 38" ∷
+    ascii_bytes "2027-13 38" ∷
+    ascii_bytes "2027-0138" ∷
+    ascii_bytes "2027-01-38" ∷
+    ascii_bytes "2027-01 38 9" ∷
+    ascii_bytes "2027-01 38x" ∷
+    ascii_bytes "2027-01 -38" ∷
+    ascii_bytes "2027-01 +38" ∷
+    ascii_bytes "2027-01 38.0" ∷
+    ascii_bytes "2027-01 1234567890" ∷
+    (ascii_bytes "2027-01" ++ (13 ∷ ascii_bytes "38")) ∷
+    ascii_bytes "2027/01 38" ∷
+    ascii_bytes "-027-01 38" ∷
+    ascii_bytes "2027 -01 38" ∷
+    ascii_bytes "2027- 01 38" ∷
+    ascii_bytes "2027-01,38" ∷
+    ascii_bytes "2027-01 #38" ∷
+    ascii_bytes "2272060800" ∷
+    ascii_bytes "2272060801 10" ∷
+    ascii_bytes "2272147200 10" ∷
+    ascii_bytes "2272060800 10s" ∷
+    ascii_bytes "2272060800,10" ∷
+    ascii_bytes "1234567890123 10" ∷
+    ascii_bytes "255611289600 10" ∷
+    ascii_bytes "#@" ∷
+    ascii_bytes "#@ " ∷
+    ascii_bytes "#@3928521600" ∷
+    ascii_bytes "#@ x" ∷
+    ascii_bytes "#@ 3928521600 x" ∷
+    ascii_bytes "#@ 1234567890123" ∷
+    ascii_bytes "@ 3928521600" ∷
+    ascii_bytes "0 0x" ∷
     (0 ∷ []) ∷
-    (asciiBytes "2027-01 38" ++ (0 ∷ [])) ∷
-    (239 ∷ (188 ∷ (146 ∷ (239 ∷ (188 ∷ (144 ∷ (239 ∷ (188 ∷ (146 ∷ (239 ∷ (188 ∷ (151 ∷ asciiBytes "-01 38")))))))))))) ∷
+    (ascii_bytes "2027-01 38" ++ (0 ∷ [])) ∷
+    (239 ∷ (188 ∷ (146 ∷ (239 ∷ (188 ∷ (144 ∷ (239 ∷ (188 ∷ (146 ∷ (239 ∷ (188 ∷ (151 ∷ ascii_bytes "-01 38")))))))))))) ∷
     []
 
-pub outside-lines : map lineSays others ≡ replicate 44 K.Outside
-unfolding others lineSays lineFrom row_of rowBehind monthRow ntpRow rowWith expiryOf lastNumber numberThen ended firstDigits behindBlanks lineBlank
-    isDigit monthFrom monthAfter monthDays leapSize lengths
+pub outside-lines : map line_says others ≡ replicate 44 K.Outside
+unfolding others line_says line_from row_of row_behind month_row ntp_row row_with expiry_of last_number number_then ended first_digits behind_blanks line_blank
+    is_digit month_from month_after month_days leap_size lengths
 outside-lines = refl
 
 -- ---- lines of every kind
 unfoldable pub kinds : List (List ℕ)
 kinds =
     [] ∷
-    (asciiBytes " " ++ (9 ∷ (13 ∷ []))) ∷
-    asciiBytes "# a comment" ∷
-    asciiBytes "#" ∷
-    asciiBytes "  # @" ∷
-    asciiBytes "2027-01 38" ∷
-    (asciiBytes " " ++ (9 ∷ (asciiBytes "2027-01" ++ (9 ∷ (asciiBytes " 38 " ++ (13 ∷ [])))))) ∷
-    asciiBytes "2027-01 38# made up" ∷
-    asciiBytes "9999-12 999999999" ∷
-    asciiBytes "0000-01 0" ∷
-    asciiBytes "2272060800 10" ∷
-    (asciiBytes "2272060800" ++ (9 ∷ (asciiBytes "10" ++ (9 ∷ asciiBytes "# 1 Jan 1972")))) ∷
-    (13 ∷ (asciiBytes " 3644697600 36" ++ (13 ∷ []))) ∷
-    asciiBytes "0 5#-" ∷
-    asciiBytes "255608611200 1" ∷
-    asciiBytes "#@ 3928521600" ∷
-    (asciiBytes "#@" ++ (9 ∷ asciiBytes " 3928521601 # 28 June")) ∷
-    (asciiBytes "#@ 999999999999" ++ (13 ∷ [])) ∷
+    (ascii_bytes " " ++ (9 ∷ (13 ∷ []))) ∷
+    ascii_bytes "# a comment" ∷
+    ascii_bytes "#" ∷
+    ascii_bytes "  # @" ∷
+    ascii_bytes "2027-01 38" ∷
+    (ascii_bytes " " ++ (9 ∷ (ascii_bytes "2027-01" ++ (9 ∷ (ascii_bytes " 38 " ++ (13 ∷ [])))))) ∷
+    ascii_bytes "2027-01 38# made up" ∷
+    ascii_bytes "9999-12 999999999" ∷
+    ascii_bytes "0000-01 0" ∷
+    ascii_bytes "2272060800 10" ∷
+    (ascii_bytes "2272060800" ++ (9 ∷ (ascii_bytes "10" ++ (9 ∷ ascii_bytes "# 1 Jan 1972")))) ∷
+    (13 ∷ (ascii_bytes " 3644697600 36" ++ (13 ∷ []))) ∷
+    ascii_bytes "0 5#-" ∷
+    ascii_bytes "255608611200 1" ∷
+    ascii_bytes "#@ 3928521600" ∷
+    (ascii_bytes "#@" ++ (9 ∷ ascii_bytes " 3928521601 # 28 June")) ∷
+    (ascii_bytes "#@ 999999999999" ++ (13 ∷ [])) ∷
     []
 
-pub kinds-read : map lineSays kinds
+pub kinds_read : map line_says kinds
     ≡ K.Blank ∷
     K.Blank ∷
     K.Blank ∷
@@ -127,73 +127,73 @@ pub kinds-read : map lineSays kinds
     K.Expiry 60489 ∷
     K.Expiry 11589094 ∷
     []
-unfolding kinds lineSays lineFrom row_of rowBehind monthRow ntpRow rowWith expiryOf lastNumber numberThen ended firstDigits behindBlanks lineBlank
-    isDigit monthFrom monthAfter monthDays leapSize lengths
-kinds-read = refl
+unfolding kinds line_says line_from row_of row_behind month_row ntp_row row_with expiry_of last_number number_then ended first_digits behind_blanks line_blank
+    is_digit month_from month_after month_days leap_size lengths
+kinds_read = refl
 
 -- ---- the library's own rows, in both forms
-unfoldable pub monthLines : List (List ℕ)
-monthLines =
-    asciiBytes "1972-01 10" ∷
-    asciiBytes "1972-07 11" ∷
-    asciiBytes "1973-01 12" ∷
-    asciiBytes "1974-01 13" ∷
-    asciiBytes "1975-01 14" ∷
-    asciiBytes "1976-01 15" ∷
-    asciiBytes "1977-01 16" ∷
-    asciiBytes "1978-01 17" ∷
-    asciiBytes "1979-01 18" ∷
-    asciiBytes "1980-01 19" ∷
-    asciiBytes "1981-07 20" ∷
-    asciiBytes "1982-07 21" ∷
-    asciiBytes "1983-07 22" ∷
-    asciiBytes "1985-07 23" ∷
-    asciiBytes "1988-01 24" ∷
-    asciiBytes "1990-01 25" ∷
-    asciiBytes "1991-01 26" ∷
-    asciiBytes "1992-07 27" ∷
-    asciiBytes "1993-07 28" ∷
-    asciiBytes "1994-07 29" ∷
-    asciiBytes "1996-01 30" ∷
-    asciiBytes "1997-07 31" ∷
-    asciiBytes "1999-01 32" ∷
-    asciiBytes "2006-01 33" ∷
-    asciiBytes "2009-01 34" ∷
-    asciiBytes "2012-07 35" ∷
-    asciiBytes "2015-07 36" ∷
-    asciiBytes "2017-01 37" ∷
+unfoldable pub month_lines : List (List ℕ)
+month_lines =
+    ascii_bytes "1972-01 10" ∷
+    ascii_bytes "1972-07 11" ∷
+    ascii_bytes "1973-01 12" ∷
+    ascii_bytes "1974-01 13" ∷
+    ascii_bytes "1975-01 14" ∷
+    ascii_bytes "1976-01 15" ∷
+    ascii_bytes "1977-01 16" ∷
+    ascii_bytes "1978-01 17" ∷
+    ascii_bytes "1979-01 18" ∷
+    ascii_bytes "1980-01 19" ∷
+    ascii_bytes "1981-07 20" ∷
+    ascii_bytes "1982-07 21" ∷
+    ascii_bytes "1983-07 22" ∷
+    ascii_bytes "1985-07 23" ∷
+    ascii_bytes "1988-01 24" ∷
+    ascii_bytes "1990-01 25" ∷
+    ascii_bytes "1991-01 26" ∷
+    ascii_bytes "1992-07 27" ∷
+    ascii_bytes "1993-07 28" ∷
+    ascii_bytes "1994-07 29" ∷
+    ascii_bytes "1996-01 30" ∷
+    ascii_bytes "1997-07 31" ∷
+    ascii_bytes "1999-01 32" ∷
+    ascii_bytes "2006-01 33" ∷
+    ascii_bytes "2009-01 34" ∷
+    ascii_bytes "2012-07 35" ∷
+    ascii_bytes "2015-07 36" ∷
+    ascii_bytes "2017-01 37" ∷
     []
 
-unfoldable pub ntpLines : List (List ℕ)
-ntpLines =
-    (asciiBytes "2272060800" ++ (9 ∷ (asciiBytes "10" ++ (9 ∷ asciiBytes "# 1 Jan 1972")))) ∷
-    (asciiBytes "2287785600" ++ (9 ∷ (asciiBytes "11" ++ (9 ∷ asciiBytes "# 1 Jul 1972")))) ∷
-    (asciiBytes "2303683200" ++ (9 ∷ (asciiBytes "12" ++ (9 ∷ asciiBytes "# 1 Jan 1973")))) ∷
-    (asciiBytes "2335219200" ++ (9 ∷ (asciiBytes "13" ++ (9 ∷ asciiBytes "# 1 Jan 1974")))) ∷
-    (asciiBytes "2366755200" ++ (9 ∷ (asciiBytes "14" ++ (9 ∷ asciiBytes "# 1 Jan 1975")))) ∷
-    (asciiBytes "2398291200" ++ (9 ∷ (asciiBytes "15" ++ (9 ∷ asciiBytes "# 1 Jan 1976")))) ∷
-    (asciiBytes "2429913600" ++ (9 ∷ (asciiBytes "16" ++ (9 ∷ asciiBytes "# 1 Jan 1977")))) ∷
-    (asciiBytes "2461449600" ++ (9 ∷ (asciiBytes "17" ++ (9 ∷ asciiBytes "# 1 Jan 1978")))) ∷
-    (asciiBytes "2492985600" ++ (9 ∷ (asciiBytes "18" ++ (9 ∷ asciiBytes "# 1 Jan 1979")))) ∷
-    (asciiBytes "2524521600" ++ (9 ∷ (asciiBytes "19" ++ (9 ∷ asciiBytes "# 1 Jan 1980")))) ∷
-    (asciiBytes "2571782400" ++ (9 ∷ (asciiBytes "20" ++ (9 ∷ asciiBytes "# 1 Jul 1981")))) ∷
-    (asciiBytes "2603318400" ++ (9 ∷ (asciiBytes "21" ++ (9 ∷ asciiBytes "# 1 Jul 1982")))) ∷
-    (asciiBytes "2634854400" ++ (9 ∷ (asciiBytes "22" ++ (9 ∷ asciiBytes "# 1 Jul 1983")))) ∷
-    (asciiBytes "2698012800" ++ (9 ∷ (asciiBytes "23" ++ (9 ∷ asciiBytes "# 1 Jul 1985")))) ∷
-    (asciiBytes "2776982400" ++ (9 ∷ (asciiBytes "24" ++ (9 ∷ asciiBytes "# 1 Jan 1988")))) ∷
-    (asciiBytes "2840140800" ++ (9 ∷ (asciiBytes "25" ++ (9 ∷ asciiBytes "# 1 Jan 1990")))) ∷
-    (asciiBytes "2871676800" ++ (9 ∷ (asciiBytes "26" ++ (9 ∷ asciiBytes "# 1 Jan 1991")))) ∷
-    (asciiBytes "2918937600" ++ (9 ∷ (asciiBytes "27" ++ (9 ∷ asciiBytes "# 1 Jul 1992")))) ∷
-    (asciiBytes "2950473600" ++ (9 ∷ (asciiBytes "28" ++ (9 ∷ asciiBytes "# 1 Jul 1993")))) ∷
-    (asciiBytes "2982009600" ++ (9 ∷ (asciiBytes "29" ++ (9 ∷ asciiBytes "# 1 Jul 1994")))) ∷
-    (asciiBytes "3029443200" ++ (9 ∷ (asciiBytes "30" ++ (9 ∷ asciiBytes "# 1 Jan 1996")))) ∷
-    (asciiBytes "3076704000" ++ (9 ∷ (asciiBytes "31" ++ (9 ∷ asciiBytes "# 1 Jul 1997")))) ∷
-    (asciiBytes "3124137600" ++ (9 ∷ (asciiBytes "32" ++ (9 ∷ asciiBytes "# 1 Jan 1999")))) ∷
-    (asciiBytes "3345062400" ++ (9 ∷ (asciiBytes "33" ++ (9 ∷ asciiBytes "# 1 Jan 2006")))) ∷
-    (asciiBytes "3439756800" ++ (9 ∷ (asciiBytes "34" ++ (9 ∷ asciiBytes "# 1 Jan 2009")))) ∷
-    (asciiBytes "3550089600" ++ (9 ∷ (asciiBytes "35" ++ (9 ∷ asciiBytes "# 1 Jul 2012")))) ∷
-    (asciiBytes "3644697600" ++ (9 ∷ (asciiBytes "36" ++ (9 ∷ asciiBytes "# 1 Jul 2015")))) ∷
-    (asciiBytes "3692217600" ++ (9 ∷ (asciiBytes "37" ++ (9 ∷ asciiBytes "# 1 Jan 2017")))) ∷
+unfoldable pub ntp_lines : List (List ℕ)
+ntp_lines =
+    (ascii_bytes "2272060800" ++ (9 ∷ (ascii_bytes "10" ++ (9 ∷ ascii_bytes "# 1 Jan 1972")))) ∷
+    (ascii_bytes "2287785600" ++ (9 ∷ (ascii_bytes "11" ++ (9 ∷ ascii_bytes "# 1 Jul 1972")))) ∷
+    (ascii_bytes "2303683200" ++ (9 ∷ (ascii_bytes "12" ++ (9 ∷ ascii_bytes "# 1 Jan 1973")))) ∷
+    (ascii_bytes "2335219200" ++ (9 ∷ (ascii_bytes "13" ++ (9 ∷ ascii_bytes "# 1 Jan 1974")))) ∷
+    (ascii_bytes "2366755200" ++ (9 ∷ (ascii_bytes "14" ++ (9 ∷ ascii_bytes "# 1 Jan 1975")))) ∷
+    (ascii_bytes "2398291200" ++ (9 ∷ (ascii_bytes "15" ++ (9 ∷ ascii_bytes "# 1 Jan 1976")))) ∷
+    (ascii_bytes "2429913600" ++ (9 ∷ (ascii_bytes "16" ++ (9 ∷ ascii_bytes "# 1 Jan 1977")))) ∷
+    (ascii_bytes "2461449600" ++ (9 ∷ (ascii_bytes "17" ++ (9 ∷ ascii_bytes "# 1 Jan 1978")))) ∷
+    (ascii_bytes "2492985600" ++ (9 ∷ (ascii_bytes "18" ++ (9 ∷ ascii_bytes "# 1 Jan 1979")))) ∷
+    (ascii_bytes "2524521600" ++ (9 ∷ (ascii_bytes "19" ++ (9 ∷ ascii_bytes "# 1 Jan 1980")))) ∷
+    (ascii_bytes "2571782400" ++ (9 ∷ (ascii_bytes "20" ++ (9 ∷ ascii_bytes "# 1 Jul 1981")))) ∷
+    (ascii_bytes "2603318400" ++ (9 ∷ (ascii_bytes "21" ++ (9 ∷ ascii_bytes "# 1 Jul 1982")))) ∷
+    (ascii_bytes "2634854400" ++ (9 ∷ (ascii_bytes "22" ++ (9 ∷ ascii_bytes "# 1 Jul 1983")))) ∷
+    (ascii_bytes "2698012800" ++ (9 ∷ (ascii_bytes "23" ++ (9 ∷ ascii_bytes "# 1 Jul 1985")))) ∷
+    (ascii_bytes "2776982400" ++ (9 ∷ (ascii_bytes "24" ++ (9 ∷ ascii_bytes "# 1 Jan 1988")))) ∷
+    (ascii_bytes "2840140800" ++ (9 ∷ (ascii_bytes "25" ++ (9 ∷ ascii_bytes "# 1 Jan 1990")))) ∷
+    (ascii_bytes "2871676800" ++ (9 ∷ (ascii_bytes "26" ++ (9 ∷ ascii_bytes "# 1 Jan 1991")))) ∷
+    (ascii_bytes "2918937600" ++ (9 ∷ (ascii_bytes "27" ++ (9 ∷ ascii_bytes "# 1 Jul 1992")))) ∷
+    (ascii_bytes "2950473600" ++ (9 ∷ (ascii_bytes "28" ++ (9 ∷ ascii_bytes "# 1 Jul 1993")))) ∷
+    (ascii_bytes "2982009600" ++ (9 ∷ (ascii_bytes "29" ++ (9 ∷ ascii_bytes "# 1 Jul 1994")))) ∷
+    (ascii_bytes "3029443200" ++ (9 ∷ (ascii_bytes "30" ++ (9 ∷ ascii_bytes "# 1 Jan 1996")))) ∷
+    (ascii_bytes "3076704000" ++ (9 ∷ (ascii_bytes "31" ++ (9 ∷ ascii_bytes "# 1 Jul 1997")))) ∷
+    (ascii_bytes "3124137600" ++ (9 ∷ (ascii_bytes "32" ++ (9 ∷ ascii_bytes "# 1 Jan 1999")))) ∷
+    (ascii_bytes "3345062400" ++ (9 ∷ (ascii_bytes "33" ++ (9 ∷ ascii_bytes "# 1 Jan 2006")))) ∷
+    (ascii_bytes "3439756800" ++ (9 ∷ (ascii_bytes "34" ++ (9 ∷ ascii_bytes "# 1 Jan 2009")))) ∷
+    (ascii_bytes "3550089600" ++ (9 ∷ (ascii_bytes "35" ++ (9 ∷ ascii_bytes "# 1 Jul 2012")))) ∷
+    (ascii_bytes "3644697600" ++ (9 ∷ (ascii_bytes "36" ++ (9 ∷ ascii_bytes "# 1 Jul 2015")))) ∷
+    (ascii_bytes "3692217600" ++ (9 ∷ (ascii_bytes "37" ++ (9 ∷ ascii_bytes "# 1 Jan 2017")))) ∷
     []
 
 -- the number of a text's refusal, its line, its rows and its expiry
@@ -201,142 +201,142 @@ abbrev pub told : ListAnswer → List ℕ
 told r = r.number ∷ r.line ∷ r.table.months_size ∷ r.known_until ∷ []
 
 -- 28 rows that the library has: no row is lent
-pub own-months : told (read_of (linesText monthLines)) ≡ 0 ∷ 0 ∷ 0 ∷ 0 ∷ []
-unfolding monthLines read_of readFrom lines_of onFirst linesText noneHeld lineFault withLine laterFault libraryRow secondsFrom wholeSeconds fixed
-    reached monthNumber answered refusedAt lineSays lineFrom row_of rowBehind monthRow ntpRow rowWith expiryOf lastNumber numberThen ended
-    firstDigits behindBlanks lineBlank isDigit monthFrom monthAfter monthDays leapSize lengths
+pub own-months : told (read_of (lines_text month_lines)) ≡ 0 ∷ 0 ∷ 0 ∷ 0 ∷ []
+unfolding month_lines read_of read_from lines_of on_first lines_text none_held line_fault with_line later_fault library_row seconds_from whole_seconds fixed
+    reached month_number answered refused_at line_says line_from row_of row_behind month_row ntp_row row_with expiry_of last_number number_then ended
+    first_digits behind_blanks line_blank is_digit month_from month_after month_days leap_size lengths
 own-months = refl
 
 -- the IERS's form says the same, line by line
-pub own-ntp : map lineSays (lines_of (linesText ntpLines)) ≡ map lineSays monthLines
-unfolding monthLines ntpLines read_of readFrom lines_of onFirst linesText noneHeld lineFault withLine laterFault libraryRow secondsFrom wholeSeconds fixed
-    reached monthNumber answered refusedAt lineSays lineFrom row_of rowBehind monthRow ntpRow rowWith expiryOf lastNumber numberThen ended
-    firstDigits behindBlanks lineBlank isDigit monthFrom monthAfter monthDays leapSize lengths
+pub own-ntp : map line_says (lines_of (lines_text ntp_lines)) ≡ map line_says month_lines
+unfolding month_lines ntp_lines read_of read_from lines_of on_first lines_text none_held line_fault with_line later_fault library_row seconds_from whole_seconds fixed
+    reached month_number answered refused_at line_says line_from row_of row_behind month_row ntp_row row_with expiry_of last_number number_then ended
+    first_digits behind_blanks line_blank is_digit month_from month_after month_days leap_size lengths
 own-ntp = refl
 
 -- and one behind them
-pub one_more : told (read_of (linesText (monthLines ++ (asciiBytes "2027-01 38" ∷ [])))) ≡ 0 ∷ 0 ∷ 1 ∷ 0 ∷ []
-unfolding monthLines read_of readFrom lines_of onFirst linesText noneHeld lineFault withLine laterFault libraryRow secondsFrom wholeSeconds fixed
-    reached monthNumber answered refusedAt lineSays lineFrom row_of rowBehind monthRow ntpRow rowWith expiryOf lastNumber numberThen ended
-    firstDigits behindBlanks lineBlank isDigit monthFrom monthAfter monthDays leapSize lengths
+pub one_more : told (read_of (lines_text (month_lines ++ (ascii_bytes "2027-01 38" ∷ [])))) ≡ 0 ∷ 0 ∷ 1 ∷ 0 ∷ []
+unfolding month_lines read_of read_from lines_of on_first lines_text none_held line_fault with_line later_fault library_row seconds_from whole_seconds fixed
+    reached month_number answered refused_at line_says line_from row_of row_behind month_row ntp_row row_with expiry_of last_number number_then ended
+    first_digits behind_blanks line_blank is_digit month_from month_after month_days leap_size lengths
 one_more = refl
 
 pub no_text : told (read_of ([])) ≡ 0 ∷ 0 ∷ 0 ∷ 0 ∷ []
-unfolding read_of readFrom lines_of onFirst linesText noneHeld lineFault withLine laterFault libraryRow secondsFrom wholeSeconds fixed reached
-    monthNumber answered refusedAt lineSays lineFrom row_of rowBehind monthRow ntpRow rowWith expiryOf lastNumber numberThen ended firstDigits
-    behindBlanks lineBlank isDigit monthFrom monthAfter monthDays leapSize lengths
+unfolding read_of read_from lines_of on_first lines_text none_held line_fault with_line later_fault library_row seconds_from whole_seconds fixed reached
+    month_number answered refused_at line_says line_from row_of row_behind month_row ntp_row row_with expiry_of last_number number_then ended first_digits
+    behind_blanks line_blank is_digit month_from month_after month_days leap_size lengths
 no_text = refl
 
 -- the expiry of the list that ends on 2026-12-28
-pub with-expiry : told (read_of (linesText ((asciiBytes "#$" ++ (9 ∷ asciiBytes "3676924800")) ∷ (asciiBytes "#@" ++ (9 ∷ asciiBytes "3991420800")) ∷ (asciiBytes "3692217600" ++ (9 ∷ asciiBytes "37")) ∷ []))) ≡ 0 ∷ 0 ∷ 0 ∷ 61217 ∷ []
-unfolding read_of readFrom lines_of onFirst linesText noneHeld lineFault withLine laterFault libraryRow secondsFrom wholeSeconds fixed reached
-    monthNumber answered refusedAt lineSays lineFrom row_of rowBehind monthRow ntpRow rowWith expiryOf lastNumber numberThen ended firstDigits
-    behindBlanks lineBlank isDigit monthFrom monthAfter monthDays leapSize lengths
+pub with-expiry : told (read_of (lines_text ((ascii_bytes "#$" ++ (9 ∷ ascii_bytes "3676924800")) ∷ (ascii_bytes "#@" ++ (9 ∷ ascii_bytes "3991420800")) ∷ (ascii_bytes "3692217600" ++ (9 ∷ ascii_bytes "37")) ∷ []))) ≡ 0 ∷ 0 ∷ 0 ∷ 61217 ∷ []
+unfolding read_of read_from lines_of on_first lines_text none_held line_fault with_line later_fault library_row seconds_from whole_seconds fixed reached
+    month_number answered refused_at line_says line_from row_of row_behind month_row ntp_row row_with expiry_of last_number number_then ended first_digits
+    behind_blanks line_blank is_digit month_from month_after month_days leap_size lengths
 with-expiry = refl
 
 -- of two expiries the last
-pub last-expiry : told (read_of (linesText (asciiBytes "#@ 3991420800" ∷ asciiBytes "#@ 3991507200" ∷ []))) ≡ 0 ∷ 0 ∷ 0 ∷ 61218 ∷ []
-unfolding read_of readFrom lines_of onFirst linesText noneHeld lineFault withLine laterFault libraryRow secondsFrom wholeSeconds fixed reached
-    monthNumber answered refusedAt lineSays lineFrom row_of rowBehind monthRow ntpRow rowWith expiryOf lastNumber numberThen ended firstDigits
-    behindBlanks lineBlank isDigit monthFrom monthAfter monthDays leapSize lengths
+pub last-expiry : told (read_of (lines_text (ascii_bytes "#@ 3991420800" ∷ ascii_bytes "#@ 3991507200" ∷ []))) ≡ 0 ∷ 0 ∷ 0 ∷ 61218 ∷ []
+unfolding read_of read_from lines_of on_first lines_text none_held line_fault with_line later_fault library_row seconds_from whole_seconds fixed reached
+    month_number answered refused_at line_says line_from row_of row_behind month_row ntp_row row_with expiry_of last_number number_then ended first_digits
+    behind_blanks line_blank is_digit month_from month_after month_days leap_size lengths
 last-expiry = refl
 
 -- the first fault in the text's order: line 2 is outside the grammar, line 3 goes by two seconds
-pub not-a-line : told (read_of (linesText (asciiBytes "2027-01 38" ∷ asciiBytes "2028-01" ∷ asciiBytes "2029-01 40" ∷ []))) ≡ 15 ∷ 2 ∷ 0 ∷ 0 ∷ []
-unfolding read_of readFrom lines_of onFirst linesText noneHeld lineFault withLine laterFault libraryRow secondsFrom wholeSeconds fixed reached
-    monthNumber answered refusedAt lineSays lineFrom row_of rowBehind monthRow ntpRow rowWith expiryOf lastNumber numberThen ended firstDigits
-    behindBlanks lineBlank isDigit monthFrom monthAfter monthDays leapSize lengths
-not-a-line = refl
+pub not_a_line : told (read_of (lines_text (ascii_bytes "2027-01 38" ∷ ascii_bytes "2028-01" ∷ ascii_bytes "2029-01 40" ∷ []))) ≡ 15 ∷ 2 ∷ 0 ∷ 0 ∷ []
+unfolding read_of read_from lines_of on_first lines_text none_held line_fault with_line later_fault library_row seconds_from whole_seconds fixed reached
+    month_number answered refused_at line_says line_from row_of row_behind month_row ntp_row row_with expiry_of last_number number_then ended first_digits
+    behind_blanks line_blank is_digit month_from month_after month_days leap_size lengths
+not_a_line = refl
 
 -- a row of the library's with other seconds
-pub other-own-seconds : told (read_of (linesText (asciiBytes "1972-01 10" ∷ asciiBytes "1972-07 12" ∷ []))) ≡ 22 ∷ 2 ∷ 0 ∷ 0 ∷ []
-unfolding read_of readFrom lines_of onFirst linesText noneHeld lineFault withLine laterFault libraryRow secondsFrom wholeSeconds fixed reached
-    monthNumber answered refusedAt lineSays lineFrom row_of rowBehind monthRow ntpRow rowWith expiryOf lastNumber numberThen ended firstDigits
-    behindBlanks lineBlank isDigit monthFrom monthAfter monthDays leapSize lengths
-other-own-seconds = refl
+pub other_own_seconds : told (read_of (lines_text (ascii_bytes "1972-01 10" ∷ ascii_bytes "1972-07 12" ∷ []))) ≡ 22 ∷ 2 ∷ 0 ∷ 0 ∷ []
+unfolding read_of read_from lines_of on_first lines_text none_held line_fault with_line later_fault library_row seconds_from whole_seconds fixed reached
+    month_number answered refused_at line_says line_from row_of row_behind month_row ntp_row row_with expiry_of last_number number_then ended first_digits
+    behind_blanks line_blank is_digit month_from month_after month_days leap_size lengths
+other_own_seconds = refl
 
 -- a month in which the library has no row
-pub other-own-month : told (read_of (linesText ([] ∷ asciiBytes "2016-07 36" ∷ []))) ≡ 22 ∷ 2 ∷ 0 ∷ 0 ∷ []
-unfolding read_of readFrom lines_of onFirst linesText noneHeld lineFault withLine laterFault libraryRow secondsFrom wholeSeconds fixed reached
-    monthNumber answered refusedAt lineSays lineFrom row_of rowBehind monthRow ntpRow rowWith expiryOf lastNumber numberThen ended firstDigits
-    behindBlanks lineBlank isDigit monthFrom monthAfter monthDays leapSize lengths
-other-own-month = refl
+pub other_own_month : told (read_of (lines_text ([] ∷ ascii_bytes "2016-07 36" ∷ []))) ≡ 22 ∷ 2 ∷ 0 ∷ 0 ∷ []
+unfolding read_of read_from lines_of on_first lines_text none_held line_fault with_line later_fault library_row seconds_from whole_seconds fixed reached
+    month_number answered refused_at line_says line_from row_of row_behind month_row ntp_row row_with expiry_of last_number number_then ended first_digits
+    behind_blanks line_blank is_digit month_from month_after month_days leap_size lengths
+other_own_month = refl
 
-pub before-1972 : told (read_of (linesText (asciiBytes "1971-12 10" ∷ []))) ≡ 22 ∷ 1 ∷ 0 ∷ 0 ∷ []
-unfolding read_of readFrom lines_of onFirst linesText noneHeld lineFault withLine laterFault libraryRow secondsFrom wholeSeconds fixed reached
-    monthNumber answered refusedAt lineSays lineFrom row_of rowBehind monthRow ntpRow rowWith expiryOf lastNumber numberThen ended firstDigits
-    behindBlanks lineBlank isDigit monthFrom monthAfter monthDays leapSize lengths
+pub before-1972 : told (read_of (lines_text (ascii_bytes "1971-12 10" ∷ []))) ≡ 22 ∷ 1 ∷ 0 ∷ 0 ∷ []
+unfolding read_of read_from lines_of on_first lines_text none_held line_fault with_line later_fault library_row seconds_from whole_seconds fixed reached
+    month_number answered refused_at line_says line_from row_of row_behind month_row ntp_row row_with expiry_of last_number number_then ended first_digits
+    behind_blanks line_blank is_digit month_from month_after month_days leap_size lengths
 before-1972 = refl
 
-pub not-rising : told (read_of (linesText (asciiBytes "2027-01 38" ∷ asciiBytes "2027-01 39" ∷ []))) ≡ 21 ∷ 2 ∷ 0 ∷ 0 ∷ []
-unfolding read_of readFrom lines_of onFirst linesText noneHeld lineFault withLine laterFault libraryRow secondsFrom wholeSeconds fixed reached
-    monthNumber answered refusedAt lineSays lineFrom row_of rowBehind monthRow ntpRow rowWith expiryOf lastNumber numberThen ended firstDigits
-    behindBlanks lineBlank isDigit monthFrom monthAfter monthDays leapSize lengths
-not-rising = refl
+pub not_rising : told (read_of (lines_text (ascii_bytes "2027-01 38" ∷ ascii_bytes "2027-01 39" ∷ []))) ≡ 21 ∷ 2 ∷ 0 ∷ 0 ∷ []
+unfolding read_of read_from lines_of on_first lines_text none_held line_fault with_line later_fault library_row seconds_from whole_seconds fixed reached
+    month_number answered refused_at line_says line_from row_of row_behind month_row ntp_row row_with expiry_of last_number number_then ended first_digits
+    behind_blanks line_blank is_digit month_from month_after month_days leap_size lengths
+not_rising = refl
 
-pub two-seconds : told (read_of (linesText (asciiBytes "2027-01 38" ∷ asciiBytes "2027-07 40" ∷ []))) ≡ 22 ∷ 2 ∷ 0 ∷ 0 ∷ []
-unfolding read_of readFrom lines_of onFirst linesText noneHeld lineFault withLine laterFault libraryRow secondsFrom wholeSeconds fixed reached
-    monthNumber answered refusedAt lineSays lineFrom row_of rowBehind monthRow ntpRow rowWith expiryOf lastNumber numberThen ended firstDigits
-    behindBlanks lineBlank isDigit monthFrom monthAfter monthDays leapSize lengths
+pub two-seconds : told (read_of (lines_text (ascii_bytes "2027-01 38" ∷ ascii_bytes "2027-07 40" ∷ []))) ≡ 22 ∷ 2 ∷ 0 ∷ 0 ∷ []
+unfolding read_of read_from lines_of on_first lines_text none_held line_fault with_line later_fault library_row seconds_from whole_seconds fixed reached
+    month_number answered refused_at line_says line_from row_of row_behind month_row ntp_row row_with expiry_of last_number number_then ended first_digits
+    behind_blanks line_blank is_digit month_from month_after month_days leap_size lengths
 two-seconds = refl
 
-pub one_less : told (read_of (linesText (asciiBytes "2027-01 36" ∷ asciiBytes "2027-07 35" ∷ []))) ≡ 0 ∷ 0 ∷ 2 ∷ 0 ∷ []
-unfolding read_of readFrom lines_of onFirst linesText noneHeld lineFault withLine laterFault libraryRow secondsFrom wholeSeconds fixed reached
-    monthNumber answered refusedAt lineSays lineFrom row_of rowBehind monthRow ntpRow rowWith expiryOf lastNumber numberThen ended firstDigits
-    behindBlanks lineBlank isDigit monthFrom monthAfter monthDays leapSize lengths
+pub one_less : told (read_of (lines_text (ascii_bytes "2027-01 36" ∷ ascii_bytes "2027-07 35" ∷ []))) ≡ 0 ∷ 0 ∷ 2 ∷ 0 ∷ []
+unfolding read_of read_from lines_of on_first lines_text none_held line_fault with_line later_fault library_row seconds_from whole_seconds fixed reached
+    month_number answered refused_at line_says line_from row_of row_behind month_row ntp_row row_with expiry_of last_number number_then ended first_digits
+    behind_blanks line_blank is_digit month_from month_after month_days leap_size lengths
 one_less = refl
 
-pub sixteen : told (read_of (linesText (asciiBytes "2020-01 38" ∷ asciiBytes "2021-01 39" ∷ asciiBytes "2022-01 40" ∷ asciiBytes "2023-01 41" ∷ asciiBytes "2024-01 42" ∷ asciiBytes "2025-01 43" ∷ asciiBytes "2026-01 44" ∷ asciiBytes "2027-01 45" ∷ asciiBytes "2028-01 46" ∷ asciiBytes "2029-01 47" ∷ asciiBytes "2030-01 48" ∷ asciiBytes "2031-01 49" ∷ asciiBytes "2032-01 50" ∷ asciiBytes "2033-01 51" ∷ asciiBytes "2034-01 52" ∷ asciiBytes "2035-01 53" ∷ []))) ≡ 0 ∷ 0 ∷ 16 ∷ 0 ∷ []
-unfolding read_of readFrom lines_of onFirst linesText noneHeld lineFault withLine laterFault libraryRow secondsFrom wholeSeconds fixed reached
-    monthNumber answered refusedAt lineSays lineFrom row_of rowBehind monthRow ntpRow rowWith expiryOf lastNumber numberThen ended firstDigits
-    behindBlanks lineBlank isDigit monthFrom monthAfter monthDays leapSize lengths
+pub sixteen : told (read_of (lines_text (ascii_bytes "2020-01 38" ∷ ascii_bytes "2021-01 39" ∷ ascii_bytes "2022-01 40" ∷ ascii_bytes "2023-01 41" ∷ ascii_bytes "2024-01 42" ∷ ascii_bytes "2025-01 43" ∷ ascii_bytes "2026-01 44" ∷ ascii_bytes "2027-01 45" ∷ ascii_bytes "2028-01 46" ∷ ascii_bytes "2029-01 47" ∷ ascii_bytes "2030-01 48" ∷ ascii_bytes "2031-01 49" ∷ ascii_bytes "2032-01 50" ∷ ascii_bytes "2033-01 51" ∷ ascii_bytes "2034-01 52" ∷ ascii_bytes "2035-01 53" ∷ []))) ≡ 0 ∷ 0 ∷ 16 ∷ 0 ∷ []
+unfolding read_of read_from lines_of on_first lines_text none_held line_fault with_line later_fault library_row seconds_from whole_seconds fixed reached
+    month_number answered refused_at line_says line_from row_of row_behind month_row ntp_row row_with expiry_of last_number number_then ended first_digits
+    behind_blanks line_blank is_digit month_from month_after month_days leap_size lengths
 sixteen = refl
 
 -- 20 comes before 21 and 22
-pub seventeen : told (read_of (linesText (asciiBytes "2020-01 38" ∷ asciiBytes "2021-01 39" ∷ asciiBytes "2022-01 40" ∷ asciiBytes "2023-01 41" ∷ asciiBytes "2024-01 42" ∷ asciiBytes "2025-01 43" ∷ asciiBytes "2026-01 44" ∷ asciiBytes "2027-01 45" ∷ asciiBytes "2028-01 46" ∷ asciiBytes "2029-01 47" ∷ asciiBytes "2030-01 48" ∷ asciiBytes "2031-01 49" ∷ asciiBytes "2032-01 50" ∷ asciiBytes "2033-01 51" ∷ asciiBytes "2034-01 52" ∷ asciiBytes "2035-01 53" ∷ asciiBytes "2020-01 99" ∷ []))) ≡ 20 ∷ 17 ∷ 0 ∷ 0 ∷ []
-unfolding read_of readFrom lines_of onFirst linesText noneHeld lineFault withLine laterFault libraryRow secondsFrom wholeSeconds fixed reached
-    monthNumber answered refusedAt lineSays lineFrom row_of rowBehind monthRow ntpRow rowWith expiryOf lastNumber numberThen ended firstDigits
-    behindBlanks lineBlank isDigit monthFrom monthAfter monthDays leapSize lengths
+pub seventeen : told (read_of (lines_text (ascii_bytes "2020-01 38" ∷ ascii_bytes "2021-01 39" ∷ ascii_bytes "2022-01 40" ∷ ascii_bytes "2023-01 41" ∷ ascii_bytes "2024-01 42" ∷ ascii_bytes "2025-01 43" ∷ ascii_bytes "2026-01 44" ∷ ascii_bytes "2027-01 45" ∷ ascii_bytes "2028-01 46" ∷ ascii_bytes "2029-01 47" ∷ ascii_bytes "2030-01 48" ∷ ascii_bytes "2031-01 49" ∷ ascii_bytes "2032-01 50" ∷ ascii_bytes "2033-01 51" ∷ ascii_bytes "2034-01 52" ∷ ascii_bytes "2035-01 53" ∷ ascii_bytes "2020-01 99" ∷ []))) ≡ 20 ∷ 17 ∷ 0 ∷ 0 ∷ []
+unfolding read_of read_from lines_of on_first lines_text none_held line_fault with_line later_fault library_row seconds_from whole_seconds fixed reached
+    month_number answered refused_at line_says line_from row_of row_behind month_row ntp_row row_with expiry_of last_number number_then ended first_digits
+    behind_blanks line_blank is_digit month_from month_after month_days leap_size lengths
 seventeen = refl
 
 -- 21 comes before 22
-pub rising-first : told (read_of (linesText (asciiBytes "2027-01 38" ∷ asciiBytes "2026-01 99" ∷ []))) ≡ 21 ∷ 2 ∷ 0 ∷ 0 ∷ []
-unfolding read_of readFrom lines_of onFirst linesText noneHeld lineFault withLine laterFault libraryRow secondsFrom wholeSeconds fixed reached
-    monthNumber answered refusedAt lineSays lineFrom row_of rowBehind monthRow ntpRow rowWith expiryOf lastNumber numberThen ended firstDigits
-    behindBlanks lineBlank isDigit monthFrom monthAfter monthDays leapSize lengths
+pub rising-first : told (read_of (lines_text (ascii_bytes "2027-01 38" ∷ ascii_bytes "2026-01 99" ∷ []))) ≡ 21 ∷ 2 ∷ 0 ∷ 0 ∷ []
+unfolding read_of read_from lines_of on_first lines_text none_held line_fault with_line later_fault library_row seconds_from whole_seconds fixed reached
+    month_number answered refused_at line_says line_from row_of row_behind month_row ntp_row row_with expiry_of last_number number_then ended first_digits
+    behind_blanks line_blank is_digit month_from month_after month_days leap_size lengths
 rising-first = refl
 
 -- a row of the library's may stand behind a later one
-pub own-behind-later : told (read_of (linesText (asciiBytes "2027-01 38" ∷ asciiBytes "2017-01 37" ∷ []))) ≡ 0 ∷ 0 ∷ 1 ∷ 0 ∷ []
-unfolding read_of readFrom lines_of onFirst linesText noneHeld lineFault withLine laterFault libraryRow secondsFrom wholeSeconds fixed reached
-    monthNumber answered refusedAt lineSays lineFrom row_of rowBehind monthRow ntpRow rowWith expiryOf lastNumber numberThen ended firstDigits
-    behindBlanks lineBlank isDigit monthFrom monthAfter monthDays leapSize lengths
+pub own-behind-later : told (read_of (lines_text (ascii_bytes "2027-01 38" ∷ ascii_bytes "2017-01 37" ∷ []))) ≡ 0 ∷ 0 ∷ 1 ∷ 0 ∷ []
+unfolding read_of read_from lines_of on_first lines_text none_held line_fault with_line later_fault library_row seconds_from whole_seconds fixed reached
+    month_number answered refused_at line_says line_from row_of row_behind month_row ntp_row row_with expiry_of last_number number_then ended first_digits
+    behind_blanks line_blank is_digit month_from month_after month_days leap_size lengths
 own-behind-later = refl
 
 -- the rows that are read, place by place
-pub two-rows : ((read_of (linesText (asciiBytes "2027-01 38" ∷ asciiBytes "2030-07 37" ∷ []))).table.months ≡ pos 24324 ∷ pos 24366 ∷ replicate 14 (pos 0))
-    × ((read_of (linesText (asciiBytes "2027-01 38" ∷ asciiBytes "2030-07 37" ∷ []))).table.seconds ≡ pos 38 ∷ pos 37 ∷ replicate 14 (pos 0))
-unfolding read_of readFrom lines_of onFirst linesText noneHeld lineFault withLine laterFault libraryRow secondsFrom wholeSeconds fixed reached monthNumber
-    answered refusedAt lineSays lineFrom row_of rowBehind monthRow ntpRow rowWith expiryOf lastNumber numberThen ended firstDigits behindBlanks
-    lineBlank isDigit monthFrom monthAfter monthDays leapSize lengths
+pub two-rows : ((read_of (lines_text (ascii_bytes "2027-01 38" ∷ ascii_bytes "2030-07 37" ∷ []))).table.months ≡ pos 24324 ∷ pos 24366 ∷ replicate 14 (pos 0))
+    × ((read_of (lines_text (ascii_bytes "2027-01 38" ∷ ascii_bytes "2030-07 37" ∷ []))).table.seconds ≡ pos 38 ∷ pos 37 ∷ replicate 14 (pos 0))
+unfolding read_of read_from lines_of on_first lines_text none_held line_fault with_line later_fault library_row seconds_from whole_seconds fixed reached month_number
+    answered refused_at line_says line_from row_of row_behind month_row ntp_row row_with expiry_of last_number number_then ended first_digits behind_blanks
+    line_blank is_digit month_from month_after month_days leap_size lengths
 two-rows = (refl, refl)
 
 -- ---- what the library has: each row of the table from 1972 on, and no other month up to the last
 abbrev pub month-and-seconds : List Row → Bool
 month-and-seconds [] = true
-month-and-seconds (r ∷ rs) = libraryRow r.month (r.units / 10000000) && month-and-seconds rs
+month-and-seconds (r ∷ rs) = library_row r.month (r.units / 10000000) && month-and-seconds rs
 
 -- the months among `most` from m on in which a row begins
 abbrev pub begun : ℕ → ℕ → List ℕ
 begun zero m = []
-begun (suc most) m = cond (libraryRow m (secondsFrom m)) (m ∷ begun most (m + 1)) (begun most (m + 1))
+begun (suc most) m = cond (library_row m (seconds_from m)) (m ∷ begun most (m + 1)) (begun most (m + 1))
 
 pub own-rows : month-and-seconds (drop 14 fixed) ≡ true
-unfolding libraryRow secondsFrom wholeSeconds fixed reached monthNumber
+unfolding library_row seconds_from whole_seconds fixed reached month_number
 own-rows = refl
 
 -- from the last row but one to the last: no month between them
-pub no-other-rows : begun (suc (lastMonth - (get_or fixed (fixedRows - 2) none).month)) (get_or fixed (fixedRows - 2) none).month
-    ≡ map (λ (r : Row). r.month) (drop (fixedRows - 2) fixed)
-unfolding libraryRow secondsFrom wholeSeconds fixed reached monthNumber
-no-other-rows = refl
+pub no_other_rows : begun (suc (last_month - (get_or fixed (fixed_rows - 2) none).month)) (get_or fixed (fixed_rows - 2) none).month
+    ≡ map (λ (r : Row). r.month) (drop (fixed_rows - 2) fixed)
+unfolding library_row seconds_from whole_seconds fixed reached month_number
+no_other_rows = refl

@@ -1,8 +1,8 @@
 // The rows that are taken from a text, and the number by which the next line is refused.
 ghost use Rattle.std.specs.Prelude.{◌≡◌, ◌<◌, ◌≤◌};
-ghost use Rattle.leap_table.specs.rows.Table.{lastMonth, lastSeconds};
-ghost use Rattle.leap_table.specs.rows.Announced.{oneApart};
-ghost use Rattle.leap_lists.specs.Held.{secondsFrom, libraryRow, noneHeld, laterFault, lineFault, with_row, withLine, InRange};
+ghost use Rattle.leap_table.specs.rows.Table.{last_month, last_seconds};
+ghost use Rattle.leap_table.specs.rows.Announced.{one_apart};
+ghost use Rattle.leap_lists.specs.Held.{seconds_from, library_row, none_held, later_fault, line_fault, with_row, with_line, InRange};
 
 use crate::lines::Line;
 
@@ -20,7 +20,7 @@ pub(crate) struct Held {
 
 // TAI-UTC in whole seconds in a month by the library's own rows; 0 before 1972.
 fn seconds_from(month: u32) -> u32
-    ensures { (result ≡ secondsFrom month) × (result < 2147483648) }
+    ensures { (result ≡ seconds_from month) × (result < 2147483648) }
 {
     let year = (month / 12) as i32;
     leap_table::offsets::whole_seconds_by_rows(year, month % 12 + 1, leap_table::rows::no_rows())
@@ -28,7 +28,7 @@ fn seconds_from(month: u32) -> u32
 
 // The month of the library's last row.
 fn last_month() -> u32
-    ensures { result ≡ lastMonth }
+    ensures { result ≡ last_month }
 {
     let last = (leap_table::rows::FIXED_ROWS - 1) as usize;
     leap_table::offsets::walk_rows::row_start(leap_table::rows::no_rows(), last) as u32
@@ -36,7 +36,7 @@ fn last_month() -> u32
 
 // Whether the library has a row that begins in that month with these seconds.
 fn library_row(month: u32, seconds: u32) -> bool
-    ensures { result ≡ libraryRow month seconds }
+    ensures { result ≡ library_row month seconds }
 {
     if month == 0 {
         return false;
@@ -48,7 +48,7 @@ fn library_row(month: u32, seconds: u32) -> bool
 }
 
 pub(crate) fn none_held() -> Held
-    ensures { result ≡ noneHeld }
+    ensures { result ≡ none_held }
 {
     let month = last_month();
     Held {
@@ -63,7 +63,7 @@ pub(crate) fn none_held() -> Held
 
 fn one_apart(a: u32, b: u32) -> bool
     requires { (a < 2147483648) × (b < 2147483648) }
-    ensures { result ≡ oneApart a b }
+    ensures { result ≡ one_apart a b }
 {
     if b == a + 1 {
         return true;
@@ -74,7 +74,7 @@ fn one_apart(a: u32, b: u32) -> bool
 // The number by which a row later than the library's is refused, 0 if it is not.
 fn later_fault(held: Held, month: u32, seconds: u32) -> u32
     requires { (held.second < 2147483648) × (seconds < 2147483648) }
-    ensures { result ≡ laterFault held month seconds }
+    ensures { result ≡ later_fault held month seconds }
 {
     if 16 <= held.size {
         return refusals::TABLE_SIZES_WRONG;
@@ -90,7 +90,7 @@ fn later_fault(held: Held, month: u32, seconds: u32) -> u32
 
 fn row_fault(held: Held, month: u32, seconds: u32) -> u32
     requires { (held.second < 2147483648) × (seconds < 2147483648) }
-    ensures { result ≡ lineFault held (Line.Row month seconds) }
+    ensures { result ≡ line_fault held (Line.Row month seconds) }
 {
     if last_month() < month {
         return later_fault(held, month, seconds);
@@ -104,7 +104,7 @@ fn row_fault(held: Held, month: u32, seconds: u32) -> u32
 // The number by which a line is refused, 0 if it is not.
 pub(crate) fn fault(held: Held, line: Line) -> u32
     requires { (held.second < 2147483648) × InRange line }
-    ensures { result ≡ lineFault held line }
+    ensures { result ≡ line_fault held line }
 {
     match line {
         Line::Blank => 0,
@@ -135,7 +135,7 @@ fn with_row(held: Held, month: u32, seconds: u32) -> Held
 }
 
 fn with_expiry(held: Held, day: u32) -> Held
-    ensures { result ≡ withLine held (Line.Expiry day) }
+    ensures { result ≡ with_line held (Line.Expiry day) }
 {
     let months = held.months;
     let seconds = held.seconds;
@@ -150,8 +150,8 @@ fn with_expiry(held: Held, day: u32) -> Held
 }
 
 fn with_any_row(held: Held, month: u32, seconds: u32) -> Held
-    requires { (lineFault held (Line.Row month seconds) ≡ 0) × (month < 2147483648) × (seconds < 2147483648) }
-    ensures { result ≡ withLine held (Line.Row month seconds) }
+    requires { (line_fault held (Line.Row month seconds) ≡ 0) × (month < 2147483648) × (seconds < 2147483648) }
+    ensures { result ≡ with_line held (Line.Row month seconds) }
 {
     if last_month() < month {
         return with_row(held, month, seconds);
@@ -161,8 +161,8 @@ fn with_any_row(held: Held, month: u32, seconds: u32) -> Held
 
 // What is held with a line that is not refused.
 pub(crate) fn with_line(held: Held, line: Line) -> Held
-    requires { (lineFault held line ≡ 0) × InRange line }
-    ensures { result ≡ withLine held line }
+    requires { (line_fault held line ≡ 0) × InRange line }
+    ensures { result ≡ with_line held line }
 {
     match line {
         Line::Blank => held,

@@ -1,7 +1,7 @@
 // Announced leap rows read from a text: lines of a month and TAI-UTC, and the file that the IERS publishes.
 ghost use Rattle.std.specs.Prelude.{◌≡◌, ◌+◌, ◌≤◌, length, drop};
-ghost use Rattle.leap_lists.specs.Texts.{firstLine, Behind};
-ghost use Rattle.leap_lists.specs.Reading.{answered, refusedAt, read_of};
+ghost use Rattle.leap_lists.specs.Texts.{first_line, Behind};
+ghost use Rattle.leap_lists.specs.Reading.{answered, refused_at, read_of};
 
 // the rows that are read, and what is wrong with a line
 mod held;
@@ -24,7 +24,7 @@ pub struct ListAnswer {
 // The index of the first newline from `at` on; the length where there is none.
 fn line_end(text: &[u8], at: usize) -> usize
     requires { at ≤ length text.now }
-    ensures { (result ≡ at + length (firstLine (drop at text.now))) × (result ≤ length text.now) }
+    ensures { (result ≡ at + length (first_line (drop at text.now))) × (result ≤ length text.now) }
 {
     let mut i = at;
     while i < text.len() {
@@ -67,7 +67,7 @@ fn answered(held: Held) -> ListAnswer
 }
 
 fn refused(number: u32, line: usize) -> ListAnswer
-    ensures { result ≡ refusedAt number line }
+    ensures { result ≡ refused_at number line }
 {
     let table = AnnouncedRows {
         months_size: 0,

@@ -1,9 +1,9 @@
 // One line of a text: what it says, or that it is outside the grammar.
 ghost use Rattle.std.specs.Prelude.{◌≡◌, Bool, ◌+◌, ◌≤◌, ◌<◌, length, drop, get_or};
-ghost use Rattle.numerals.specs.digits.Decimal.{isDigit};
-ghost use Rattle.leap_lists.specs.lines.Scan.{lineBlank, behindBlanks, ended, DigitsAt, lastNumber};
-ghost use Rattle.leap_lists.specs.lines.Months.{monthFrom};
-ghost use Rattle.leap_lists.specs.lines.Lines.{rowWith, monthRow, ntpRow, row_of, expiryOf, lineSays};
+ghost use Rattle.numerals.specs.digits.Decimal.{is_digit};
+ghost use Rattle.leap_lists.specs.lines.Scan.{line_blank, behind_blanks, ended, DigitsAt, last_number};
+ghost use Rattle.leap_lists.specs.lines.Months.{month_from};
+ghost use Rattle.leap_lists.specs.lines.Lines.{row_with, month_row, ntp_row, row_of, expiry_of, line_says};
 ghost use Rattle.leap_lists.specs.Held.{InRange};
 
 // January of 1900, and the month after the last that four digits of a year can say.
@@ -41,7 +41,7 @@ pub(crate) struct Run {
 
 // A space or a tab; at the start and at the end of a line also a carriage return.
 fn blank(c: u8, returns: bool) -> bool
-    ensures { result ≡ lineBlank returns c }
+    ensures { result ≡ line_blank returns c }
 {
     if c == 32 {
         return true;
@@ -58,7 +58,7 @@ fn blank(c: u8, returns: bool) -> bool
 // The index of the first byte from `at` on that is no blank.
 fn blanks_end(line: &[u8], at: usize, returns: bool) -> usize
     requires { at ≤ length line.now }
-    ensures { (drop result line.now ≡ behindBlanks returns (drop at line.now)) × (result ≤ length line.now) }
+    ensures { (drop result line.now ≡ behind_blanks returns (drop at line.now)) × (result ≤ length line.now) }
 {
     let mut i = at;
     while i < line.len() {
@@ -81,7 +81,7 @@ fn byte_at(line: &[u8], at: usize) -> u8
 }
 
 fn digit(c: u8) -> bool
-    ensures { result ≡ isDigit c }
+    ensures { result ≡ is_digit c }
 {
     if c < 48 {
         return false;
@@ -112,7 +112,7 @@ fn digits(line: &[u8], at: usize, most: usize) -> Run
 // Nothing but blanks and a comment from `at` on.
 fn at_end(line: &[u8], at: usize) -> bool
     requires { at ≤ length line.now }
-    ensures { result ≡ ended (behindBlanks (Bool.true) (drop at line.now)) }
+    ensures { result ≡ ended (behind_blanks (Bool.true) (drop at line.now)) }
 {
     let end = blanks_end(line, at, true);
     if end == line.len() {
@@ -124,7 +124,7 @@ fn at_end(line: &[u8], at: usize) -> bool
 // Blanks, a number of at most `most` digits, and the end of the line.
 fn last_number(line: &[u8], at: usize, most: usize) -> Last
     requires { (at ≤ length line.now) × (most ≤ 12) }
-    ensures { result ≡ lastNumber most (drop at line.now) }
+    ensures { result ≡ last_number most (drop at line.now) }
 {
     if !blank(byte_at(line, at), false) {
         return Last::Nothing;
@@ -144,7 +144,7 @@ fn last_number(line: &[u8], at: usize, most: usize) -> Last
 // The row of a month, with the seconds that stand from `at` on.
 fn row_with(line: &[u8], at: usize, month: u32) -> Line
     requires { (at ≤ length line.now) × (month < 2147483648) }
-    ensures { (result ≡ rowWith month (drop at line.now)) × InRange result }
+    ensures { (result ≡ row_with month (drop at line.now)) × InRange result }
 {
     match last_number(line, at, 9) {
         Last::Number(seconds) => Line::Row(month, seconds as u32),
@@ -155,7 +155,7 @@ fn row_with(line: &[u8], at: usize, month: u32) -> Line
 // A row whose year, of as many digits as `places`, stands before a hyphen, behind which the month is from `at` on.
 fn month_row(line: &[u8], at: usize, year: u64, places: usize) -> Line
     requires { (at ≤ length line.now) × (places ≡ 4 → year < 10000) }
-    ensures { (result ≡ monthRow year places (drop at line.now)) × InRange result }
+    ensures { (result ≡ month_row year places (drop at line.now)) × InRange result }
 {
     if places != 4 {
         return Line::Outside;
@@ -176,7 +176,7 @@ fn month_row(line: &[u8], at: usize, year: u64, places: usize) -> Line
 
 // The number of the month whose first day is so many days after 1900-01-01; 0 where there is none.
 fn month_from(day: u64) -> u32
-    ensures { (result ≡ monthFrom day) × (result < 120000) }
+    ensures { (result ≡ month_from day) × (result < 120000) }
 {
     let mut month = FIRST_NTP_MONTH;
     let mut left = day;
@@ -197,7 +197,7 @@ fn month_from(day: u64) -> u32
 // A row whose NTP seconds, of as many digits as `places`, stand before `at`: they are the midnight that begins a month.
 fn ntp_row(line: &[u8], at: usize, ntp: u64, places: usize) -> Line
     requires { at ≤ length line.now }
-    ensures { (result ≡ ntpRow ntp places (drop at line.now)) × InRange result }
+    ensures { (result ≡ ntp_row ntp places (drop at line.now)) × InRange result }
 {
     if places == 0 {
         return Line::Outside;
@@ -228,7 +228,7 @@ fn row_at(line: &[u8], at: usize) -> Line
 // The expiry whose NTP seconds stand from `at` on.
 fn expiry_at(line: &[u8], at: usize) -> Line
     requires { at ≤ length line.now }
-    ensures { (result ≡ expiryOf (drop at line.now)) × InRange result }
+    ensures { (result ≡ expiry_of (drop at line.now)) × InRange result }
 {
     match last_number(line, at, 12) {
         Last::Number(ntp) => Line::Expiry((ntp / DAY) as u32 + FIRST_NTP_DAY),
@@ -238,7 +238,7 @@ fn expiry_at(line: &[u8], at: usize) -> Line
 
 // What a line says.
 pub(crate) fn read_line(line: &[u8]) -> Line
-    ensures { (result ≡ lineSays line.now) × InRange result }
+    ensures { (result ≡ line_says line.now) × InRange result }
 {
     let at = blanks_end(line, 0, true);
     if at == line.len() {

@@ -1,9 +1,9 @@
 // Which lists of dates a walk refuses, and by which number: dates go in time order. Document 02, item 2.
 ghost use Rattle.std.specs.Prelude.{◌≡◌, true, ◌+◌, ◌*◌, ◌≤◌, length};
 ghost use Rattle.refusals.specs.Outcome.{answer, onward};
-ghost use Rattle.leap_table.specs.rows.Announced.{table_of, unlessRefused};
-ghost use Rattle.leap_table.specs.judging.Judging.{earlier, validTriple, judgedNext, judgedAll};
-ghost use Rattle.leap_table.specs.judging.Lists.{datesFrom, tripleAt, judgedNumbers};
+ghost use Rattle.leap_table.specs.rows.Announced.{table_of, unless_refused};
+ghost use Rattle.leap_table.specs.judging.Judging.{earlier, valid_triple, judged_next, judged_all};
+ghost use Rattle.leap_table.specs.judging.Lists.{dates_from, triple_at, judged_numbers};
 
 mod in_bytes;
 
@@ -40,7 +40,7 @@ fn earlier(a: Triple, b: Triple) -> bool
 
 // Whether the day is one that every month has, of a year and month that are good: such a date needs no look at its month's length.
 fn in_every_month(t: Triple) -> bool
-    ensures { result ≡ true → validTriple t ≡ answer tt }
+    ensures { result ≡ true → valid_triple t ≡ answer tt }
 {
     if t.year < -4799 {
         return false;
@@ -59,7 +59,7 @@ fn in_every_month(t: Triple) -> bool
 
 // The number by which a date is refused by itself, 0 if it is not.
 fn own_number(t: Triple) -> u32
-    ensures { unlessRefused result tt ≡ validTriple t }
+    ensures { unless_refused result tt ≡ valid_triple t }
 {
     if in_every_month(t) {
         return 0;
@@ -72,7 +72,7 @@ fn own_number(t: Triple) -> u32
 
 // The number by which a date after another is refused, 0 if it is not: its own, then 17.
 fn judge(before: Triple, t: Triple) -> u32
-    ensures { unlessRefused result tt ≡ judgedNext before t }
+    ensures { unless_refused result tt ≡ judged_next before t }
 {
     let number = own_number(t);
     if number != 0 {
@@ -87,7 +87,7 @@ fn judge(before: Triple, t: Triple) -> u32
 // Date i of a list that has it.
 pub(crate) fn triple_at(dates: &[i32], i: usize) -> Triple
     requires { 3 * i + 3 ≤ length dates.now }
-    ensures { result ≡ tripleAt dates.now i }
+    ensures { result ≡ triple_at dates.now i }
 {
     let at = 3 * i;
     Triple {
@@ -100,7 +100,7 @@ pub(crate) fn triple_at(dates: &[i32], i: usize) -> Triple
 // The number by which the n dates are refused, 0 if they are not. No valid date is earlier than the first of -4799.
 fn judge_all(dates: &[i32], n: usize) -> u32
     requires { 3 * n ≤ length dates.now }
-    ensures { unlessRefused result tt ≡ judgedAll (datesFrom (tripleAt dates.now) 0 n) }
+    ensures { unless_refused result tt ≡ judged_all (dates_from (triple_at dates.now) 0 n) }
 {
     let mut before = Triple {
         year: -4799,
@@ -123,7 +123,7 @@ fn judge_all(dates: &[i32], n: usize) -> u32
 // The number by which a walk with these dates, a year, a month and a day each, is refused, 0 if it is not: 20 to 22 the table; 14 a length of `dates` that is
 // no multiple of 3; 11 fewer places than dates; then date by date 1 to 3 its own, 17 earlier than the one before it.
 pub fn numbers_refusal(dates: &[i32], table: AnnouncedRows, places: usize) -> u32
-    ensures { unlessRefused result tt ≡ onward (table_of table) (λ _. judgedNumbers dates.now places) }
+    ensures { unless_refused result tt ≡ onward (table_of table) (λ _. judged_numbers dates.now places) }
 {
     let number = crate::rows::table_refusal(table);
     if number != 0 {

@@ -3,7 +3,7 @@ ghost use Rattle.std.specs.Prelude.{◌≡◌, length};
 ghost use Rattle.refusals.specs.Outcome.{answer, onward};
 ghost use Rattle.leap_table.specs.rows.Table.{fixed};
 ghost use Rattle.leap_table.specs.rows.Announced.{table_of};
-ghost use Rattle.leap_table.specs.rows.Answers.{rowsOutcome};
+ghost use Rattle.leap_table.specs.rows.Answers.{rows_outcome};
 
 mod announced;
 mod fixed;
@@ -45,7 +45,7 @@ pub fn no_rows() -> AnnouncedRows
 // How many rows a table has, the fixed ones included. Refusals in order: 20 the sizes, 21 a row not later than the one before, 22 a step other than
 // one second up or down.
 pub fn check_table(table: AnnouncedRows) -> RowsAnswer
-    ensures { rowsOutcome result ≡ onward (table_of table) (λ rows. answer (length rows)) }
+    ensures { rows_outcome result ≡ onward (table_of table) (λ rows. answer (length rows)) }
 {
     let number = table_refusal(table);
     if number != 0 {

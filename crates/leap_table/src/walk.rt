@@ -4,16 +4,16 @@ ghost use Rattle.std.specs.Float.{binary64};
 ghost use Rattle.std.specs.Float.Ieee.{of_int};
 ghost use Rattle.refusals.specs.Outcome.{answer, onward};
 ghost use Rattle.floats.specs.Whole.{nought};
-ghost use Rattle.calendar.specs.DayCount.{mjdNumber};
+ghost use Rattle.calendar.specs.DayCount.{mjd_number};
 ghost use Rattle.leap_table.specs.rows.Table.{starts, rising};
 ghost use Rattle.leap_table.specs.rows.Announced.{rows_of, table_of};
-ghost use Rattle.leap_table.specs.offsets.Forward.{byTerms};
+ghost use Rattle.leap_table.specs.offsets.Forward.{by_terms};
 ghost use Rattle.leap_table.specs.walk.Rows.{compared};
-ghost use Rattle.leap_table.specs.judging.Judging.{validTriple};
-ghost use Rattle.leap_table.specs.walk.Walk.{monthIn, tripleOffset};
-ghost use Rattle.leap_table.specs.judging.Lists.{datesFrom, tripleAt};
-ghost use Rattle.leap_table.specs.walk.Lists.{walkOfNumbers};
-ghost use Rattle.leap_table.specs.walk.Call.{asFloats, WalkCall};
+ghost use Rattle.leap_table.specs.judging.Judging.{valid_triple};
+ghost use Rattle.leap_table.specs.walk.Walk.{month_in, triple_offset};
+ghost use Rattle.leap_table.specs.judging.Lists.{dates_from, triple_at};
+ghost use Rattle.leap_table.specs.walk.Lists.{walk_of_numbers};
+ghost use Rattle.leap_table.specs.walk.Call.{as_floats, WalkCall};
 ghost use Rattle.leap_table.specs.walk.Asked.{Standing, AtStart, Stepped, CountsNext, GoodDates};
 
 mod in_bytes;
@@ -42,8 +42,8 @@ pub struct Walk {
 
 // The number of a date's month; 0 in the years before year 0.
 fn month_of(t: Triple) -> u64
-    requires { validTriple t ≡ answer tt }
-    ensures { (result ≡ monthIn t) × (result < 1099511627776) }
+    requires { valid_triple t ≡ answer tt }
+    ensures { (result ≡ month_in t) × (result < 1099511627776) }
 {
     if t.year < 0 {
         return 0;
@@ -53,8 +53,8 @@ fn month_of(t: Triple) -> u64
 
 // The offset of a date at 0h by the terms of its row. Its day is counted only where the row drifts.
 fn offset_in(terms: RowTerms, t: Triple) -> f64
-    requires { validTriple t ≡ answer tt }
-    ensures { result ≡ byTerms terms (of_int binary64 (mjdNumber t.year t.month t.day)) nought }
+    requires { valid_triple t ≡ answer tt }
+    ensures { result ≡ by_terms terms (of_int binary64 (mjd_number t.year t.month t.day)) nought }
 {
     if !terms.drifts {
         return terms.seconds;
@@ -113,9 +113,9 @@ fn next_counted(w: Walk) -> u64
 
 // Walks through the table with n dates, writes their offsets, and says how many rows it compared.
 fn walk_all(dates: &[i32], n: usize, table: AnnouncedRows, out: &mut [f64]) -> u64
-    requires { (GoodDates (tripleAt dates.now) n) × (T (rising (starts (rows_of table)))) × (3 * n ≤ length dates.now) × (n ≤ length out.old) }
-    ensures { (result ≡ compared (starts (rows_of table)) (map monthIn (datesFrom (tripleAt dates.now) 0 n)))
-        × (out.new ≡ map (tripleOffset (rows_of table)) (datesFrom (tripleAt dates.now) 0 n) ++ drop n out.old) }
+    requires { (GoodDates (triple_at dates.now) n) × (T (rising (starts (rows_of table)))) × (3 * n ≤ length dates.now) × (n ≤ length out.old) }
+    ensures { (result ≡ compared (starts (rows_of table)) (map month_in (dates_from (triple_at dates.now) 0 n)))
+        × (out.new ≡ map (triple_offset (rows_of table)) (dates_from (triple_at dates.now) 0 n) ++ drop n out.old) }
 {
     let mut w = at_start(table);
     let mut i = 0;
@@ -137,7 +137,7 @@ fn walk_all(dates: &[i32], n: usize, table: AnnouncedRows, out: &mut [f64]) -> u
 // order: 20 to 22 the table; 14 a length of `dates` that is no multiple of 3; 11 fewer places than dates; then date by date 1 to 3 its own, 17 earlier than the
 // one before it.
 pub fn offsets_at_0h(dates: &[i32], table: AnnouncedRows, out: &mut [f64]) -> WalkAnswer
-    ensures { WalkCall asFloats (onward (table_of table) (λ rows. walkOfNumbers rows dates.now (length out.old)))
+    ensures { WalkCall as_floats (onward (table_of table) (λ rows. walk_of_numbers rows dates.now (length out.old)))
         out.old result out.new }
 {
     let number = crate::judging::numbers_refusal(dates, table, out.len());

@@ -1,11 +1,11 @@
 // The first lines and the last: how many stamps each run has, how many of them are not finite, refused and left out.
 ghost use Rattle.std.specs.Prelude.{◌≡◌, ◌+◌, ◌-◌, ◌≤◌, ◌<◌, cond, eqb, length};
-ghost use Rattle.floats.specs.ExponentField.{exponentField};
+ghost use Rattle.floats.specs.ExponentField.{exponent_field};
 ghost use Rattle.leap_table.specs.rows.Announced.{least};
 ghost use Rattle.utc.specs.text.Answer.{TextPut};
 ghost use Rattle.line_listing.specs.lines.StampLine.{stamps};
-ghost use Rattle.line_listing.specs.head.Counts.{notFinite, kind_at, kindsIn, firstEnd, secondEnd};
-ghost use Rattle.line_listing.specs.head.Head.{counted, blockEnd, runLine, runIfNamed, oneIfNamed, headText, endText};
+ghost use Rattle.line_listing.specs.head.Counts.{not_finite, kind_at, kinds_in, first_end, second_end};
+ghost use Rattle.line_listing.specs.head.Head.{counted, block_end, run_line, run_if_named, one_if_named, head_text, end_text};
 ghost use Rattle.line_listing.specs.head.Asked.{PlacedIn};
 
 use crate::lines::number_at;
@@ -24,7 +24,7 @@ pub struct RunEnd {
 
 // Whether the exponent field of a pattern is all ones.
 fn all_ones(bits: u64) -> bool
-    ensures { result ≡ eqb (exponentField bits) 2047 }
+    ensures { result ≡ eqb (exponent_field bits) 2047 }
 {
     bits / 0x10_0000_0000_0000 % 2048 == 2047
 }
@@ -58,7 +58,7 @@ fn one_if_same(a: u8, b: u8) -> usize
 // How many of the n stamps from `from` on are of a kind.
 fn count_of(jd1s: &[u8], jd2s: &[u8], numbers: &[u8], kind: u8, from: usize, n: usize) -> usize
     requires { from + n < 18446744073709551616 }
-    ensures { (result ≡ kindsIn jd1s.now jd2s.now numbers.now kind from n) × (result ≤ n) }
+    ensures { (result ≡ kinds_in jd1s.now jd2s.now numbers.now kind from n) × (result ≤ n) }
 {
     let mut count = 0;
     let mut i = 0;
@@ -81,7 +81,7 @@ fn place_count(words: &[u8], n: u64, dst: &mut [u8], at: usize) -> usize
 // The block that ended a run.
 fn place_end(end: RunEnd, dst: &mut [u8], at: usize) -> usize
     requires { at + 56 ≤ length dst.old }
-    ensures { PlacedIn dst.old at (blockEnd end) 56 result dst.new }
+    ensures { PlacedIn dst.old at (block_end end) 56 result dst.new }
 {
     if end.refused == 0 {
         return at;
@@ -104,7 +104,7 @@ fn place_run(
 ) -> usize
     requires { (length name.now ≡ 4) × (from + n < 18446744073709551616) × (at + 172 ≤ length dst.old) }
     ensures { PlacedIn dst.old at
-        (runLine name.now end jd1s.now jd2s.now numbers.now from n) 172 result dst.new }
+        (run_line name.now end jd1s.now jd2s.now numbers.now from n) 172 result dst.new }
 {
     let a = place_count(name, n as u64, dst, at);
     let b = place_count(
@@ -143,7 +143,7 @@ fn place_if_named(
 ) -> usize
     requires { (length name.now ≡ 4) × (from + n < 18446744073709551616) × (at + 172 ≤ length dst.old) }
     ensures { PlacedIn dst.old at
-        (runIfNamed name.now end jd1s.now jd2s.now numbers.now from n) 172 result dst.new }
+        (run_if_named name.now end jd1s.now jd2s.now numbers.now from n) 172 result dst.new }
 {
     if end.named {
         return place_run(name, end, jd1s, jd2s, numbers, from, n, dst, at);
@@ -152,7 +152,7 @@ fn place_if_named(
 }
 
 fn one_if(b: bool) -> u64
-    ensures { (result ≡ oneIfNamed b) × (result ≤ 1) }
+    ensures { (result ≡ one_if_named b) × (result ≤ 1) }
 {
     if b { 1 } else { 0 }
 }
@@ -177,7 +177,7 @@ fn compose(
 ) -> usize
     requires { 550 ≤ length dst.old }
     ensures { PlacedIn dst.old 0
-        (headText gps tai utc (stamps jd1s.now jd2s.now numbers.now first second)) 550 result dst.new }
+        (head_text gps tai utc (stamps jd1s.now jd2s.now numbers.now first second)) 550 result dst.new }
 {
     let n = numbers.len();
     let end1 = smaller(first, n);
@@ -203,7 +203,7 @@ pub fn put_head(
     utc: RunEnd,
     out: &mut [u8],
 ) -> TextAnswer
-    ensures { TextPut (headText gps tai utc (stamps jd1s.now jd2s.now numbers.now first second)) out.old result
+    ensures { TextPut (head_text gps tai utc (stamps jd1s.now jd2s.now numbers.now first second)) out.old result
         out.new }
 {
     let mut all = [0u8; 550];
@@ -216,7 +216,7 @@ pub fn put_head(
 
 fn compose_end(ordered: u64, textless: u64, dst: &mut [u8]) -> usize
     requires { 64 ≤ length dst.old }
-    ensures { PlacedIn dst.old 0 (endText ordered textless) 64 result dst.new }
+    ensures { PlacedIn dst.old 0 (end_text ordered textless) 64 result dst.new }
 {
     let a = place_count(b"lined up ", ordered, dst, 0);
     let b = place_count(b" without text ", textless, dst, a);
@@ -225,7 +225,7 @@ fn compose_end(ordered: u64, textless: u64, dst: &mut [u8]) -> usize
 
 // The last line: how many stamps are lined up, and how many of them have no text. Where it does not fit, 11 and nothing is written; 64 bytes are enough.
 pub fn put_end(ordered: u64, textless: u64, out: &mut [u8]) -> TextAnswer
-    ensures { TextPut (endText ordered textless) out.old result out.new }
+    ensures { TextPut (end_text ordered textless) out.old result out.new }
 {
     let mut all = [0u8; 64];
     let n = compose_end(ordered, textless, &mut all);

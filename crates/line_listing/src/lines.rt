@@ -2,14 +2,14 @@
 ghost use Rattle.std.specs.Prelude.{◌≡◌, ◌+◌, ◌-◌, ◌*◌, ◌/◌, ◌≤◌, ◌<◌, true, length, get_or};
 ghost use Rattle.refusals.specs.Outcome.{onward};
 ghost use Rattle.numerals.specs.digits.Placed.{Placed};
-ghost use Rattle.leap_table.specs.rows.Announced.{rowsIn, table_of, least};
-ghost use Rattle.stamps.specs.Listing.{oneIfRefused};
-ghost use Rattle.utc_scales.specs.UtcTai.{taiToUtc};
-ghost use Rattle.utc.specs.iso_texts.Expanded.{isoTextExpanded};
-ghost use Rattle.line_listing.specs.lines.StampLine.{stamps, lineInOrder, recorder, indexIn, sentenceBehind, numberTold, noText, refused, stampTold};
-ghost use Rattle.line_listing.specs.lines.StampLine.{utcTold, lineBy, noTextCount};
-ghost use Rattle.line_listing.specs.lines.Parts.{longestLine, ListedCall};
-ghost use Rattle.line_listing.specs.lines.Asked.{answerBy, Gathered, Converted, ToldAt, LinesPlaced};
+ghost use Rattle.leap_table.specs.rows.Announced.{rows_in, table_of, least};
+ghost use Rattle.stamps.specs.Listing.{one_if_refused};
+ghost use Rattle.utc_scales.specs.UtcTai.{tai_to_utc};
+ghost use Rattle.utc.specs.iso_texts.Expanded.{iso_text_expanded};
+ghost use Rattle.line_listing.specs.lines.StampLine.{stamps, line_in_order, recorder, index_in, sentence_behind, number_told, no_text, refused, stamp_told};
+ghost use Rattle.line_listing.specs.lines.StampLine.{utc_told, line_by, no_text_count};
+ghost use Rattle.line_listing.specs.lines.Parts.{longest_line, ListedCall};
+ghost use Rattle.line_listing.specs.lines.Asked.{answer_by, Gathered, Converted, ToldAt, LinesPlaced};
 
 use crate::head::smaller;
 use julian::JulianDate;
@@ -58,7 +58,7 @@ fn place_recorder(first: usize, second: usize, place: usize, dst: &mut [u8], at:
 }
 
 fn index_in(first: usize, second: usize, place: usize) -> usize
-    ensures { (result ≡ indexIn first second place) × (result ≤ place) }
+    ensures { (result ≡ index_in first second place) × (result ≤ place) }
 {
     if place < first {
         return place;
@@ -72,8 +72,8 @@ fn index_in(first: usize, second: usize, place: usize) -> usize
 
 // A colon and the sentence of a number that has one.
 fn place_sentence(number: u32, jd: JulianDate, dst: &mut [u8], at: usize) -> usize
-    requires { at + length (sentenceBehind true number jd) ≤ length dst.old }
-    ensures { Placed dst.old at (sentenceBehind true number jd) result dst.new }
+    requires { at + length (sentence_behind true number jd) ≤ length dst.old }
+    ensures { Placed dst.old at (sentence_behind true number jd) result dst.new }
 {
     match reasons::reason_of(number, Values::Parts(jd.jd1, jd.jd2)) {
         ReasonAnswer::Refused(_) => at,
@@ -89,9 +89,9 @@ fn place_sentence(number: u32, jd: JulianDate, dst: &mut [u8], at: usize) -> usi
 
 // A number below 256, and its sentence where it is asked for.
 fn place_number(sentences: bool, number: u32, jd: JulianDate, dst: &mut [u8], at: usize) -> usize
-    requires { (number < 256) × (at + longestLine sentences ≤ length dst.old + 24) }
-    ensures placed { Placed dst.old at (numberTold sentences number jd) result dst.new }
-    ensures result_bound { result + 24 ≤ at + longestLine sentences }
+    requires { (number < 256) × (at + longest_line sentences ≤ length dst.old + 24) }
+    ensures placed { Placed dst.old at (number_told sentences number jd) result dst.new }
+    ensures result_bound { result + 24 ≤ at + longest_line sentences }
 {
     let next = place_decimal(number as u64, dst, at);
     if sentences {
@@ -102,9 +102,9 @@ fn place_number(sentences: bool, number: u32, jd: JulianDate, dst: &mut [u8], at
 
 // That there is no text, and why.
 fn place_no_text(sentences: bool, number: u32, jd: JulianDate, dst: &mut [u8], at: usize) -> Told
-    requires { (number < 256) × (at + longestLine sentences ≤ length dst.old + 16) }
-    ensures told_at { ToldAt dst.old at (noText sentences number jd) 1 result dst.new }
-    ensures next_bound { result.next + 16 ≤ at + longestLine sentences }
+    requires { (number < 256) × (at + longest_line sentences ≤ length dst.old + 16) }
+    ensures told_at { ToldAt dst.old at (no_text sentences number jd) 1 result dst.new }
+    ensures next_bound { result.next + 16 ≤ at + longest_line sentences }
 {
     let start = place_bytes(b"no text ", dst, at);
     let next = place_number(sentences, number, jd, dst, start);
@@ -113,9 +113,9 @@ fn place_no_text(sentences: bool, number: u32, jd: JulianDate, dst: &mut [u8], a
 
 // That a stamp is refused or left out, and why.
 fn place_refused(sentences: bool, number: u32, jd: JulianDate, dst: &mut [u8], at: usize) -> usize
-    requires { (number < 256) × (at + longestLine sentences ≤ length dst.old + 16) }
+    requires { (number < 256) × (at + longest_line sentences ≤ length dst.old + 16) }
     ensures placed { Placed dst.old at (refused sentences number jd) result dst.new }
-    ensures result_bound { result + 16 ≤ at + longestLine sentences }
+    ensures result_bound { result + 16 ≤ at + longest_line sentences }
 {
     let start = place_bytes(b"refused ", dst, at);
     place_number(sentences, number, jd, dst, start)
@@ -133,12 +133,12 @@ fn place_text<'a>(
     dst: &mut [u8],
     at: usize,
 ) -> Told
-    requires { (answerBy mark date ≡ taiToUtc (rowsIn size months.now seconds.now) tai) × (at + longestLine sentences ≤ length dst.old + 16) }
+    requires { (answer_by mark date ≡ tai_to_utc (rows_in size months.now seconds.now) tai) × (at + longest_line sentences ≤ length dst.old + 16) }
     ensures told_at { ToldAt dst.old at
-        (utcTold sentences (rowsIn size months.now seconds.now) tai (taiToUtc (rowsIn size months.now seconds.entry.now) tai))
-        (oneIfRefused (onward (taiToUtc (rowsIn size months.now seconds.now) tai)
-        (isoTextExpanded (rowsIn size months.now seconds.now)))) result dst.new }
-    ensures next_bound { result.next + 16 ≤ at + longestLine sentences }
+        (utc_told sentences (rows_in size months.now seconds.now) tai (tai_to_utc (rows_in size months.now seconds.entry.now) tai))
+        (one_if_refused (onward (tai_to_utc (rows_in size months.now seconds.now) tai)
+        (iso_text_expanded (rows_in size months.now seconds.now)))) result dst.new }
+    ensures next_bound { result.next + 16 ≤ at + longest_line sentences }
 {
     if mark != 0 {
         return place_no_text(sentences, mark as u32, tai, dst, at);
@@ -171,10 +171,10 @@ fn place_stamp<'a>(
     dst: &mut [u8],
     at: usize,
 ) -> Told
-    requires { (answerBy mark date ≡ taiToUtc (rowsIn size months.now seconds.now) tai) × (at + longestLine sentences ≤ length dst.old + 16) }
-    ensures told_at { ToldAt dst.old at (stampTold sentences (rowsIn size months.now seconds.now) tai number)
-        (noTextCount (rowsIn size months.now seconds.now) tai number) result dst.new }
-    ensures next_bound { result.next + 16 ≤ at + longestLine sentences }
+    requires { (answer_by mark date ≡ tai_to_utc (rows_in size months.now seconds.now) tai) × (at + longest_line sentences ≤ length dst.old + 16) }
+    ensures told_at { ToldAt dst.old at (stamp_told sentences (rows_in size months.now seconds.now) tai number)
+        (no_text_count (rows_in size months.now seconds.now) tai number) result dst.new }
+    ensures next_bound { result.next + 16 ≤ at + longest_line sentences }
 {
     if number != 0 {
         let next = place_refused(sentences, number as u32, tai, dst, at);
@@ -199,11 +199,11 @@ fn place_line<'a>(
     dst: &mut [u8],
     at: usize,
 ) -> Told
-    requires { (answerBy mark date ≡ taiToUtc (rowsIn size months.now seconds.now) tai) × (place < 4294967296)
-        × (at + longestLine sentences ≤ length dst.old) }
-    ensures told_at { ToldAt dst.old at (lineBy sentences (rowsIn size months.now seconds.now) first second place tai number)
-        (noTextCount (rowsIn size months.now seconds.now) tai number) result dst.new }
-    ensures next_bound { result.next ≤ at + longestLine sentences }
+    requires { (answer_by mark date ≡ tai_to_utc (rows_in size months.now seconds.now) tai) × (place < 4294967296)
+        × (at + longest_line sentences ≤ length dst.old) }
+    ensures told_at { ToldAt dst.old at (line_by sentences (rows_in size months.now seconds.now) first second place tai number)
+        (no_text_count (rows_in size months.now seconds.now) tai number) result dst.new }
+    ensures next_bound { result.next ≤ at + longest_line sentences }
 {
     let a = place_recorder(first, second, place, dst, at);
     let b = place_decimal(index_in(first, second, place) as u64, dst, a);
@@ -246,7 +246,7 @@ fn convert_page<'a>(
     marks: &mut [u8],
 )
     requires { (line + 256 < 18446744073709551616) × (length utc1.old ≡ 2048) × (length utc2.old ≡ 2048) × (length marks.old ≡ 256) }
-    ensures { Converted (rowsIn size months.now seconds.now) jd1s.now jd2s.now order.now line
+    ensures { Converted (rows_in size months.now seconds.now) jd1s.now jd2s.now order.now line
         utc1.new utc2.new marks.new × (length utc1.new ≡ 2048) × (length utc2.new ≡ 2048)
         × (length marks.new ≡ 256) }
 {
@@ -297,9 +297,9 @@ fn place_lines<'a>(
     seconds: &'a [i32; 16],
     out: &mut [u8],
 ) -> Part
-    requires { Converted (rowsIn size months.now seconds.now) jd1s.now jd2s.now order.now line utc1.now utc2.now marks.now
-        × (count ≤ 256) × (256 ≤ length marks.now) × (line + 256 < 18446744073709551616) × (count * longestLine sentences ≤ length out.old) }
-    ensures { LinesPlaced sentences (rowsIn size months.now seconds.now)
+    requires { Converted (rows_in size months.now seconds.now) jd1s.now jd2s.now order.now line utc1.now utc2.now marks.now
+        × (count ≤ 256) × (256 ≤ length marks.now) × (line + 256 < 18446744073709551616) × (count * longest_line sentences ≤ length out.old) }
+    ensures { LinesPlaced sentences (rows_in size months.now seconds.now)
         (stamps jd1s.now jd2s.now numbers.now first second) order.now line count out.old result
         out.new }
 {
@@ -342,8 +342,8 @@ fn page_part<'a>(
     seconds: &'a [i32; 16],
     out: &mut [u8],
 ) -> Part
-    requires { (count ≤ 256) × (line + 256 < 18446744073709551616) × (count * longestLine sentences ≤ length out.old) }
-    ensures { LinesPlaced sentences (rowsIn size months.now seconds.now)
+    requires { (count ≤ 256) × (line + 256 < 18446744073709551616) × (count * longest_line sentences ≤ length out.old) }
+    ensures { LinesPlaced sentences (rows_in size months.now seconds.now)
         (stamps jd1s.now jd2s.now numbers.now first second) order.now line count out.old result
         out.new }
 {
@@ -362,14 +362,14 @@ fn page_part<'a>(
 // The most bytes of a line. By numbers it has `utc`, a blank, ten digits of the index, a blank, the longest text, 27, and the line's end; with sentences in the
 // place of the text `refused`, a blank, a digit, a colon, a blank and the longest sentence, 57.
 fn line_room(sentences: bool) -> usize
-    ensures { result ≡ longestLine sentences }
+    ensures { result ≡ longest_line sentences }
 {
     if sentences { 84 } else { 43 }
 }
 
 // How many lines go into the part from `line` on, into `room` bytes.
 fn part_lines(sentences: bool, lines: usize, line: usize, room: usize) -> usize
-    ensures { result ≡ least (least (lines - line) 256) (room / longestLine sentences) }
+    ensures { result ≡ least (least (lines - line) 256) (room / longest_line sentences) }
 {
     if lines <= line {
         return 0;

@@ -7,7 +7,7 @@ ghost use Rattle.line_listing.specs.order.Asked as N;
 
 // Where the run of place p ends.
 fn run_end(end1: usize, end2: usize, n: usize, p: usize) -> usize
-    ensures { result ≡ O.runEnd end1 end2 n p }
+    ensures { result ≡ O.run_end end1 end2 n p }
 {
     if p < end1 {
         return end1;
@@ -48,7 +48,7 @@ fn put_one(numbers: &[u8], p: usize, to: usize, out: &mut [u8], k: usize) -> usi
 // Writes the places that have no ordered one before them in their run.
 fn put_starts(numbers: &[u8], end1: usize, end2: usize, out: &mut [u8]) -> usize
     requires { N.StartsPuttable numbers.now end1 end2 out.old }
-    ensures { N.PlacesPut out.old out.new 0 (O.runStarts numbers.now end1 end2) result }
+    ensures { N.PlacesPut out.old out.new 0 (O.run_starts numbers.now end1 end2) result }
 {
     let n = numbers.len();
     let k = put_behind(numbers, 0, end1, out, 0);
@@ -59,7 +59,7 @@ fn put_starts(numbers: &[u8], end1: usize, end2: usize, out: &mut [u8]) -> usize
 // Writes all places, with the ordered ones in the first cells of `places`.
 fn put_lines(numbers: &[u8], end1: usize, end2: usize, places: &[u8], many: usize, out: &mut [u8])
     requires { N.Listable numbers.now end1 end2 places.now many out.old }
-    ensures { out.new ≡ U.placesBytes (O.lineOrder numbers.now end1 end2 (take many (C.cells places.now)))
+    ensures { out.new ≡ U.places_bytes (O.line_order numbers.now end1 end2 (take many (C.cells places.now)))
         ++ drop (4 * length numbers.now) out.old }
 {
     let n = numbers.len();
@@ -99,7 +99,7 @@ pub fn lines_in_order(
     work1: &mut [u8],
     work2: &mut [u8],
 ) -> line_up::LineUpAnswer
-    ensures { U.result result numbers.new order.new ≡ O.linesInOrder jd1s.now jd2s.now numbers.old
+    ensures { U.result result numbers.new order.new ≡ O.lines_in_order jd1s.now jd2s.now numbers.old
         first second order.old (length work1.old) (length work2.old) }
 {
     let r = line_up::line_up(jd1s, jd2s, numbers, first, second, order, work1, work2);

@@ -9,13 +9,13 @@ use lib.Dec.{eqb, leb}
 use lib.ListN.{length}
 use borrow.Author.Tests.{eq-eqb, ne_eqb, lt-ltb, le-ltb, le-leb, lt-leb, leb-true}
 use Rattle.julian.specs.declared.JulianDate.{JulianDate}
-use Rattle.julian.specs.order.Places.{hasPlace}
-use Rattle.line_up.specs.Runs.{acceptedIn, first_or, tested, pick, cursorAfter}
-use Rattle.julian.specs.stamp_lists.Stamps.{stampOf}
-use Rattle.line_up.specs.LineUp.{unorderedAt, eightEach, lineRefusal}
+use Rattle.julian.specs.order.Places.{has_place}
+use Rattle.line_up.specs.Runs.{accepted_in, first_or, tested, pick, cursor_after}
+use Rattle.julian.specs.stamp_lists.Stamps.{stamp_of}
+use Rattle.line_up.specs.LineUp.{unordered_at, eight_each, line_refusal}
 
-pub unordered-is : (js ks : List ℕ) (i : ℕ) (a : JulianDate) (r : Bool) → a ≡ stampOf js ks i → r ≡ hasPlace a → not r ≡ unorderedAt js ks i
-unfolding unorderedAt
+pub unordered-is : (js ks : List ℕ) (i : ℕ) (a : JulianDate) (r : Bool) → a ≡ stamp_of js ks i → r ≡ has_place a → not r ≡ unordered_at js ks i
+unfolding unordered_at
 unordered-is js ks i a r p q = rw (q, p)
 
 module _ (unordered : ℕ → Bool) (number i : ℕ) where
@@ -49,50 +49,50 @@ module _ (lt : ℕ → ℕ → Bool) (n x y : ℕ) where
   pick_other h k e = rw (lt-ltb y n h, lt-ltb x n k, e)
 
 module _ (ms : List ℕ) (to p x : ℕ) where
-  pub moved-next : (r : ℕ) → p ≡ x → r ≡ first_or (length ms) (acceptedIn ms (p + 1) to) → r ≡ cursorAfter ms to p x
-  unfolding cursorAfter
-  moved-next r e h = rw (eq-eqb p x e) (h ∙ ap (λ (j : ℕ). first_or (length ms) (acceptedIn ms j to)) (add-one p))
+  pub moved-next : (r : ℕ) → p ≡ x → r ≡ first_or (length ms) (accepted_in ms (p + 1) to) → r ≡ cursor_after ms to p x
+  unfolding cursor_after
+  moved-next r e h = rw (eq-eqb p x e) (h ∙ ap (λ (j : ℕ). first_or (length ms) (accepted_in ms j to)) (add-one p))
 
-  pub moved-stays : (p ≡ x → ⊥) → x ≡ cursorAfter ms to p x
-  unfolding cursorAfter
+  pub moved-stays : (p ≡ x → ⊥) → x ≡ cursor_after ms to p x
+  unfolding cursor_after
   moved-stays h = rw (ne_eqb p x h)
 
 -- ---- the refusals of the sizes, by the outcomes of the tests
 module _ (size1 size2 n first second room : ℕ) where
-  pub broken-first : (size1 % 8 ≡ 0 → ⊥) → 14 ≡ lineRefusal size1 size2 n first second room
-  unfolding lineRefusal
-  broken-first a = rw (ne_eqb (size1 % 8) 0 a)
+  pub broken_first : (size1 % 8 ≡ 0 → ⊥) → 14 ≡ line_refusal size1 size2 n first second room
+  unfolding line_refusal
+  broken_first a = rw (ne_eqb (size1 % 8) 0 a)
 
-  pub broken-second : size1 % 8 ≡ 0 → (size2 % 8 ≡ 0 → ⊥) → 14 ≡ lineRefusal size1 size2 n first second room
-  unfolding lineRefusal
-  broken-second a b = rw (eq-eqb (size1 % 8) 0 a, ne_eqb (size2 % 8) 0 b)
+  pub broken_second : size1 % 8 ≡ 0 → (size2 % 8 ≡ 0 → ⊥) → 14 ≡ line_refusal size1 size2 n first second room
+  unfolding line_refusal
+  broken_second a b = rw (eq-eqb (size1 % 8) 0 a, ne_eqb (size2 % 8) 0 b)
 
   module _ (a : size1 % 8 ≡ 0) (b : size2 % 8 ≡ 0) where
-    pub differs-first : eightEach size1 n ≡ false → 12 ≡ lineRefusal size1 size2 n first second room
-    unfolding lineRefusal
-    differs-first c = rw (eq-eqb (size1 % 8) 0 a, eq-eqb (size2 % 8) 0 b, c)
+    pub differs_first : eight_each size1 n ≡ false → 12 ≡ line_refusal size1 size2 n first second room
+    unfolding line_refusal
+    differs_first c = rw (eq-eqb (size1 % 8) 0 a, eq-eqb (size2 % 8) 0 b, c)
 
-    pub differs-second : eightEach size1 n ≡ true → eightEach size2 n ≡ false → 12 ≡ lineRefusal size1 size2 n first second room
-    unfolding lineRefusal
-    differs-second c d = rw (eq-eqb (size1 % 8) 0 a, eq-eqb (size2 % 8) 0 b, c, d)
+    pub differs_second : eight_each size1 n ≡ true → eight_each size2 n ≡ false → 12 ≡ line_refusal size1 size2 n first second room
+    unfolding line_refusal
+    differs_second c d = rw (eq-eqb (size1 % 8) 0 a, eq-eqb (size2 % 8) 0 b, c, d)
 
-    module _ (c : eightEach size1 n ≡ true) (d : eightEach size2 n ≡ true) where
-      pub past_first : n < first → 14 ≡ lineRefusal size1 size2 n first second room
-      unfolding lineRefusal
+    module _ (c : eight_each size1 n ≡ true) (d : eight_each size2 n ≡ true) where
+      pub past_first : n < first → 14 ≡ line_refusal size1 size2 n first second room
+      unfolding line_refusal
       past_first e = rw (eq-eqb (size1 % 8) 0 a, eq-eqb (size2 % 8) 0 b, c, d, lt-leb first n e)
 
-      pub past-second : first ≤ n → n - first < second → 14 ≡ lineRefusal size1 size2 n first second room
-      unfolding lineRefusal
+      pub past-second : first ≤ n → n - first < second → 14 ≡ line_refusal size1 size2 n first second room
+      unfolding line_refusal
       past-second e f = rw (eq-eqb (size1 % 8) 0 a, eq-eqb (size2 % 8) 0 b, c, d, le-leb first n e, lt-leb second (n - first) f)
 
       module _ (e : first ≤ n) (f : second ≤ n - first) where
-        pub too_many : 4294967295 < n → 13 ≡ lineRefusal size1 size2 n first second room
-        unfolding lineRefusal
+        pub too_many : 4294967295 < n → 13 ≡ line_refusal size1 size2 n first second room
+        unfolding line_refusal
         too_many g = rw (eq-eqb (size1 % 8) 0 a, eq-eqb (size2 % 8) 0 b, c, d, le-leb first n e, le-leb second (n - first) f, lt-leb n 4294967295 g)
 
-        pub too-few-places : n ≤ 4294967295 → room / 4 < n → 11 ≡ lineRefusal size1 size2 n first second room
-        unfolding lineRefusal
-        too-few-places g h = rw (
+        pub too_few_places : n ≤ 4294967295 → room / 4 < n → 11 ≡ line_refusal size1 size2 n first second room
+        unfolding line_refusal
+        too_few_places g h = rw (
           eq-eqb (size1 % 8) 0 a,
           eq-eqb (size2 % 8) 0 b,
           c,
@@ -103,9 +103,9 @@ module _ (size1 size2 n first second room : ℕ) where
           lt-leb n (room / 4) h,
         )
 
-        pub not-refused : n ≤ 4294967295 → n ≤ room / 4 → 0 ≡ lineRefusal size1 size2 n first second room
-        unfolding lineRefusal
-        not-refused g h = rw (
+        pub not_refused : n ≤ 4294967295 → n ≤ room / 4 → 0 ≡ line_refusal size1 size2 n first second room
+        unfolding line_refusal
+        not_refused g h = rw (
           eq-eqb (size1 % 8) 0 a,
           eq-eqb (size2 % 8) 0 b,
           c,
@@ -125,26 +125,26 @@ pub record Fine (n first second room : ℕ) : Type 0 where
   pub small : n ≤ 4294967295
 
 module _ (size1 size2 n first second room : ℕ) where
-  fine-by : (b0 b1 b2 b3 b4 b5 b6 b7 : Bool) → leb first n ≡ b4 → leb second (n - first) ≡ b5 → leb n 4294967295 ≡ b6 → leb n (room / 4) ≡ b7
+  fine_by : (b0 b1 b2 b3 b4 b5 b6 b7 : Bool) → leb first n ≡ b4 → leb second (n - first) ≡ b5 → leb n 4294967295 ≡ b6 → leb n (room / 4) ≡ b7
       → ◌≡◌ {A = ℕ} (cond (b0 && b1) (cond (b2 && b3) (cond (b4 && b5) (cond b6 (cond b7 0 11) 13) 14) 12) 14) 0 → Fine n first second room
-  fine-by true true true true true true true true p4 p5 p6 p7 z = record {
+  fine_by true true true true true true true true p4 p5 p6 p7 z = record {
     count1 = leb-true first n p4;
     count2 = leb-true second (n - first) p5;
     places = leb-true n (room / 4) p7;
     small = leb-true n 4294967295 p6;
   }
-  fine-by true true true true true true true false p4 p5 p6 p7 z = let w : ⊥ = omega arith in absurd w
-  fine-by true true true true true true false b7 p4 p5 p6 p7 z = let w : ⊥ = omega arith in absurd w
-  fine-by true true true true true false b6 b7 p4 p5 p6 p7 z = let w : ⊥ = omega arith in absurd w
-  fine-by true true true true false b5 b6 b7 p4 p5 p6 p7 z = let w : ⊥ = omega arith in absurd w
-  fine-by true true true false b4 b5 b6 b7 p4 p5 p6 p7 z = let w : ⊥ = omega arith in absurd w
-  fine-by true true false b3 b4 b5 b6 b7 p4 p5 p6 p7 z = let w : ⊥ = omega arith in absurd w
-  fine-by true false b2 b3 b4 b5 b6 b7 p4 p5 p6 p7 z = let w : ⊥ = omega arith in absurd w
-  fine-by false b1 b2 b3 b4 b5 b6 b7 p4 p5 p6 p7 z = let w : ⊥ = omega arith in absurd w
+  fine_by true true true true true true true false p4 p5 p6 p7 z = let w : ⊥ = omega arith in absurd w
+  fine_by true true true true true true false b7 p4 p5 p6 p7 z = let w : ⊥ = omega arith in absurd w
+  fine_by true true true true true false b6 b7 p4 p5 p6 p7 z = let w : ⊥ = omega arith in absurd w
+  fine_by true true true true false b5 b6 b7 p4 p5 p6 p7 z = let w : ⊥ = omega arith in absurd w
+  fine_by true true true false b4 b5 b6 b7 p4 p5 p6 p7 z = let w : ⊥ = omega arith in absurd w
+  fine_by true true false b3 b4 b5 b6 b7 p4 p5 p6 p7 z = let w : ⊥ = omega arith in absurd w
+  fine_by true false b2 b3 b4 b5 b6 b7 p4 p5 p6 p7 z = let w : ⊥ = omega arith in absurd w
+  fine_by false b1 b2 b3 b4 b5 b6 b7 p4 p5 p6 p7 z = let w : ⊥ = omega arith in absurd w
 
-  pub fine : lineRefusal size1 size2 n first second room ≡ 0 → Fine n first second room
-  unfolding lineRefusal
+  pub fine : line_refusal size1 size2 n first second room ≡ 0 → Fine n first second room
+  unfolding line_refusal
   fine z =
-      fine-by (eqb (size1 % 8) 0) (eqb (size2 % 8) 0) (eightEach size1 n) (eightEach size2 n) (leb first n) (leb second (n - first)) (leb n 4294967295)
+      fine_by (eqb (size1 % 8) 0) (eqb (size2 % 8) 0) (eight_each size1 n) (eight_each size2 n) (leb first n) (leb second (n - first)) (leb n 4294967295)
       (leb n (room / 4))
       refl refl refl refl z

@@ -5,29 +5,29 @@ use mathlib.Core.Path.{◌≡◌, refl, sym, ap, ◌∙◌, subst}
 use mathlib.Core.Bool.{Bool, true, false, cond}
 use mathlib.Core.List.{List, [], ◌∷◌}
 use lib.ListN.{length}
-use Rattle.line_up.specs.Runs.{into, merge, once, timesIn, MayFollow, FirstMayFollow, Rising}
+use Rattle.line_up.specs.Runs.{into, merge, once, times_in, MayFollow, FirstMayFollow, Rising}
 
 -- ---- counts
 
 module _ (lt : ℕ → ℕ → Bool) (i : ℕ) where
-  timesIn-pick : (b : Bool) (x y r s : ℕ) (xs ys : List ℕ) → timesIn i xs ≡ r → timesIn i ys ≡ s → once i y + r ≡ once i x + s
-      → timesIn i (cond b (y ∷ xs) (x ∷ ys)) ≡ once i x + s
-  unfolding timesIn
-  timesIn-pick true x y r s xs ys h k e = omega arith
-  timesIn-pick false x y r s xs ys h k e = omega arith
+  times_in-pick : (b : Bool) (x y r s : ℕ) (xs ys : List ℕ) → times_in i xs ≡ r → times_in i ys ≡ s → once i y + r ≡ once i x + s
+      → times_in i (cond b (y ∷ xs) (x ∷ ys)) ≡ once i x + s
+  unfolding times_in
+  times_in-pick true x y r s xs ys h k e = omega arith
+  times_in-pick false x y r s xs ys h k e = omega arith
 
-  timesIn-into : (x c : ℕ) (rest : List ℕ → List ℕ) → ((ys : List ℕ) → timesIn i (rest ys) ≡ c + timesIn i ys) → (ys : List ℕ)
-      → timesIn i (into lt x rest ys) ≡ once i x + (c + timesIn i ys)
-  unfolding into timesIn
-  timesIn-into x c rest h [] = omega (arith, h [])
-  timesIn-into x c rest h (y ∷ ys) =
-      timesIn-pick (lt y x) x y (once i x + (c + timesIn i ys)) (c + (once i y + timesIn i ys)) (into lt x rest ys) (rest (y ∷ ys))
-      (timesIn-into x c rest h ys) (h (y ∷ ys)) (omega arith)
+  times_in-into : (x c : ℕ) (rest : List ℕ → List ℕ) → ((ys : List ℕ) → times_in i (rest ys) ≡ c + times_in i ys) → (ys : List ℕ)
+      → times_in i (into lt x rest ys) ≡ once i x + (c + times_in i ys)
+  unfolding into times_in
+  times_in-into x c rest h [] = omega (arith, h [])
+  times_in-into x c rest h (y ∷ ys) =
+      times_in-pick (lt y x) x y (once i x + (c + times_in i ys)) (c + (once i y + times_in i ys)) (into lt x rest ys) (rest (y ∷ ys))
+      (times_in-into x c rest h ys) (h (y ∷ ys)) (omega arith)
 
-  pub timesIn-merge : (xs ys : List ℕ) → timesIn i (merge lt xs ys) ≡ timesIn i xs + timesIn i ys
-  unfolding merge timesIn
-  timesIn-merge [] ys = omega arith
-  timesIn-merge (x ∷ xs) ys = omega (arith, timesIn-into x (timesIn i xs) (merge lt xs) (timesIn-merge xs) ys)
+  pub times_in-merge : (xs ys : List ℕ) → times_in i (merge lt xs ys) ≡ times_in i xs + times_in i ys
+  unfolding merge times_in
+  times_in-merge [] ys = omega arith
+  times_in-merge (x ∷ xs) ys = omega (arith, times_in-into x (times_in i xs) (merge lt xs) (times_in-merge xs) ys)
 
 -- ---- lengths
 

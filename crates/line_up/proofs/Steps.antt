@@ -16,13 +16,13 @@ adv p [] = []
 adv p (x ∷ xs) = cond (eqb p x) xs (x ∷ xs)
 
 module _ (lt : ℕ → ℕ → Bool) (n : ℕ) where
-  pub adv-other : (p : ℕ) (xs : List ℕ) → (p ≡ first_or n xs → ⊥) → adv p xs ≡ xs
-  adv-other p [] h = refl
-  adv-other p (x ∷ xs) h = rw (ne_eqb p x h)
+  pub adv_other : (p : ℕ) (xs : List ℕ) → (p ≡ first_or n xs → ⊥) → adv p xs ≡ xs
+  adv_other p [] h = refl
+  adv_other p (x ∷ xs) h = rw (ne_eqb p x h)
 
-  adv-under : (b p : ℕ) (xs : List ℕ) → Under b xs → b ≤ p → adv p xs ≡ xs
-  adv-under b p [] u h = refl
-  adv-under b p (x ∷ xs) u h = rw (ne_eqb p x (λ e. omega (arith, e, h, u.0)))
+  adv_under : (b p : ℕ) (xs : List ℕ) → Under b xs → b ≤ p → adv p xs ≡ xs
+  adv_under b p [] u h = refl
+  adv_under b p (x ∷ xs) u h = rw (ne_eqb p x (λ e. omega (arith, e, h, u.0)))
 
   pub from_first : (b : ℕ) (zs : List ℕ) → From b zs → first_or n zs < n → b ≤ first_or n zs
   from_first b [] f h = let z : ⊥ = omega arith in absurd z
@@ -43,15 +43,15 @@ module _ (lt : ℕ → ℕ → Bool) (n : ℕ) where
   merge_step b p (x ∷ xs) [] u f h e = rw (eq-eqb p x e) (ap (λ (z : ℕ). z ∷ merge lt xs []) (sym e))
   merge_step b p (x ∷ xs) (y ∷ ys) u f h e = step-pick (lt y x) b p x y xs ys u.0 f.0 e
 
-  either-pick : (t : Bool) (x y : ℕ) (xs ys : List ℕ) → (first_or n (cond t (y ∷ xs) (x ∷ ys)) ≡ x) ⊎ (first_or n (cond t (y ∷ xs) (x ∷ ys)) ≡ y)
-  either-pick true x y xs ys = inr refl
-  either-pick false x y xs ys = inl refl
+  either_pick : (t : Bool) (x y : ℕ) (xs ys : List ℕ) → (first_or n (cond t (y ∷ xs) (x ∷ ys)) ≡ x) ⊎ (first_or n (cond t (y ∷ xs) (x ∷ ys)) ≡ y)
+  either_pick true x y xs ys = inr refl
+  either_pick false x y xs ys = inl refl
 
   first_either : (xs ys : List ℕ) → (first_or n (merge lt xs ys) ≡ first_or n xs) ⊎ (first_or n (merge lt xs ys) ≡ first_or n ys)
   unfolding merge into
   first_either [] ys = inr refl
   first_either (x ∷ xs) [] = inl refl
-  first_either (x ∷ xs) (y ∷ ys) = either-pick (lt y x) x y (into lt x (merge lt xs) ys) (merge lt xs (y ∷ ys))
+  first_either (x ∷ xs) (y ∷ ys) = either_pick (lt y x) x y (into lt x (merge lt xs) ys) (merge lt xs (y ∷ ys))
 
   module _ (a b p : ℕ) (X Y Z : List ℕ) (ab : a ≤ b) (ux : Under a X) (ux' : Under b X) (fy : From a Y) (uy : Under b Y) (fz : From b Z) (pn : p < n)
       (e : p ≡ first_or n (merge lt (merge lt X Y) Z)) where
@@ -68,7 +68,7 @@ module _ (lt : ℕ → ℕ → Bool) (n : ℕ) where
     other : (p ≡ first_or n (merge lt X Y) → ⊥) → adv p (merge lt X Y) ≡ merge lt (adv p X) (adv p Y)
     other q =
         let h : b ≤ p = late q (first_either (merge lt X Y) Z) in
-        adv-other p (merge lt X Y) q ∙ rw (adv-under b p X ux' h, adv-under b p Y uy h)
+        adv_other p (merge lt X Y) q ∙ rw (adv_under b p X ux' h, adv_under b p Y uy h)
 
     inner : (t : Bool) → eqb p (first_or n (merge lt X Y)) ≡ t → adv p (merge lt X Y) ≡ merge lt (adv p X) (adv p Y)
     inner true q = own (eqb-true p (first_or n (merge lt X Y)) q)

@@ -8,7 +8,7 @@ use lib.Dec.{eqb}
 use lib.ListN.{length, get_or, take, drop, take-append-drop}
 use lib.Seq.{slice, take-take, drop-append-le, length-take-le}
 use borrow.Author.Tests.{eq-eqb, ne_eqb}
-use Rattle.line_up.specs.Runs.{zeros, timesIn}
+use Rattle.line_up.specs.Runs.{zeros, times_in}
 use Rattle.line_up.proofs.Merges.{Under, From}
 
 -- ---- their bounds
@@ -46,52 +46,52 @@ length-zeros i (m ∷ ms) = length-choose (eqb m 0) i (length ms) (zeros (suc i)
 
 -- ---- how often a place stands there
 
-pub timesIn-below : (p b : ℕ) (xs : List ℕ) → p < b → From b xs → timesIn p xs ≡ 0
-unfolding timesIn
-timesIn-below p b [] h f = refl
-timesIn-below p b (x ∷ xs) h f = rw (ne_eqb p x (λ e. omega (arith, e, h, f.0))) (omega (arith, timesIn-below p b xs h f.1))
+pub times_in-below : (p b : ℕ) (xs : List ℕ) → p < b → From b xs → times_in p xs ≡ 0
+unfolding times_in
+times_in-below p b [] h f = refl
+times_in-below p b (x ∷ xs) h f = rw (ne_eqb p x (λ e. omega (arith, e, h, f.0))) (omega (arith, times_in-below p b xs h f.1))
 
-timesIn-here : (t : Bool) (i p : ℕ) (xs : List ℕ) → p ≡ i → timesIn p xs ≡ 0 → timesIn p (cond t (i ∷ xs) xs) ≡ cond t 1 0
-unfolding timesIn
-timesIn-here true i p xs e h = rw (eq-eqb p i e, h)
-timesIn-here false i p xs e h = h
+times_in-here : (t : Bool) (i p : ℕ) (xs : List ℕ) → p ≡ i → times_in p xs ≡ 0 → times_in p (cond t (i ∷ xs) xs) ≡ cond t 1 0
+unfolding times_in
+times_in-here true i p xs e h = rw (eq-eqb p i e, h)
+times_in-here false i p xs e h = h
 
-timesIn-past : (t : Bool) (i p : ℕ) (xs : List ℕ) → i < p → timesIn p (cond t (i ∷ xs) xs) ≡ timesIn p xs
-unfolding timesIn
-timesIn-past true i p xs h = rw (ne_eqb p i (λ e. omega (arith, e, h))) (omega arith)
-timesIn-past false i p xs h = refl
+times_in-past : (t : Bool) (i p : ℕ) (xs : List ℕ) → i < p → times_in p (cond t (i ∷ xs) xs) ≡ times_in p xs
+unfolding times_in
+times_in-past true i p xs h = rw (ne_eqb p i (λ e. omega (arith, e, h))) (omega arith)
+times_in-past false i p xs h = refl
 
 -- once if its number is 0, and never otherwise; past the end the number is read as 1
-pub timesIn-zeros : (i j : ℕ) (ms : List ℕ) → timesIn (i + j) (zeros i ms) ≡ cond (eqb (get_or ms j 1) 0) 1 0
-unfolding zeros timesIn
-timesIn-zeros i j [] = refl
-timesIn-zeros i zero (m ∷ ms) =
-    timesIn-here (eqb m 0) i (i + zero) (zeros (suc i) ms) (omega arith)
-    (timesIn-below (i + zero) (suc i) (zeros (suc i) ms) (omega arith) (zeros-from (suc i) ms))
-timesIn-zeros i (suc j) (m ∷ ms) =
-    timesIn-past (eqb m 0) i (i + suc j) (zeros (suc i) ms) (omega arith)
-    ∙ ap (λ (p : ℕ). timesIn p (zeros (suc i) ms)) (let e : i + suc j ≡ suc i + j = omega arith in e)
-    ∙ timesIn-zeros (suc i) j ms
+pub times_in-zeros : (i j : ℕ) (ms : List ℕ) → times_in (i + j) (zeros i ms) ≡ cond (eqb (get_or ms j 1) 0) 1 0
+unfolding zeros times_in
+times_in-zeros i j [] = refl
+times_in-zeros i zero (m ∷ ms) =
+    times_in-here (eqb m 0) i (i + zero) (zeros (suc i) ms) (omega arith)
+    (times_in-below (i + zero) (suc i) (zeros (suc i) ms) (omega arith) (zeros-from (suc i) ms))
+times_in-zeros i (suc j) (m ∷ ms) =
+    times_in-past (eqb m 0) i (i + suc j) (zeros (suc i) ms) (omega arith)
+    ∙ ap (λ (p : ℕ). times_in p (zeros (suc i) ms)) (let e : i + suc j ≡ suc i + j = omega arith in e)
+    ∙ times_in-zeros (suc i) j ms
 
 -- ---- two parts of a list, one after the other
 
-pub timesIn-append : (p : ℕ) (xs ys : List ℕ) → timesIn p (xs ++ ys) ≡ timesIn p xs + timesIn p ys
-unfolding timesIn
-timesIn-append p [] ys = omega arith
-timesIn-append p (x ∷ xs) ys = omega (arith, timesIn-append p xs ys)
+pub times_in-append : (p : ℕ) (xs ys : List ℕ) → times_in p (xs ++ ys) ≡ times_in p xs + times_in p ys
+unfolding times_in
+times_in-append p [] ys = omega arith
+times_in-append p (x ∷ xs) ys = omega (arith, times_in-append p xs ys)
 
-append-choose : (t : Bool) (i : ℕ) (xs ys zs : List ℕ) → xs ≡ ys ++ zs → cond t (i ∷ xs) xs ≡ cond t (i ∷ ys) ys ++ zs
-append-choose true i xs ys zs e = ap (λ (l : List ℕ). i ∷ l) e
-append-choose false i xs ys zs e = e
+append_choose : (t : Bool) (i : ℕ) (xs ys zs : List ℕ) → xs ≡ ys ++ zs → cond t (i ∷ xs) xs ≡ cond t (i ∷ ys) ys ++ zs
+append_choose true i xs ys zs e = ap (λ (l : List ℕ). i ∷ l) e
+append_choose false i xs ys zs e = e
 
 pub zeros-append : (i j : ℕ) (xs ys : List ℕ) → i + length xs ≡ j → zeros i (xs ++ ys) ≡ zeros i xs ++ zeros j ys
 unfolding zeros
 zeros-append i j [] ys h = ap (λ (k : ℕ). zeros k ys) (let e : i ≡ j = omega arith in e)
 zeros-append i j (x ∷ xs) ys h =
-    append-choose (eqb x 0) i (zeros (suc i) (xs ++ ys)) (zeros (suc i) xs) (zeros j ys) (zeros-append (suc i) j xs ys (omega arith))
+    append_choose (eqb x 0) i (zeros (suc i) (xs ++ ys)) (zeros (suc i) xs) (zeros j ys) (zeros-append (suc i) j xs ys (omega arith))
 
-pub slice-split : (f t u : ℕ) (l : List ℕ) → f ≤ t → t ≤ u → u ≤ length l → slice f u l ≡ slice f t l ++ slice t u l
-slice-split f t u l h k m =
+pub slice_split : (f t u : ℕ) (l : List ℕ) → f ≤ t → t ≤ u → u ≤ length l → slice f u l ≡ slice f t l ++ slice t u l
+slice_split f t u l h k m =
     let e : take t (take u l) ≡ take t l = take-take t u l k in
     let d : f ≤ length (take t l) = rw (length-take-le t l (omega arith)) h in
     ap (drop f) (sym (take-append-drop t (take u l)) ∙ ap (λ (x : List ℕ). x ++ drop t (take u l)) e) ∙ drop-append-le f (take t l) (drop t (take u l)) d

@@ -8,7 +8,7 @@ ghost use Rattle.line_up.specs.keep.Asked as N;
 
 // Whether the stamp at place i comes before that at j.
 pub(crate) fn sooner_at(jd1s: &[u8], jd2s: &[u8], i: usize, j: usize) -> bool
-    ensures { result ≡ U.soonerAt jd1s.now jd2s.now i j }
+    ensures { result ≡ U.sooner_at jd1s.now jd2s.now i j }
 {
     let a = julian::stamp_lists::stamp_of(jd1s, jd2s, i);
     let b = julian::stamp_lists::stamp_of(jd1s, jd2s, j);
@@ -36,7 +36,7 @@ fn put_cell(tails: &mut [u8], k: usize, p: usize)
 fn put_tail(tails: &mut [u8], r: usize, i: usize)
     requires r_in_bounds { r ≤ length (C.cells tails.old) }
     requires i_bound { i ≤ 4294967295 }
-    ensures { C.cells tails.new ≡ N.tailPut (C.cells tails.old) r i }
+    ensures { C.cells tails.new ≡ N.tail_put (C.cells tails.old) r i }
 {
     if r > 0 {
         put_cell(tails, r - 1, i);
@@ -64,8 +64,8 @@ fn high_after(sooner: bool, mid: usize, high: usize) -> usize
 
 // How many piles stand before that of the stamp at place i, by halves.
 fn search(jd1s: &[u8], jd2s: &[u8], tails: &[u8], many: usize, i: usize) -> usize
-    requires { N.Searchable (U.soonerAt jd1s.now jd2s.now) (C.cells tails.now) many i }
-    ensures { result ≡ P.pilesBefore (U.soonerAt jd1s.now jd2s.now) i (take many (C.cells tails.now)) }
+    requires { N.Searchable (U.sooner_at jd1s.now jd2s.now) (C.cells tails.now) many i }
+    ensures { result ≡ P.piles_before (U.sooner_at jd1s.now jd2s.now) i (take many (C.cells tails.now)) }
 {
     let mut low: usize = 0;
     let mut high = many;
@@ -81,8 +81,8 @@ fn search(jd1s: &[u8], jd2s: &[u8], tails: &[u8], many: usize, i: usize) -> usiz
 
 // The same, with a look at the last pile first: where stamps rise it is the only one.
 fn piles_before(jd1s: &[u8], jd2s: &[u8], tails: &[u8], many: usize, i: usize) -> usize
-    requires { N.Searchable (U.soonerAt jd1s.now jd2s.now) (C.cells tails.now) many i }
-    ensures { result ≡ P.pilesBefore (U.soonerAt jd1s.now jd2s.now) i (take many (C.cells tails.now)) }
+    requires { N.Searchable (U.sooner_at jd1s.now jd2s.now) (C.cells tails.now) many i }
+    ensures { result ≡ P.piles_before (U.sooner_at jd1s.now jd2s.now) i (take many (C.cells tails.now)) }
 {
     if many == 0 {
         return 0;
@@ -97,8 +97,8 @@ fn piles_before(jd1s: &[u8], jd2s: &[u8], tails: &[u8], many: usize, i: usize) -
 // The pile of the stamp at place i, counted from 1; 0 for one that is refused.
 fn rank(jd1s: &[u8], jd2s: &[u8], number: u8, tails: &[u8], many: usize, i: usize) -> usize
     requires many_bound { many < 18446744073709551615 }
-    requires searchable { number ≡ 0 → N.Searchable (U.soonerAt jd1s.now jd2s.now) (C.cells tails.now) many i }
-    ensures { result ≡ P.rank (U.soonerAt jd1s.now jd2s.now) number i (take many (C.cells tails.now)) }
+    requires searchable { number ≡ 0 → N.Searchable (U.sooner_at jd1s.now jd2s.now) (C.cells tails.now) many i }
+    ensures { result ≡ P.rank (U.sooner_at jd1s.now jd2s.now) number i (take many (C.cells tails.now)) }
 {
     if number == 0 {
         return piles_before(jd1s, jd2s, tails, many, i) + 1;
@@ -126,7 +126,7 @@ fn lay(
     ranks: &mut [u8],
 ) -> usize
     requires { N.LentCells jd1s.now jd2s.now numbers.now from to tails.old ranks.old }
-    ensures { N.Laid (U.soonerAt jd1s.now jd2s.now) numbers.now from to (C.cells ranks.new) result }
+    ensures { N.Laid (U.sooner_at jd1s.now jd2s.now) numbers.now from to (C.cells ranks.new) result }
 {
     let mut many: usize = 0;
     let mut i = from;
@@ -142,7 +142,7 @@ fn lay(
 
 // The number of a stamp of pile r, where one of pile `wanted` is to be kept.
 fn judged(number: u8, r: usize, wanted: usize) -> u8
-    ensures { result ≡ P.numberByPile number r wanted }
+    ensures { result ≡ P.number_by_pile number r wanted }
 {
     if number == 0 {
         if r != wanted {
@@ -153,7 +153,7 @@ fn judged(number: u8, r: usize, wanted: usize) -> u8
 }
 
 fn wanted_before(r: usize, wanted: usize) -> usize
-    ensures { result ≡ P.wantedBefore r wanted }
+    ensures { result ≡ P.wanted_before r wanted }
 {
     if r == wanted {
         if r > 0 {
@@ -166,7 +166,7 @@ fn wanted_before(r: usize, wanted: usize) -> usize
 // Keeps one stamp of each pile, from the last pile back.
 fn judge(numbers: &mut [u8], ranks: &[u8], from: usize, to: usize, many: usize)
     requires { N.Judgeable numbers.old (C.cells ranks.now) from to }
-    ensures { numbers.new ≡ N.runJudged numbers.old (C.cells ranks.now) from to many }
+    ensures { numbers.new ≡ N.run_judged numbers.old (C.cells ranks.now) from to many }
 {
     let mut wanted = many;
     let mut i = to;
@@ -190,7 +190,7 @@ pub(crate) fn keep_most(
     ranks: &mut [u8],
 )
     requires { N.Lent jd1s.now jd2s.now numbers.old from to tails.old ranks.old }
-    ensures { numbers.new ≡ P.runKept (U.soonerAt jd1s.now jd2s.now) numbers.old from to }
+    ensures { numbers.new ≡ P.run_kept (U.sooner_at jd1s.now jd2s.now) numbers.old from to }
 {
     let many = lay(jd1s, jd2s, numbers, from, to, tails, ranks);
     judge(numbers, ranks, from, to, many);

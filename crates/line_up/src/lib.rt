@@ -15,7 +15,7 @@ pub enum LineUpAnswer {
 
 // The number of the stamp at place i: 9 where it comes in with 0 and has no place in the order, as a NaN has none.
 fn tested(jd1s: &[u8], jd2s: &[u8], number: u8, i: usize) -> u8
-    ensures { result ≡ R.tested (U.unorderedAt jd1s.now jd2s.now) number i }
+    ensures { result ≡ R.tested (U.unordered_at jd1s.now jd2s.now) number i }
 {
     if number == 0 {
         if !julian::order::has_place(julian::stamp_lists::stamp_of(jd1s, jd2s, i)) {
@@ -27,7 +27,7 @@ fn tested(jd1s: &[u8], jd2s: &[u8], number: u8, i: usize) -> u8
 
 // Refuses each unordered stamp that nothing refused before.
 fn refuse_unordered(jd1s: &[u8], jd2s: &[u8], numbers: &mut [u8])
-    ensures { numbers.new ≡ R.allTested (U.unorderedAt jd1s.now jd2s.now) 0 numbers.old }
+    ensures { numbers.new ≡ R.all_tested (U.unordered_at jd1s.now jd2s.now) 0 numbers.old }
 {
     let n = numbers.len();
     let mut i = 0;
@@ -41,7 +41,7 @@ fn refuse_unordered(jd1s: &[u8], jd2s: &[u8], numbers: &mut [u8])
 // The first accepted place from `from` up to `to`, or the length.
 fn next_accepted(numbers: &[u8], from: usize, to: usize) -> usize
     requires { to ≤ length numbers.now }
-    ensures { result ≡ R.first_or (length numbers.now) (R.acceptedIn numbers.now from to) }
+    ensures { result ≡ R.first_or (length numbers.now) (R.accepted_in numbers.now from to) }
 {
     let mut i = from;
     while i < to {
@@ -57,7 +57,7 @@ fn next_accepted(numbers: &[u8], from: usize, to: usize) -> usize
 fn advance(numbers: &[u8], to: usize, p: usize, x: usize) -> usize
     requires to_in_bounds { to ≤ length numbers.now }
     requires p_in_bounds { p < length numbers.now }
-    ensures { result ≡ R.cursorAfter numbers.now to p x }
+    ensures { result ≡ R.cursor_after numbers.now to p x }
 {
     if p == x {
         return next_accepted(numbers, p + 1, to);
@@ -67,7 +67,7 @@ fn advance(numbers: &[u8], to: usize, p: usize, x: usize) -> usize
 
 // Of two places the one that goes first; n is no place.
 fn pick(jd1s: &[u8], jd2s: &[u8], n: usize, x: usize, y: usize) -> usize
-    ensures { result ≡ R.pick (U.soonerAt jd1s.now jd2s.now) n x y }
+    ensures { result ≡ R.pick (U.sooner_at jd1s.now jd2s.now) n x y }
 {
     if n <= y {
         return x;
@@ -82,7 +82,7 @@ fn pick(jd1s: &[u8], jd2s: &[u8], n: usize, x: usize, y: usize) -> usize
 }
 
 fn pick_of_three(jd1s: &[u8], jd2s: &[u8], n: usize, x: usize, y: usize, z: usize) -> usize
-    ensures { result ≡ R.pick (U.soonerAt jd1s.now jd2s.now) n (R.pick (U.soonerAt jd1s.now jd2s.now) n x y) z }
+    ensures { result ≡ R.pick (U.sooner_at jd1s.now jd2s.now) n (R.pick (U.sooner_at jd1s.now jd2s.now) n x y) z }
 {
     let q = pick(jd1s, jd2s, n, x, y);
     pick(jd1s, jd2s, n, q, z)
@@ -98,7 +98,7 @@ fn merge(
     out: &mut [u8],
 ) -> usize
     requires { N.Mergeable numbers.now end1 end2 out.old }
-    ensures { N.Merged (U.soonerAt jd1s.now jd2s.now) numbers.now end1 end2 out.old out.new result }
+    ensures { N.Merged (U.sooner_at jd1s.now jd2s.now) numbers.now end1 end2 out.old out.new result }
 {
     let n = numbers.len();
     let mut x = next_accepted(numbers, 0, end1);
@@ -119,7 +119,7 @@ fn merge(
 
 // Whether a slice of so many bytes has eight for each of n stamps.
 fn eight_each(size: usize, n: usize) -> bool
-    ensures { result ≡ U.eightEach size n }
+    ensures { result ≡ U.eight_each size n }
 {
     size / 8 == n
 }
@@ -142,7 +142,7 @@ fn line_refusal(
     second: usize,
     room: usize,
 ) -> u32
-    ensures { result ≡ U.lineRefusal size1 size2 n first second room }
+    ensures { result ≡ U.line_refusal size1 size2 n first second room }
 {
     if size1 % 8 != 0 {
         return refusals::LENGTH_WRONG;
@@ -186,7 +186,7 @@ pub fn line_up(
     tails: &mut [u8],
     ranks: &mut [u8],
 ) -> LineUpAnswer
-    ensures { U.result result numbers.new out.new ≡ U.linedUp jd1s.now jd2s.now numbers.old first
+    ensures { U.result result numbers.new out.new ≡ U.lined_up jd1s.now jd2s.now numbers.old first
         second out.old (length tails.old) (length ranks.old) }
 {
     let n = numbers.len();

@@ -1,7 +1,7 @@
 // Numbers of four and eight bytes, the lowest byte first.
 ghost use Rattle.std.specs.Prelude.{◌≡◌, ◌+◌, ◌*◌, ◌≤◌, ◌<◌, length};
-ghost use Rattle.numerals.specs.little_endian.LittleEndian.{fourAt, u32_at, u64At, eightBytes, withU64, withU32, withNth32, withNth64, patternOf};
-ghost use Rattle.numerals.specs.little_endian.LittleEndian.{signed_of, signed32, i32At};
+ghost use Rattle.numerals.specs.little_endian.LittleEndian.{four_at, u32_at, u64_at, eight_bytes, with_u64, with_u32, with_nth32, with_nth64, pattern_of};
+ghost use Rattle.numerals.specs.little_endian.LittleEndian.{signed_of, signed32, i32_at};
 
 fn wide(x: u8) -> u64
     ensures { (result ≡ x) × (result < 256) }
@@ -11,7 +11,7 @@ fn wide(x: u8) -> u64
 
 fn four_at(s: &[u8], at: usize) -> u64
     requires { at + 4 ≤ length s.now }
-    ensures { (result ≡ fourAt s.now at) × (result < 4294967296) }
+    ensures { (result ≡ four_at s.now at) × (result < 4294967296) }
 {
     let a = wide(s[at]);
     let b = wide(s[at + 1]);
@@ -35,7 +35,7 @@ pub fn u32_at(s: &[u8], at: usize) -> u32
 
 // The number in the eight bytes from `at` on; 0 where they are not all there.
 pub fn u64_at(s: &[u8], at: usize) -> u64
-    ensures { result ≡ u64At s.now at }
+    ensures { result ≡ u64_at s.now at }
 {
     if s.len() < 8 {
         return 0;
@@ -48,7 +48,7 @@ pub fn u64_at(s: &[u8], at: usize) -> u64
 
 // The eight bytes of a number.
 pub fn bytes_of_u64(n: u64) -> [u8; 8]
-    ensures { result ≡ eightBytes n }
+    ensures { result ≡ eight_bytes n }
 {
     [
         (n % 256) as u8,
@@ -64,7 +64,7 @@ pub fn bytes_of_u64(n: u64) -> [u8; 8]
 
 // The eight bytes of a number at the start of a lent slice; where they do not all fit, nothing is written. On a part of eight bytes the test costs nothing.
 pub fn put_u64(out: &mut [u8], n: u64)
-    ensures { out.new ≡ withU64 out.old n }
+    ensures { out.new ≡ with_u64 out.old n }
 {
     if out.len() < 8 {
         return;
@@ -82,7 +82,7 @@ pub fn put_u64(out: &mut [u8], n: u64)
 
 // The four bytes of a number at the start of a lent slice; where they do not all fit, nothing is written.
 pub fn put_u32(out: &mut [u8], n: u32)
-    ensures { out.new ≡ withU32 out.old n }
+    ensures { out.new ≡ with_u32 out.old n }
 {
     if out.len() < 4 {
         return;
@@ -95,7 +95,7 @@ pub fn put_u32(out: &mut [u8], n: u32)
 
 // Number i of a list of numbers of eight bytes; 0 where the list does not have it. Read from a part of eight bytes, it needs no further test.
 pub fn nth_u64(s: &[u8], i: usize) -> u64
-    ensures { result ≡ u64At s.now (8 * i) }
+    ensures { result ≡ u64_at s.now (8 * i) }
 {
     if i >= s.len() / 8 {
         return 0;
@@ -119,7 +119,7 @@ pub fn nth_u32(s: &[u8], i: usize) -> u32
 
 // A number of eight bytes in place i of a list of such; where the list does not have the place, nothing is written.
 pub fn put_nth_u64(out: &mut [u8], i: usize, n: u64)
-    ensures { out.new ≡ withNth64 out.old i n }
+    ensures { out.new ≡ with_nth64 out.old i n }
 {
     if i >= out.len() / 8 {
         return;
@@ -131,7 +131,7 @@ pub fn put_nth_u64(out: &mut [u8], i: usize, n: u64)
 
 // The same of a number of four bytes.
 pub fn put_nth_u32(out: &mut [u8], i: usize, n: u32)
-    ensures { out.new ≡ withNth32 out.old i n }
+    ensures { out.new ≡ with_nth32 out.old i n }
 {
     if i >= out.len() / 4 {
         return;
@@ -143,7 +143,7 @@ pub fn put_nth_u32(out: &mut [u8], i: usize, n: u32)
 
 // The pattern of a signed number in two's complement.
 pub fn pattern_of_i64(n: i64) -> u64
-    ensures { result ≡ patternOf n }
+    ensures { result ≡ pattern_of n }
 {
     if n < 0 {
         return 0xffff_ffff_ffff_ffff - (-1 - n) as u64;
@@ -173,7 +173,7 @@ pub fn i32_of_pattern(n: u32) -> i32
 
 // The signed number in the four bytes from `at` on; 0 where they are not all there.
 pub fn i32_at(s: &[u8], at: usize) -> i32
-    ensures { result ≡ i32At s.now at }
+    ensures { result ≡ i32_at s.now at }
 {
     i32_of_pattern(u32_at(s, at))
 }

@@ -11,18 +11,18 @@ use lib.Dec.{lit<, lit≤}
 use lib.IntN.{pos}
 use lib.Ieee.{Float, binary64, of_int, round, div, nan}
 use Rattle.rounding.specs.Value.{Val, Rounds, Signed}
-use Rattle.rounding.proofs.Value.{div-rounds}
-use Rattle.rounding.proofs.Casts.{ofInt-val}
+use Rattle.rounding.proofs.Value.{div_rounds}
+use Rattle.rounding.proofs.Casts.{of_int_val}
 use Rattle.constants.specs.Constants.{decimal}
 use Rattle.parsing.specs.Judging.{quotient}
 
 -- f p, f (p + 1), .. : k values
-unfoldable pub valuesFrom : (ℕ → Float) → ℕ → ℕ → List Float
-valuesFrom f p zero = []
-valuesFrom f p (suc k) = f p ∷ valuesFrom f (suc p) k
+unfoldable pub values_from : (ℕ → Float) → ℕ → ℕ → List Float
+values_from f p zero = []
+values_from f p (suc k) = f p ∷ values_from f (suc p) k
 
-pub value-at : (f : ℕ → Float) (k p i : ℕ) (d : Float) → i < k → get_or (valuesFrom f p k) i d ≡ f (p + i)
-unfolding valuesFrom
+pub value-at : (f : ℕ → Float) (k p i : ℕ) (d : Float) → i < k → get_or (values_from f p k) i d ≡ f (p + i)
+unfolding values_from
 value-at f zero p i d h = absurd (let z : ⊥ = omega arith in z)
 value-at f (suc k) p zero d h = ap f (sym (add-zero p))
 value-at f (suc k) p (suc i) d h = value-at f k (suc p) i d (omega arith) ∙ ap f (let e : suc p + i ≡ p + suc i = omega arith in e)
@@ -31,8 +31,8 @@ unfoldable pub power : ℕ → Float
 power p = decimal (10 ^ p) 0
 
 -- a whole number of zero parts: the quotient's zero has no sign
-zeros : valuesFrom (quotient 0) 0 14 ≡ valuesFrom (decimal 0) 0 14
-unfolding valuesFrom quotient div of_int round
+zeros : values_from (quotient 0) 0 14 ≡ values_from (decimal 0) 0 14
+unfolding values_from quotient div of_int round
 zeros = refl
 
 none : (places : ℕ) → places ≤ 13 → quotient 0 places ≡ decimal 0 places
@@ -43,7 +43,7 @@ none places h =
 -- a power of ten up to 10 ^ 13 is a float
 power-val : (places : ℕ) → places ≤ 13 → Val (decimal (10 ^ places) 0) (10 ^ places) 0 1
 unfolding of_int
-power-val places h = ofInt-val (pos (10 ^ places)) (le_trans (pow-le-pow_right {n = 10} (omega arith) h) (lit≤ tt)) (omega arith)
+power-val places h = of_int_val (pos (10 ^ places)) (le_trans (pow-le-pow_right {n = 10} (omega arith) h) (lit≤ tt)) (omega arith)
 
 some : (whole places : ℕ) → 0 < whole → Rounds binary64 (quotient whole places) (whole * 1) (0 * 1) (1 * 10 ^ places)
     → quotient whole places ≡ decimal whole places
@@ -60,5 +60,5 @@ unfolding quotient
 one-division zero places w h = none places h
 one-division (suc n) places w h =
     some (suc n) places (omega arith)
-    (div-rounds binary64 (lit< tt) (lit< tt) (pow-le-pow_right {n = 10} (omega arith) {i = 0} {j = places} (omega arith))
-    (ofInt-val (pos (suc n)) (omega arith) (omega arith)) (power-val places h))
+    (div_rounds binary64 (lit< tt) (lit< tt) (pow-le-pow_right {n = 10} (omega arith) {i = 0} {j = places} (omega arith))
+    (of_int_val (pos (suc n)) (omega arith) (omega arith)) (power-val places h))

@@ -65,10 +65,10 @@ pub record Reads (utc : Bool) (t : List ℕ) (w : Written) : Type 0 where
   pub fraction : Fraction pieces.fraction pieces.digits
   pub zone : Zone utc pieces.zone w.zulu
   pub after : AllBlank pieces.after
-  pub year-is : w.year ≡ number pieces.year
-  pub month-is : w.month ≡ number pieces.month
-  pub day-is : w.day ≡ number pieces.day
-  pub hour-is : w.hour ≡ number pieces.hour
-  pub minute-is : w.minute ≡ number pieces.minute
+  pub year_is : w.year ≡ number pieces.year
+  pub month_is : w.month ≡ number pieces.month
+  pub day_is : w.day ≡ number pieces.day
+  pub hour_is : w.hour ≡ number pieces.hour
+  pub minute_is : w.minute ≡ number pieces.minute
   pub whole_is : w.whole ≡ number (pieces.second ++ pieces.digits)
   pub places_is : w.places ≡ length pieces.digits

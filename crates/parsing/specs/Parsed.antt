@@ -4,11 +4,11 @@
 use Rattle.std.specs.Prelude.{ℕ, ◌*◌, ◌^◌, List, Bool, true, cond, ◌&&◌, leb, ltb, pos}
 use Rattle.refusals.specs.Outcome.{Outcome, answer, refusal, onward}
 use Rattle.constants.specs.Constants.{decimal}
-use Rattle.calendar.specs.Refusals.{validDate}
+use Rattle.calendar.specs.Refusals.{valid_date}
 use Rattle.julian.specs.declared.JulianDate.{JulianDate}
-use Rattle.julian.specs.Calendar.{fromCalendar}
+use Rattle.julian.specs.Calendar.{from_calendar}
 use Rattle.leap_table.specs.rows.Table.{Row}
-use Rattle.utc.specs.FromCalendar.{utcFromCalendar}
+use Rattle.utc.specs.FromCalendar.{utc_from_calendar}
 use Rattle.parsing.specs.declared.ParsedDateTime.{ParsedDateTime}
 use Rattle.parsing.specs.declared.ParsedUtc.{ParsedUtc}
 use Rattle.parsing.specs.declared.ParsedAnswer.{ParsedAnswer}
@@ -19,27 +19,27 @@ use Rattle.parsing.specs.scan.Written.{Written}
 use Rattle.parsing.specs.scan.Form.{form_of}
 
 -- document 01's answer for each enum: the fields, or a refusal number
-unfoldable pub parsedOutcome : ParsedAnswer → Outcome ParsedDateTime
-parsedOutcome (Plain.Fields f) = answer f
-parsedOutcome (Plain.Refused n) = refusal n
+unfoldable pub parsed_outcome : ParsedAnswer → Outcome ParsedDateTime
+parsed_outcome (Plain.Fields f) = answer f
+parsed_outcome (Plain.Refused n) = refusal n
 
-unfoldable pub parsedUtcOutcome : ParsedUtcAnswer → Outcome ParsedUtc
-parsedUtcOutcome (Utc.Read r) = answer r
-parsedUtcOutcome (Utc.Refused n) = refusal n
+unfoldable pub parsed_utc_outcome : ParsedUtcAnswer → Outcome ParsedUtc
+parsed_utc_outcome (Utc.Read r) = answer r
+parsed_utc_outcome (Utc.Refused n) = refusal n
 
 -- the fields of what was written; the second is the float nearest to the decimal
 abbrev pub fields_of : Written → ParsedDateTime
 fields_of w = record { year = pos w.year; month = w.month; day = w.day; hour = w.hour; minute = w.minute; second = decimal w.whole w.places }
 
 -- hour 0 to 23, minute 0 to 59, second below 61
-unfoldable pub timeFits : Written → Bool
-timeFits w = leb w.hour 23 && (leb w.minute 59 && ltb w.whole (61 * 10 ^ w.places))
+unfoldable pub time_fits : Written → Bool
+time_fits w = leb w.hour 23 && (leb w.minute 59 && ltb w.whole (61 * 10 ^ w.places))
 
 -- 16 for more than 13 digits of a fraction, then the date's number, then 4
 unfoldable pub judged : Written → Outcome ParsedDateTime
 judged w =
     cond (leb w.places 13)
-    (onward (validDate (pos w.year) (pos w.month) (pos w.day)) (λ _. cond (timeFits w) (answer (fields_of w)) (refusal 4)))
+    (onward (valid_date (pos w.year) (pos w.month) (pos w.day)) (λ _. cond (time_fits w) (answer (fields_of w)) (refusal 4)))
     (refusal 16)
 
 -- 15 first
@@ -47,15 +47,15 @@ unfoldable pub parsed : Bool → List ℕ → Outcome ParsedDateTime
 parsed utc t = onward (form_of utc t) judged
 
 -- the Julian date of some fields, by `from_calendar`: the Rust's `to_julian_date`
-unfoldable pub toJulianDate : ParsedDateTime → Outcome JulianDate
-toJulianDate p = fromCalendar p.year p.month p.day p.hour p.minute p.second
+unfoldable pub to_julian_date : ParsedDateTime → Outcome JulianDate
+to_julian_date p = from_calendar p.year p.month p.day p.hour p.minute p.second
 
 -- the UTC date of some fields, in a table of rows, beside them
 unfoldable pub dated : List Row → ParsedDateTime → Outcome ParsedUtc
 dated rows p =
-    onward (utcFromCalendar rows p.year p.month p.day p.hour p.minute p.second)
+    onward (utc_from_calendar rows p.year p.month p.day p.hour p.minute p.second)
     (λ jd. answer (record { fields = p; date = record { 0 = jd } }))
 
 -- a text of UTC names what `utc_from_calendar` accepts
-unfoldable pub parsedUtc : List Row → List ℕ → Outcome ParsedUtc
-parsedUtc rows t = onward (parsed true t) (dated rows)
+unfoldable pub parsed_utc : List Row → List ℕ → Outcome ParsedUtc
+parsed_utc rows t = onward (parsed true t) (dated rows)

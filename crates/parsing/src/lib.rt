@@ -1,11 +1,11 @@
 // ISO 8601 text read: its six fields, and of UTC text the date. From parsing/mod.rs, and `FromStr` of scales/utc/mod.rs, with a byte slice in place of a
 // string.
 ghost use Rattle.std.specs.Prelude.{◌≡◌, true, false, ◌≤◌};
-ghost use Rattle.julian.specs.JulianDate.{julianOutcome};
+ghost use Rattle.julian.specs.JulianDate.{julian_outcome};
 ghost use Rattle.refusals.specs.Outcome.{onward};
-ghost use Rattle.leap_table.specs.rows.Announced.{rowsIn, table_of};
-ghost use Rattle.parsing.specs.Parsed.{parsedOutcome, parsedUtcOutcome, parsed, toJulianDate, dated as dated·of, parsedUtc};
-ghost use Rattle.parsing.specs.Judging.{timeIn, quotient, judgedForm};
+ghost use Rattle.leap_table.specs.rows.Announced.{rows_in, table_of};
+ghost use Rattle.parsing.specs.Parsed.{parsed_outcome, parsed_utc_outcome, parsed, to_julian_date, dated as dated·of, parsed_utc};
+ghost use Rattle.parsing.specs.Judging.{time_in, quotient, judged_form};
 
 use crate::scan::{Form, Scanned};
 use calendar::DateCheck;
@@ -74,7 +74,7 @@ fn second_of(whole: u64, places: usize) -> f64
 
 // Second 60 may stand in any minute: whether its day has it is not asked here.
 fn time_in(form: Form) -> bool
-    ensures { result ≡ timeIn form }
+    ensures { result ≡ time_in form }
 {
     if form.hour > 23 {
         return false;
@@ -88,7 +88,7 @@ fn time_in(form: Form) -> bool
 // Refusals in order: 16 the digits of the fraction, 2 and 3 the date, 4 the time.
 fn judged(form: Form) -> ParsedAnswer
     requires { form.whole ≤ 1000000000000000 }
-    ensures { parsedOutcome result ≡ judgedForm form }
+    ensures { parsed_outcome result ≡ judged_form form }
 {
     if form.places > 13 {
         return ParsedAnswer::Refused(refusals::TOO_MANY_FRACTION_DIGITS);
@@ -112,7 +112,7 @@ fn judged(form: Form) -> ParsedAnswer
 }
 
 fn parse(text: &[u8], utc: bool) -> ParsedAnswer
-    ensures { parsedOutcome result ≡ parsed utc text.now }
+    ensures { parsed_outcome result ≡ parsed utc text.now }
 {
     match crate::scan::scan(text, utc) {
         Scanned::Outside => ParsedAnswer::Refused(refusals::TEXT_OUTSIDE_GRAMMAR),
@@ -122,7 +122,7 @@ fn parse(text: &[u8], utc: bool) -> ParsedAnswer
 
 // The fields of a text of any scale but UTC: a Z is outside the grammar. Refusals in order: 15 the text, 16 its fraction, 2 the month, 3 the day, 4 the time.
 pub fn parse_iso8601(text: &[u8]) -> ParsedAnswer
-    ensures { parsedOutcome result ≡ parsed false text.now }
+    ensures { parsed_outcome result ≡ parsed false text.now }
 {
     parse(text, false)
 }
@@ -135,7 +135,7 @@ pub fn from_str_by_arrays<'a>(
     months: &'a [i32; 16],
     seconds: &'a [i32; 16],
 ) -> ParsedUtcAnswer
-    ensures { parsedUtcOutcome result ≡ parsedUtc (rowsIn size months.now seconds.now) text.now }
+    ensures { parsed_utc_outcome result ≡ parsed_utc (rows_in size months.now seconds.now) text.now }
 {
     match parse(text, true) {
         ParsedAnswer::Refused(number) => ParsedUtcAnswer::Refused(number),
@@ -146,7 +146,7 @@ pub fn from_str_by_arrays<'a>(
 // The fields of a UTC text and the date that they name. Refusals in order: 20 to 22 the table, 15 the text, 16 its fraction, 2 the month, 3 the day, 4 the
 // time, which goes by the length of the day's last minute.
 pub fn from_str(text: &[u8], table: AnnouncedRows) -> ParsedUtcAnswer
-    ensures { parsedUtcOutcome result ≡ onward (table_of table) (λ rows. parsedUtc rows text.now) }
+    ensures { parsed_utc_outcome result ≡ onward (table_of table) (λ rows. parsed_utc rows text.now) }
 {
     let number = leap_table::rows::table_refusal(table);
     if number != 0 {
@@ -166,7 +166,7 @@ fn dated<'a>(
     months: &'a [i32; 16],
     seconds: &'a [i32; 16],
 ) -> ParsedUtcAnswer
-    ensures { parsedUtcOutcome result ≡ dated·of (rowsIn size months.now seconds.now) fields }
+    ensures { parsed_utc_outcome result ≡ dated·of (rows_in size months.now seconds.now) fields }
 {
     match utc::utc_from_calendar_by_arrays(
         fields.year,
@@ -187,7 +187,7 @@ fn dated<'a>(
 impl ParsedDateTime {
     // The date of the fields by `from_calendar`, for a scale whose minutes all have 60 seconds: second 60 is 4.
     pub fn to_julian_date(self) -> JulianAnswer
-        ensures { julianOutcome result ≡ toJulianDate self }
+        ensures { julian_outcome result ≡ to_julian_date self }
     {
         JulianDate::from_calendar(
             self.year,

@@ -1,8 +1,8 @@
 // One scan through a text.
 ghost use Rattle.std.specs.Prelude.{◌≡◌, cond, ◌+◌, ◌≤◌, length, drop, get_or};
-ghost use Rattle.numerals.specs.digits.Decimal.{isDigit};
-ghost use Rattle.parsing.specs.scan.Form.{isBlank, afterBlanks, twoDigits, digitSays, twoSay, dateRight, isSeparator, timeRight, zuluFirst, endRight};
-ghost use Rattle.parsing.specs.scan.Scan.{pairsAt, joined as joined·of, DigitsRun, FractionRun, formBy, scannedOutcome, scanOf};
+ghost use Rattle.numerals.specs.digits.Decimal.{is_digit};
+ghost use Rattle.parsing.specs.scan.Form.{is_blank, after_blanks, two_digits, digit_says, two_say, date_right, is_separator, time_right, zulu_first, end_right};
+ghost use Rattle.parsing.specs.scan.Scan.{pairs_at, joined as joined·of, DigitsRun, FractionRun, form_by, scanned_outcome, scan_of};
 
 // What a text of the right form says. The second is `whole` over 10^places where there are at most 13 places; `second` is its whole part.
 #[derive(Drop)]
@@ -32,7 +32,7 @@ pub struct Run {
 }
 
 fn blank(c: u8) -> bool
-    ensures { result ≡ isBlank c }
+    ensures { result ≡ is_blank c }
 {
     if c == 32 {
         return true;
@@ -46,7 +46,7 @@ fn blank(c: u8) -> bool
 // The index of the first byte from `at` on that is no blank.
 fn blanks_end(text: &[u8], at: usize) -> usize
     requires { at ≤ length text.now }
-    ensures { (result ≤ length text.now) × (drop result text.now ≡ afterBlanks (drop at text.now)) }
+    ensures { (result ≤ length text.now) × (drop result text.now ≡ after_blanks (drop at text.now)) }
 {
     let mut i = at;
     while i < text.len() {
@@ -59,7 +59,7 @@ fn blanks_end(text: &[u8], at: usize) -> usize
 }
 
 fn digit(c: u8) -> bool
-    ensures { result ≡ isDigit c }
+    ensures { result ≡ is_digit c }
 {
     if c < 48 {
         return false;
@@ -68,7 +68,7 @@ fn digit(c: u8) -> bool
 }
 
 fn two_digits(a: u8, b: u8) -> bool
-    ensures { result ≡ twoDigits a b }
+    ensures { result ≡ two_digits a b }
 {
     if !digit(a) {
         return false;
@@ -78,7 +78,7 @@ fn two_digits(a: u8, b: u8) -> bool
 
 // The number that a digit says; 0 for any other byte.
 fn worth(c: u8) -> u8
-    ensures { (result ≡ digitSays c) × (result ≤ 9) }
+    ensures { (result ≡ digit_says c) × (result ≤ 9) }
 {
     if digit(c) {
         return c - 48;
@@ -87,7 +87,7 @@ fn worth(c: u8) -> u8
 }
 
 fn two(a: u8, b: u8) -> u8
-    ensures { (result ≡ twoSay a b) × (result ≤ 99) }
+    ensures { (result ≡ two_say a b) × (result ≤ 99) }
 {
     10 * worth(a) + worth(b)
 }
@@ -95,7 +95,7 @@ fn two(a: u8, b: u8) -> u8
 // Three numbers of two digits with a mark between them: a date but for the first two digits of its year, and a time.
 fn pairs_right(text: &[u8], at: usize, mark: u8) -> bool
     requires { at + 8 ≤ length text.now }
-    ensures { result ≡ pairsAt mark text.now at }
+    ensures { result ≡ pairs_at mark text.now at }
 {
     if !two_digits(text[at], text[at + 1]) {
         return false;
@@ -115,7 +115,7 @@ fn pairs_right(text: &[u8], at: usize, mark: u8) -> bool
 // YYYY-MM-DD
 fn date_right(text: &[u8], at: usize) -> bool
     requires { at + 19 ≤ length text.now }
-    ensures { result ≡ dateRight (drop at text.now) }
+    ensures { result ≡ date_right (drop at text.now) }
 {
     if !two_digits(text[at], text[at + 1]) {
         return false;
@@ -125,7 +125,7 @@ fn date_right(text: &[u8], at: usize) -> bool
 
 // Between date and time.
 fn separator(c: u8) -> bool
-    ensures { result ≡ isSeparator c }
+    ensures { result ≡ is_separator c }
 {
     if c == b'T' {
         return true;
@@ -136,7 +136,7 @@ fn separator(c: u8) -> bool
 // Thh:mm:ss
 fn time_right(text: &[u8], at: usize) -> bool
     requires { at + 19 ≤ length text.now }
-    ensures { result ≡ timeRight (drop at text.now) }
+    ensures { result ≡ time_right (drop at text.now) }
 {
     if !separator(text[at + 10]) {
         return false;
@@ -214,7 +214,7 @@ fn fraction(text: &[u8], at: usize, second: u8) -> Run
 fn zone_end(text: &[u8], at: usize, utc: bool) -> usize
     requires { at ≤ length text.now }
     ensures { (result ≤ length text.now)
-        × (drop result text.now ≡ cond (zuluFirst utc (drop at text.now)) (drop 1 (drop at text.now))
+        × (drop result text.now ≡ cond (zulu_first utc (drop at text.now)) (drop 1 (drop at text.now))
         (drop at text.now)) }
 {
     if !utc {
@@ -229,14 +229,14 @@ fn zone_end(text: &[u8], at: usize, utc: bool) -> usize
 // Nothing but a zone and blanks from `at` on.
 fn end_right(text: &[u8], at: usize, utc: bool) -> bool
     requires { at ≤ length text.now }
-    ensures { result ≡ endRight utc (drop at text.now) }
+    ensures { result ≡ end_right utc (drop at text.now) }
 {
     blanks_end(text, zone_end(text, at, utc)) == text.len()
 }
 
 fn form_at(text: &[u8], at: usize, whole: u64, places: usize) -> Form
     requires { at + 19 ≤ length text.now }
-    ensures { result ≡ formBy (drop at text.now) whole places }
+    ensures { result ≡ form_by (drop at text.now) whole places }
 {
     Form {
         year: 100 * two(text[at], text[at + 1]) as u16 + two(text[at + 2], text[at + 3]) as u16,
@@ -252,7 +252,7 @@ fn form_at(text: &[u8], at: usize, whole: u64, places: usize) -> Form
 
 // What the text says, where it has the right form.
 pub fn scan(text: &[u8], utc: bool) -> Scanned
-    ensures { scannedOutcome result ≡ scanOf utc text.now }
+    ensures { scanned_outcome result ≡ scan_of utc text.now }
 {
     let at = blanks_end(text, 0);
     if text.len() - at < 19 {

@@ -6,7 +6,7 @@ use mathlib.Core.List.{List, [], ◌∷◌, ◌++◌, append_assoc}
 use mathlib.Core.Bool.{Bool, true, false}
 use Rattle.parsing.specs.scan.Written.{Written}
 use Rattle.parsing.specs.Grammar.{AllBlank, Zone, plain, zulu, Pieces, text_of, Reads}
-use Rattle.parsing.specs.Parsed.{timeFits, judged, parsed}
+use Rattle.parsing.specs.Parsed.{time_fits, judged, parsed}
 use Rattle.parsing_laws.proofs.Ladder.{read-judged}
 
 -- ---- blanks
@@ -55,11 +55,11 @@ module _ (utc : Bool) (t : List ℕ) (w : Written) (r : Reads utc t w) (b a : Li
     fraction = r.fraction;
     zone = r.zone;
     after = all-blank p.after a r.after after;
-    year-is = r.year-is;
-    month-is = r.month-is;
-    day-is = r.day-is;
-    hour-is = r.hour-is;
-    minute-is = r.minute-is;
+    year_is = r.year_is;
+    month_is = r.month_is;
+    day_is = r.day_is;
+    hour_is = r.hour_is;
+    minute_is = r.minute_is;
     whole_is = r.whole_is;
     places_is = r.places_is;
   }
@@ -68,12 +68,12 @@ module _ (utc : Bool) (t : List ℕ) (w : Written) (r : Reads utc t w) (b a : Li
   same-around = read-judged utc (b ++ (t ++ a)) w blanks-around ∙ sym (read-judged utc t w r)
 
 -- ---- a Z
-pub withZulu : Written → Written
-withZulu w = record { year = w.year; month = w.month; day = w.day; hour = w.hour; minute = w.minute; whole = w.whole; places = w.places; zulu = true }
+pub with_zulu : Written → Written
+with_zulu w = record { year = w.year; month = w.month; day = w.day; hour = w.hour; minute = w.minute; whole = w.whole; places = w.places; zulu = true }
 
-no-zone : {utc : Bool} {z : List ℕ} {b : Bool} → Zone utc z b → b ≡ false → z ≡ []
-no-zone plain e = refl
-no-zone (zulu u) e = let k : ◌≡◌ {A = ℕ} 0 1 = cc in absurd (let n : ⊥ = omega arith in n)
+no_zone : {utc : Bool} {z : List ℕ} {b : Bool} → Zone utc z b → b ≡ false → z ≡ []
+no_zone plain e = refl
+no_zone (zulu u) e = let k : ◌≡◌ {A = ℕ} 0 1 = cc in absurd (let n : ⊥ = omega arith in n)
 
 -- a UTC text that ends with its second
 module _ (t : List ℕ) (w : Written) (r : Reads true t w) (none : w.zulu ≡ false) (ends : r.pieces.after ≡ []) where
@@ -116,14 +116,14 @@ module _ (t : List ℕ) (w : Written) (r : Reads true t w) (none : w.zulu ≡ fa
   unfolding bare
   is-bare = λ i. q.before ++ (q.year
       ++ (45 ∷ (q.month ++ (45 ∷ (q.day
-      ++ (q.separator ∷ (q.hour ++ (58 ∷ (q.minute ++ (58 ∷ (q.second ++ (q.fraction ++ (no-zone r.zone none i ++ ends i)))))))))))))
+      ++ (q.separator ∷ (q.hour ++ (58 ∷ (q.minute ++ (58 ∷ (q.second ++ (q.fraction ++ (no_zone r.zone none i ++ ends i)))))))))))))
 
   joined-z : text_of bare ++ (90 ∷ []) ≡ text_of marked
   unfolding bare marked
   joined-z = simp append_assoc
 
-  pub zulu-read : Reads true (t ++ (90 ∷ [])) (withZulu w)
-  unfolding marked withZulu AllBlank
+  pub zulu-read : Reads true (t ++ (90 ∷ [])) (with_zulu w)
+  unfolding marked with_zulu AllBlank
   zulu-read = record {
     pieces = marked;
     is = ap (λ (l : List ℕ). l ++ (90 ∷ [])) (r.is ∙ is-bare) ∙ joined-z;
@@ -138,26 +138,26 @@ module _ (t : List ℕ) (w : Written) (r : Reads true t w) (none : w.zulu ≡ fa
     fraction = r.fraction;
     zone = zulu refl;
     after = tt;
-    year-is = r.year-is;
-    month-is = r.month-is;
-    day-is = r.day-is;
-    hour-is = r.hour-is;
-    minute-is = r.minute-is;
+    year_is = r.year_is;
+    month_is = r.month_is;
+    day_is = r.day_is;
+    hour_is = r.hour_is;
+    minute_is = r.minute_is;
     whole_is = r.whole_is;
     places_is = r.places_is;
   }
 
-  judged-alike : judged (withZulu w) ≡ judged w
-  unfolding withZulu judged timeFits
+  judged-alike : judged (with_zulu w) ≡ judged w
+  unfolding with_zulu judged time_fits
   judged-alike = refl
 
   pub same-with-zulu : parsed true (t ++ (90 ∷ [])) ≡ parsed true t
-  same-with-zulu = read-judged true (t ++ (90 ∷ [])) (withZulu w) zulu-read ∙ judged-alike ∙ sym (read-judged true t w r)
+  same-with-zulu = read-judged true (t ++ (90 ∷ [])) (with_zulu w) zulu-read ∙ judged-alike ∙ sym (read-judged true t w r)
 
 -- ---- both calls
-either-zone : (utc : Bool) {z : List ℕ} {b : Bool} → Zone false z b → Zone utc z b
-either-zone utc plain = plain
-either-zone utc (zulu u) = let k : ◌≡◌ {A = ℕ} 0 1 = cc in absurd (let n : ⊥ = omega arith in n)
+either_zone : (utc : Bool) {z : List ℕ} {b : Bool} → Zone false z b → Zone utc z b
+either_zone utc plain = plain
+either_zone utc (zulu u) = let k : ◌≡◌ {A = ℕ} 0 1 = cc in absurd (let n : ⊥ = omega arith in n)
 
 pub plain-text : (t : List ℕ) (w : Written) → Reads false t w → Reads true t w
 plain-text t w r = record {
@@ -172,13 +172,13 @@ plain-text t w r = record {
   minute = r.minute;
   second = r.second;
   fraction = r.fraction;
-  zone = either-zone true r.zone;
+  zone = either_zone true r.zone;
   after = r.after;
-  year-is = r.year-is;
-  month-is = r.month-is;
-  day-is = r.day-is;
-  hour-is = r.hour-is;
-  minute-is = r.minute-is;
+  year_is = r.year_is;
+  month_is = r.month_is;
+  day_is = r.day_is;
+  hour_is = r.hour_is;
+  minute_is = r.minute_is;
   whole_is = r.whole_is;
   places_is = r.places_is;
 }

@@ -11,15 +11,15 @@ use lib.Ieee.{Float, binary64, round, of_int, add, mul, div}
 use Rattle.floats.specs.Whole.{nought}
 use Rattle.rounding.specs.Value.{Val, L}
 use Rattle.rounding.proofs.Sizes.{whole_val}
-use Rattle.rounding.proofs.Casts.{ofInt-val}
-use Rattle.rounding.proofs.About.{U, L-U, unit, About, about-scale, about-add, about-mul, about-div}
+use Rattle.rounding.proofs.Casts.{of_int_val}
+use Rattle.rounding.proofs.About.{U, L-U, unit, About, about_scale, about_add, about_mul, about_div}
 use Rattle.constants.specs.Constants.{decimal}
-use Rattle.parsing_laws.proofs.UtcTimes.{second-near}
+use Rattle.parsing_laws.proofs.UtcTimes.{second_near}
 
 -- ---- the pieces, in units of 2 ^ -90
 -- K is at most M of 2 ^ 90 units each
-in-units : (K M D : ℕ) → K ≤ M * D → K * L ≤ 0 * L + M * 2 ^ 90 * (U * D)
-in-units K M D h =
+in_units : (K M D : ℕ) → K ≤ M * D → K * L ≤ 0 * L + M * 2 ^ 90 * (U * D)
+in_units K M D h =
     le_trans (mul-le-mul_right L h)
     (le_of_eq (ap (λ (z : ℕ). M * D * z) L-U ∙ turn M D (2 ^ 90) U ∙ front (M * 2 ^ 90 * (U * D)) (0 * L) (zero-mul L)))
   where
@@ -43,7 +43,7 @@ sixty = record {
   val = whole_val (record { sign = false; size = 60; has = (refl, refl); is = refl });
   over = omega arith;
   under = omega arith;
-  high = in-units 60 60 1 (lit≤ tt);
+  high = in_units 60 60 1 (lit≤ tt);
   low = from-none (60 * L) 1 (60 * 2 ^ 90);
   some = lit< tt;
 }
@@ -51,21 +51,21 @@ sixty = record {
 -- 60 times the minutes
 minutes : (k : ℕ) → k ≤ 1439 → About (mul binary64 (decimal 60 0) (of_int binary64 (pos k))) (60 * k * 1000) (0 * k * 1000) 1000 (86340 * 2 ^ 90) (2 ^ 53)
 minutes k h =
-    about-scale 1000 (lit< tt)
-    (about-mul 53 k k 1 1 0 (86340 * 2 ^ 90) (2 ^ 53) (lit≤ tt) (lit< tt) (lit< tt) (omega arith) (omega arith) (omega arith) (omega arith) (omega arith)
-    (ofInt-val (pos k) (omega arith) (omega arith)) sixty)
+    about_scale 1000 (lit< tt)
+    (about_mul 53 k k 1 1 0 (86340 * 2 ^ 90) (2 ^ 53) (lit≤ tt) (lit< tt) (lit< tt) (omega arith) (omega arith) (omega arith) (omega arith) (omega arith)
+    (of_int_val (pos k) (omega arith) (omega arith)) sixty)
 
 -- the second to the millisecond
 second : (n : ℕ) → n < 61000 → About (decimal n 3) n 0 1000 (61 * 2 ^ 90) (2 ^ 42)
 second n h =
-    let z = second-near n h in
+    let z = second_near n h in
     record {
       p = z.p;
       n = z.n;
       val = z.val;
       over = halved (z.p * 1000 + 0 * L) (z.n * 1000 + n * L) (2 ^ (985 + 42)) U (unit 42) z.over;
       under = halved (z.n * 1000 + n * L) (z.p * 1000 + 0 * L) (2 ^ (985 + 42)) U (unit 42) z.under;
-      high = in-units n 61 1000 (omega arith);
+      high = in_units n 61 1000 (omega arith);
       low = from-none (n * L) 1000 (61 * 2 ^ 90);
       some = lit< tt;
     }
@@ -96,19 +96,19 @@ pub record TimeNear (z : Float) (K c : ℕ) : Type 0 where
   pub under : n * (1000 * c) + K * L ≤ p * (1000 * c) + 2 ^ 40 * (U * (1000 * c))
 
 -- the fraction of hour, minute and n milliseconds, over a float of the day's seconds
-abbrev pub fractionAt : ℕ → ℕ → ℕ → Float → Float
-fractionAt hour minute n day = add binary64 nought
+abbrev pub fraction_at : ℕ → ℕ → ℕ → Float → Float
+fraction_at hour minute n day = add binary64 nought
     (div binary64 (add binary64 (mul binary64 (decimal 60 0) (of_int binary64 (pos (60 * hour + minute)))) (decimal n 3)) day)
 
 module _ (hour minute n c : ℕ) (day : Float) (h : hour ≤ 23) (m : minute ≤ 59) (s : n < 61000) (v : Val day c 0 1) (low : 86399 ≤ c) where
-  about : About (fractionAt hour minute n day) (0 + (60 * (60 * hour + minute) * 1000 + n) * 1) (0 + (0 * (60 * hour + minute) * 1000 + 0) * 1) (1000 * c)
+  about : About (fraction_at hour minute n day) (0 + (60 * (60 * hour + minute) * 1000 + n) * 1) (0 + (0 * (60 * hour + minute) * 1000 + 0) * 1) (1000 * c)
       (0 + 2 ^ 91) (0 + 2 ^ 39 + 2 ^ 38)
   about =
-      let sum = about-add 53 (lit≤ tt) (lit< tt) (minutes (60 * hour + minute) (omega arith)) (second n s) in
-      let over = about-div 37 c (2 ^ 91) (2 ^ 39) (lit≤ tt) (omega arith) (omega arith) (omega arith) (omega arith) v sum in
-      about-add 38 (lit≤ tt) (lit< tt) (zero (1000 * c) (omega arith)) over
+      let sum = about_add 53 (lit≤ tt) (lit< tt) (minutes (60 * hour + minute) (omega arith)) (second n s) in
+      let over = about_div 37 c (2 ^ 91) (2 ^ 39) (lit≤ tt) (omega arith) (omega arith) (omega arith) (omega arith) v sum in
+      about_add 38 (lit≤ tt) (lit< tt) (zero (1000 * c) (omega arith)) over
 
-  pub time-near : TimeNear (fractionAt hour minute n day) (3600000 * hour + 60000 * minute + n) c
+  pub time-near : TimeNear (fraction_at hour minute n day) (3600000 * hour + 60000 * minute + n) c
   time-near =
       let a = about in
       record {

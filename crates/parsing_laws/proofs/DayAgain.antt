@@ -12,16 +12,16 @@ use lib.Ieee.{Float, binary64, fits, of_int, add}
 use lib.Ieee.Fits.{add-fits}
 use borrow.Author.Tests.{ltb-true, ltb-false}
 use Rattle.refusals.specs.Outcome.{answer}
-use Rattle.rounding.specs.Value.{Val, Under52, L, plusZ, minusZ, InUnit}
+use Rattle.rounding.specs.Value.{Val, Under52, L, plus_z, minus_z, InUnit}
 use Rattle.rounding.proofs.Value.{L-pos, val-move, abs-val}
-use Rattle.rounding.proofs.Signed.{dist, dist-le}
-use Rattle.rounding.proofs.Casts.{add-pair, sub-pair}
-use Rattle.rounding.proofs.Compare.{lt-show, lt-says}
+use Rattle.rounding.proofs.Signed.{dist, dist_le}
+use Rattle.rounding.proofs.Casts.{add_pair, sub_pair}
+use Rattle.rounding.proofs.Compare.{lt_show, lt_says}
 use Rattle.rounding.proofs.Range.{power-val}
 use Rattle.rounding.proofs.About.{U, L-U}
-use Rattle.constants.specs.Constants.{mjdZeroPoint}
-use Rattle.julian.specs.day_number.DayNumber.{accepted, dayOf}
-use Rattle.julian.specs.day_number.Answer.{dayNumberAndFraction}
+use Rattle.constants.specs.Constants.{mjd_zero_point}
+use Rattle.julian.specs.day_number.DayNumber.{accepted, day_of}
+use Rattle.julian.specs.day_number.Answer.{day_number_and_fraction}
 use Rattle.julian.specs.day_number.NearDay.{DayNear}
 use Rattle.julian.proofs.day_number.Units.{E-L, one-L}
 use Rattle.julian.proofs.day_number.JulianRange.{accepts}
@@ -41,8 +41,8 @@ pub record MillisWorth (x K C : ℕ) : Type 0 where
 module _ (dLC NLC xC pC qC KL LC v l : ℕ) (over : dLC + xC + qC ≤ pC + NLC + v) (under : pC + NLC ≤ dLC + xC + qC + v) (near : pC ≤ qC + KL + 2 * v)
     (near' : qC + KL ≤ pC + 2 * v)
     (small : 1048576 * v ≤ l) (some : 0 < l) where
-  not-later : NLC + LC ≤ dLC → KL + l ≤ LC → ⊥
-  not-later h k = omega arith
+  not_later : NLC + LC ≤ dLC → KL + l ≤ LC → ⊥
+  not_later h k = omega arith
 
   not_earlier : dLC + LC ≤ NLC → xC ≤ LC → l ≤ KL → ⊥
   not_earlier h k m = omega arith
@@ -57,28 +57,28 @@ module _ (dLC NLC xC pC qC KL LC v l : ℕ) (over : dLC + xC + qC ≤ pC + NLC +
 -- the day found is the day meant, and the fraction is worth the time
 pub record Found (N c K : ℕ) (a f : Float) : Type 0 where
   pub x : ℕ
-  pub given : dayNumberAndFraction a f ≡ answer (dayOf a f)
-  pub day : (dayOf a f).day ≡ pos (2400001 + N)
-  pub val : Val (dayOf a f).fraction x 0 L
-  pub in-unit : InUnit (dayOf a f).fraction
+  pub given : day_number_and_fraction a f ≡ answer (day_of a f)
+  pub day : (day_of a f).day ≡ pos (2400001 + N)
+  pub val : Val (day_of a f).fraction x 0 L
+  pub in_unit : InUnit (day_of a f).fraction
   pub worth : MillisWorth x K (1000 * c)
 
 -- a float of less than 2 ^ 52 in size
 under-52 : {x : Float} {p n : ℕ} (B : ℕ) → T (fits binary64 x) → Val x p n L → p ≤ n + B → n ≤ p + B → B < 2 ^ 52 * L → Under52 x
-under-52 {x} {p} {n} B f v k l b = record { held = f; small = lt-show L-pos (abs-val v) (power-val 52 L) (less (dist p n) (2 ^ 52 * L) (dist-le p n B k l) b) }
+under-52 {x} {p} {n} B f v k l b = record { held = f; small = lt_show L-pos (abs-val v) (power-val 52 L) (less (dist p n) (2 ^ 52 * L) (dist_le p n B k l) b) }
   where
     less : (d c : ℕ) → d ≤ B → B < c → d + 0 < c + 0
     less d c q r = omega arith
 
 -- a day below 0 is too far from midnight
-not-before : (M x r s a p q l h : ℕ) → r + q ≡ s + (a + p) → x < l → l ≡ 2 * h → 0 < l → 4800001 * h ≤ a → q ≤ p + 2 * l
+not_before : (M x r s a p q l h : ℕ) → r + q ≡ s + (a + p) → x < l → l ≡ 2 * h → 0 < l → 4800001 * h ≤ a → q ≤ p + 2 * l
     → 2 ^ 51 * (r + M) + 2 ^ 50 * l ≤ 2 ^ 51 * (0 * l + x + s) + l → ⊥
-not-before M x r s a p q l h g b i y z w c = omega arith
+not_before M x r s a p q l h g b i y z w c = omega arith
 
 module _ (N c K : ℕ) (f : Float) (held : T (fits binary64 f)) (t : TimeNear f K c) (low : 86399 ≤ c) (high : c ≤ 86401) (few : N ≤ 4000000) (first : 1 ≤ K)
     (last : K < 1000 * c) where
   abbrev J : Float
-  J = add binary64 mjdZeroPoint (of_int binary64 (pos N))
+  J = add binary64 mjd_zero_point (of_int binary64 (pos N))
 
   abbrev A : ℕ
   A = (4800001 + N * 2) * H
@@ -163,30 +163,30 @@ module _ (N c K : ℕ) (f : Float) (held : T (fits binary64 f)) (t : TimeNear f 
   abbrev j : ℤ
   j = pos p -ℤ pos q
 
-  j-is : plusZ j + q ≡ minusZ j + p
-  j-is = omega (arith, sub-pair (pos p) (pos q))
+  j-is : plus_z j + q ≡ minus_z j + p
+  j-is = omega (arith, sub_pair (pos p) (pos q))
 
-  sum_is : plusZ (pos A +ℤ j) + q ≡ minusZ (pos A +ℤ j) + (A + p)
-  sum_is = go (plusZ (pos A +ℤ j)) (minusZ (pos A +ℤ j)) (plusZ j) (minusZ j) (add-pair (pos A) j) j-is
+  sum_is : plus_z (pos A +ℤ j) + q ≡ minus_z (pos A +ℤ j) + (A + p)
+  sum_is = go (plus_z (pos A +ℤ j)) (minus_z (pos A +ℤ j)) (plus_z j) (minus_z j) (add_pair (pos A) j) j-is
     where
       go : (x y r s : ℕ) → x + (0 + s) ≡ y + (A + r) → r + q ≡ s + p → x + q ≡ y + (A + p)
       go x y r s e g = omega arith
 
-  near : DayNear (pos A +ℤ j) (dayOf J f).day (dayOf J f).fraction
+  near : DayNear (pos A +ℤ j) (day_of J f).day (day_of J f).fraction
   near =
       day-near J f
-      (under-52 (12800001 * H) (add-fits binary64 mjdZeroPoint (of_int binary64 (pos N))) J-val (omega (arith, A-most)) (omega arith) (less H L L-H L-pos))
+      (under-52 (12800001 * H) (add-fits binary64 mjd_zero_point (of_int binary64 (pos N))) J-val (omega (arith, A-most)) (omega arith) (less H L L-H L-pos))
       (under-52 (2 * L) held t.val p-size q-size (omega (arith, L-pos)))
-      (pos A) j J-val (val-move t.val (omega (arith, j-is))) (dayOf J f) (answered J f takes)
+      (pos A) j J-val (val-move t.val (omega (arith, j-is))) (day_of J f) (answered J f takes)
     where
       less : (h l : ℕ) → l ≡ 2 * h → 0 < l → 12800001 * h < 2 ^ 52 * l
       less h l e g = omega arith
 
-  unit : InUnit (dayOf J f).fraction
-  unit = fraction-range J f (add-fits binary64 mjdZeroPoint (of_int binary64 (pos N))) held (dayOf J f) (answered J f takes)
+  unit : InUnit (day_of J f).fraction
+  unit = fraction-range J f (add-fits binary64 mjd_zero_point (of_int binary64 (pos N))) held (day_of J f) (answered J f takes)
 
-  inside : (x : ℕ) → Val (dayOf J f).fraction x 0 L → x < L
-  inside x w = omega (arith, lt-says L-pos w one-L unit.high)
+  inside : (x : ℕ) → Val (day_of J f).fraction x 0 L → x < L
+  inside x w = omega (arith, lt_says L-pos w one-L unit.high)
 
   -- ---- the day found
   module _ (d x : ℕ) (below : x < L) (over : d * L + x + q ≤ p + (2400001 + N) * L + 2 ^ 39 * U)
@@ -212,8 +212,8 @@ module _ (N c K : ℕ) (f : Float) (held : T (fits binary64 f)) (t : TimeNear f 
         (ap (λ (z : ℕ). a * L * C + z * C) (sym (one-mul L)) ∙ sym (add-mul (a * L) (1 * L) C) ∙ ap (λ (z : ℕ). z * C) (sym (add-mul a 1 L))))
         (mul-le-mul_right C (mul-le-mul_right L h))
 
-    d-is : d ≡ 2400001 + N
-    d-is = go (ltb d (2400001 + N)) refl (ltb (2400001 + N) d) refl
+    d_is : d ≡ 2400001 + N
+    d_is = go (ltb d (2400001 + N)) refl (ltb (2400001 + N) d) refl
       where
         go : (a : Bool) → ltb d (2400001 + N) ≡ a → (b : Bool) → ltb (2400001 + N) d ≡ b → d ≡ 2400001 + N
         go true e b g =
@@ -221,13 +221,13 @@ module _ (N c K : ℕ) (f : Float) (held : T (fits binary64 f)) (t : TimeNear f 
             L-pos
             (day-more d (2400001 + N) (omega (arith, ltb-true d (2400001 + N) e))) (mul-le-mul_right C (le_of_lt below)) KL-low)
         go false e true g =
-            absurd (not-later (d * L * C) ((2400001 + N) * L * C) (x * C) (p * C) (q * C) (K * L) (L * C) v L over-C under-C near-over near-under v-small L-pos
+            absurd (not_later (d * L * C) ((2400001 + N) * L * C) (x * C) (p * C) (q * C) (K * L) (L * C) v L over-C under-C near-over near-under v-small L-pos
             (day-more (2400001 + N) d (omega (arith, ltb-true (2400001 + N) d g))) KL-high)
         go false e false g = omega (arith, ltb-false d (2400001 + N) e, ltb-false (2400001 + N) d g)
 
     worth-it : MillisWorth x K C
     worth-it =
-        let e = ap (λ (z : ℕ). z * L * C) d-is in
+        let e = ap (λ (z : ℕ). z * L * C) d_is in
         record {
           over = same_over (d * L * C) ((2400001 + N) * L * C) (x * C) (p * C) (q * C) (K * L) (L * C) v L over-C under-C near-over near-under v-small L-pos e;
           under = same-under (d * L * C) ((2400001 + N) * L * C) (x * C) (p * C) (q * C) (K * L) (L * C) v L over-C under-C near-over near-under v-small L-pos
@@ -235,22 +235,22 @@ module _ (N c K : ℕ) (f : Float) (held : T (fits binary64 f)) (t : TimeNear f 
         }
 
   pub found : Found N c K J f
-  found = go (dayOf J f).day refl near
+  found = go (day_of J f).day refl near
     where
-      go : (z : ℤ) → (dayOf J f).day ≡ z → DayNear (pos A +ℤ j) z (dayOf J f).fraction → Found N c K J f
-      go (negsuc m) e k = absurd (not-before (suc m * L) k.units (plusZ (pos A +ℤ j)) (minusZ (pos A +ℤ j)) A p q L H sum_is (inside k.units k.val)
+      go : (z : ℤ) → (day_of J f).day ≡ z → DayNear (pos A +ℤ j) z (day_of J f).fraction → Found N c K J f
+      go (negsuc m) e k = absurd (not_before (suc m * L) k.units (plus_z (pos A +ℤ j)) (minus_z (pos A +ℤ j)) A p q L H sum_is (inside k.units k.val)
           L-H L-pos A-least q-size k.under)
       go (pos d) e k =
-          let o = over (d * L) k.units (plusZ (pos A +ℤ j)) (minusZ (pos A +ℤ j)) ((2400001 + N) * L) (2 ^ 39 * U) A L H sum_is A-day L-H
+          let o = over (d * L) k.units (plus_z (pos A +ℤ j)) (minus_z (pos A +ℤ j)) ((2400001 + N) * L) (2 ^ 39 * U) A L H sum_is A-day L-H
           (L-U ∙ mul_assoc (2 ^ 51) (2 ^ 39) U) k.over in
-          let u = back (d * L) k.units (plusZ (pos A +ℤ j)) (minusZ (pos A +ℤ j)) ((2400001 + N) * L) (2 ^ 39 * U) A L H sum_is A-day L-H
+          let u = back (d * L) k.units (plus_z (pos A +ℤ j)) (minus_z (pos A +ℤ j)) ((2400001 + N) * L) (2 ^ 39 * U) A L H sum_is A-day L-H
           (L-U ∙ mul_assoc (2 ^ 51) (2 ^ 39) U) k.under in
           record {
             x = k.units;
             given = answered J f takes;
-            day = e ∙ ap pos (d-is d k.units (inside k.units k.val) o u);
+            day = e ∙ ap pos (d_is d k.units (inside k.units k.val) o u);
             val = k.val;
-            in-unit = unit;
+            in_unit = unit;
             worth = worth-it d k.units (inside k.units k.val) o u;
           }
         where

@@ -8,14 +8,14 @@ use lib.Dec.{T, lit<}
 use lib.Ieee.{Float, binary64, fits}
 use Rattle.floats.specs.Whole.{away}
 use Rattle.rounding.specs.Value.{Val, InUnit}
-use Rattle.time_of_day.specs.Milliseconds.{wholeLeap}
-use Rattle.time_of_day.specs.TimeShown.{countBy}
+use Rattle.time_of_day.specs.Milliseconds.{whole_leap}
+use Rattle.time_of_day.specs.TimeShown.{count_by}
 use Rattle.time_of_day.specs.Nearest.{Nearest}
-use Rattle.time_of_day.specs.HalfEven.{even, evenCount, inWhole, gridUnits, dayIsWhole}
+use Rattle.time_of_day.specs.HalfEven.{even, even_count, in_whole, grid_units, day_is_whole}
 use Rattle.time_of_day.specs.ExactTime.{Leap, DayLength, TimeWithin}
 use Rattle.time_of_day.proofs.Rounded.{away-nearest}
-use Rattle.time_of_day.proofs.Fractions.{in-units, within-one, cross}
-use Rattle.time_of_day.proofs.Close.{close-move, close-501}
+use Rattle.time_of_day.proofs.Fractions.{in_units, within-one, cross}
+use Rattle.time_of_day.proofs.Close.{close_move, close_501}
 use Rattle.time_of_day.proofs.Shows.{count-near}
 use Rattle.time_of_day.proofs.EvenRule.{even-nearest}
 use Rattle.time_of_day.proofs.EvenFloat.{by-float}
@@ -23,26 +23,26 @@ use Rattle.time_of_day.proofs.EvenGrid.{only-on-grid}
 use Rattle.time_of_day.proofs.EvenExact.{even-exact}
 use Rattle.time_of_day.proofs.EvenSteps.{whole-small, count-by-float}
 use Rattle.utc.specs.iso_texts.TextForm.{TextForm}
-use Rattle.utc.specs.iso_texts.IsoText.{standardForm}
-use Rattle.utc.specs.iso_texts.Expanded.{expandedForm}
-use Rattle.utc.specs.iso_texts.HalfEven.{halfEvenForm}
+use Rattle.utc.specs.iso_texts.IsoText.{standard_form}
+use Rattle.utc.specs.iso_texts.Expanded.{expanded_form}
+use Rattle.utc.specs.iso_texts.HalfEven.{half_even_form}
 
 -- within 0.501 ms, whatever fractions F / D and W / E the fraction and the day length are written as
 abbrev pub CountsNear : TextForm → Type 0
 CountsNear textForm =
     (f x : Float) → T (fits binary64 f) → InUnit f → Leap x → (F D W E : ℕ) → 0 < E → Val f F 0 D → DayLength x W E
-    → TimeWithin 1000 501 (textForm.count f (wholeLeap x) * E) F D W E
+    → TimeWithin 1000 501 (textForm.count f (whole_leap x) * E) F D W E
 
-by-rule : (how : Bool → ℕ → ℕ → ℕ) → Nearest how → (f x : Float) → T (fits binary64 f) → InUnit f → Leap x → (F D W E : ℕ) → 0 < E → Val f F 0 D
+by_rule : (how : Bool → ℕ → ℕ → ℕ) → Nearest how → (f x : Float) → T (fits binary64 f) → InUnit f → Leap x → (F D W E : ℕ) → 0 < E → Val f F 0 D
     → DayLength x W E
-    → TimeWithin 1000 501 (countBy how f (wholeLeap x) * E) F D W E
-by-rule how rule f x t i s F D W E G v d = close-501 (countBy how f (wholeLeap x) * E) F D W E (count-near how rule f x t i s F D W E G v d)
+    → TimeWithin 1000 501 (count_by how f (whole_leap x) * E) F D W E
+by_rule how rule f x t i s F D W E G v d = close_501 (count_by how f (whole_leap x) * E) F D W E (count-near how rule f x t i s F D W E G v d)
 
-pub near01 : CountsNear standardForm
-near01 = by-rule away away-nearest
+pub near01 : CountsNear standard_form
+near01 = by_rule away away-nearest
 
-pub near-expanded : CountsNear expandedForm
-near-expanded = by-rule away away-nearest
+pub near-expanded : CountsNear expanded_form
+near-expanded = by_rule away away-nearest
 
 -- half a millisecond is within 0.501 ms
 looser : (b : Bool) (s F D W E : ℕ) → TimeWithin (cond b 2 1000) (cond b 1 501) s F D W E → TimeWithin 1000 501 s F D W E
@@ -52,16 +52,16 @@ looser true s F D W E k = record { over = go (s * D) (1000 * (F * W)) (D * E) k.
     go a b d h = omega arith
 looser false s F D W E k = k
 
-pub near_even : CountsNear halfEvenForm
-near_even f x t i s F D W E G v d = go (inWhole f (wholeLeap x)) refl
+pub near_even : CountsNear half_even_form
+near_even f x t i s F D W E G v d = go (in_whole f (whole_leap x)) refl
   where
-    go : (b : Bool) → inWhole f (wholeLeap x) ≡ b → TimeWithin 1000 501 (evenCount f (wholeLeap x) * E) F D W E
+    go : (b : Bool) → in_whole f (whole_leap x) ≡ b → TimeWithin 1000 501 (even_count f (whole_leap x) * E) F D W E
     go true e =
-        let u = only-on-grid f t i (wholeLeap x) e in
-        close-move 1000 501 (evenCount f (wholeLeap x) * E) F D (gridUnits f) (2 ^ 52) W E (lit< tt) (cross u v)
-        (looser (dayIsWhole (wholeLeap x)) (evenCount f (wholeLeap x) * E) (gridUnits f) (2 ^ 52) W E
-        (even-exact f (gridUnits f) t u (whole-small f (wholeLeap x) e) x s W E G d))
+        let u = only-on-grid f t i (whole_leap x) e in
+        close_move 1000 501 (even_count f (whole_leap x) * E) F D (grid_units f) (2 ^ 52) W E (lit< tt) (cross u v)
+        (looser (day_is_whole (whole_leap x)) (even_count f (whole_leap x) * E) (grid_units f) (2 ^ 52) W E
+        (even-exact f (grid_units f) t u (whole-small f (whole_leap x) e) x s W E G d))
     go false e =
         subst (λ (k : ℕ). TimeWithin 1000 501 (k * E) F D W E)
-        (sym (by-float f (wholeLeap x) (in-units f t i) (within-one x s)) ∙ count-by-float f (wholeLeap x) e)
-        (by-rule even even-nearest f x t i s F D W E G v d)
+        (sym (by-float f (whole_leap x) (in_units f t i) (within-one x s)) ∙ count-by-float f (whole_leap x) e)
+        (by_rule even even-nearest f x t i s F D W E G v d)

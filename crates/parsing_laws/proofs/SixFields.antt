@@ -18,8 +18,8 @@ use Rattle.parsing.specs.Grammar.{Reads}
 use Rattle.parsing.specs.Judging.{quotient}
 use Rattle.parsing.specs.Parsed.{fields_of, parsed}
 use Rattle.parsing.proofs.Seconds.{one-division}
-use Rattle.parsing_laws.specs.Verdict.{Verdict, outside, too-many-digits, bad-date, bad-time, fields, SomeTime}
-use Rattle.parsing_laws.specs.SixFields.{dividedOnce, SixFields}
+use Rattle.parsing_laws.specs.Verdict.{Verdict, outside, too_many_digits, bad_date, bad_time, fields, SomeTime}
+use Rattle.parsing_laws.specs.SixFields.{divided_once, SixFields}
 use Rattle.parsing_laws.proofs.Ladder.{verdict}
 
 -- below 61 s the whole number is below 2 ^ 53
@@ -36,24 +36,24 @@ module _ (utc : Bool) (t : List ℕ) where
     says = w;
     reading = r;
     few = omega (arith, r.places_is);
-    year = ap pos r.year-is;
-    month = r.month-is;
-    day = r.day-is;
-    hour = r.hour-is;
-    minute = r.minute-is;
+    year = ap pos r.year_is;
+    month = r.month_is;
+    day = r.day_is;
+    hour = r.hour_is;
+    minute = r.minute_is;
     second = sym (one-division w.whole w.places (whole-small w.whole w.places h s.second) h)
         ∙ (λ i. quotient (r.whole_is i) (r.places_is i));
   }
 
-  pub six-fields : (f : ParsedDateTime) → parsed utc t ≡ answer f → SixFields utc t f
-  six-fields f e = go (parsed utc t) (verdict utc t) e
+  pub six_fields : (f : ParsedDateTime) → parsed utc t ≡ answer f → SixFields utc t f
+  six_fields f e = go (parsed utc t) (verdict utc t) e
     where
       never : {k : ℕ} → ◌≡◌ {A = Outcome ParsedDateTime} (refusal k) (answer f) → SixFields utc t f
       never p = let z : ◌≡◌ {A = ℕ} 0 1 = cc in absurd (omega arith)
 
       go : (o : Outcome ParsedDateTime) → Verdict utc t o → o ≡ answer f → SixFields utc t f
       go _ (outside n) p = never p
-      go _ (too-many-digits w r h) p = never p
-      go _ (bad-date w k r h d) p = never p
-      go _ (bad-time w r h d n) p = never p
+      go _ (too_many_digits w r h) p = never p
+      go _ (bad_date w k r h d) p = never p
+      go _ (bad_time w r h d n) p = never p
       go _ (fields w r h d s) p = let i : fields_of w ≡ f = cc in subst (SixFields utc t) i (spelled w r h s)

@@ -9,8 +9,8 @@ use Rattle.parsing.specs.scan.Written.{Written}
 use Rattle.parsing.specs.Grammar.{Pieces, Reads}
 
 -- a whole number of digits, and one division
-abbrev pub dividedOnce : List ℕ → ℕ → Float
-dividedOnce digits places = div binary64 (of_int binary64 (pos (number digits))) (of_int binary64 (pos (10 ^ places)))
+abbrev pub divided_once : List ℕ → ℕ → Float
+divided_once digits places = div binary64 (of_int binary64 (pos (number digits))) (of_int binary64 (pos (10 ^ places)))
 
 pub record SixFields (utc : Bool) (t : List ℕ) (f : ParsedDateTime) : Type 0 where
   pub says : Written
@@ -21,4 +21,4 @@ pub record SixFields (utc : Bool) (t : List ℕ) (f : ParsedDateTime) : Type 0 w
   pub day : f.day ≡ number reading.pieces.day
   pub hour : f.hour ≡ number reading.pieces.hour
   pub minute : f.minute ≡ number reading.pieces.minute
-  pub second : f.second ≡ dividedOnce (reading.pieces.second ++ reading.pieces.digits) (length reading.pieces.digits)
+  pub second : f.second ≡ divided_once (reading.pieces.second ++ reading.pieces.digits) (length reading.pieces.digits)

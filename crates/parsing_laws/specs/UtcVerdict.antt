@@ -4,23 +4,23 @@
 use Rattle.std.specs.Prelude.{ℕ, ◌≡◌, List, true, false, pos, Float}
 use Rattle.refusals.specs.Outcome.{Outcome, answer, refusal}
 use Rattle.julian.specs.declared.JulianDate.{JulianDate}
-use Rattle.julian.specs.DayFraction.{timeInDay}
+use Rattle.julian.specs.DayFraction.{time_in_day}
 use Rattle.leap_table.specs.rows.Table.{Row}
-use Rattle.leap_table.specs.offsets.Leap.{leapAtEndOfDay}
-use Rattle.utc.specs.FromCalendar.{utcFromCalendar}
+use Rattle.leap_table.specs.offsets.Leap.{leap_at_end_of_day}
+use Rattle.utc.specs.FromCalendar.{utc_from_calendar}
 use Rattle.parsing.specs.declared.ParsedDateTime.{ParsedDateTime}
 use Rattle.parsing.specs.declared.ParsedUtc.{ParsedUtc}
 use Rattle.parsing_laws.specs.Verdict.{Verdict}
-use Rattle.parsing_laws.specs.Shown.{withDate}
+use Rattle.parsing_laws.specs.Shown.{with_date}
 
 -- x is the leap of the date of p
 abbrev pub LeapOfDate : List Row → ParsedDateTime → Float → Type 0
-LeapOfDate rows p x = leapAtEndOfDay rows p.year (pos p.month) (pos p.day) ≡ answer x
+LeapOfDate rows p x = leap_at_end_of_day rows p.year (pos p.month) (pos p.day) ≡ answer x
 
 pub data UtcVerdict (rows : List Row) (t : List ℕ) : Outcome ParsedUtc → Type 0 where
   no_fields : (k : ℕ) → Verdict true t (refusal k) → UtcVerdict rows t (refusal k)
-  not-in-day : (p : ParsedDateTime) (x : Float) → Verdict true t (answer p) → LeapOfDate rows p x → timeInDay p.hour p.minute p.second x ≡ false
+  not_in_day : (p : ParsedDateTime) (x : Float) → Verdict true t (answer p) → LeapOfDate rows p x → time_in_day p.hour p.minute p.second x ≡ false
       → UtcVerdict rows t (refusal 4)
-  dated-so : (p : ParsedDateTime) (x : Float) (jd : JulianDate) → Verdict true t (answer p) → LeapOfDate rows p x
-      → timeInDay p.hour p.minute p.second x ≡ true
-      → utcFromCalendar rows p.year p.month p.day p.hour p.minute p.second ≡ answer jd → UtcVerdict rows t (answer (withDate p jd))
+  dated_so : (p : ParsedDateTime) (x : Float) (jd : JulianDate) → Verdict true t (answer p) → LeapOfDate rows p x
+      → time_in_day p.hour p.minute p.second x ≡ true
+      → utc_from_calendar rows p.year p.month p.day p.hour p.minute p.second ≡ answer jd → UtcVerdict rows t (answer (with_date p jd))

@@ -6,51 +6,51 @@ use Prim.Native.Nat.{ℕ}
 use lib.IntN.{ℤ}
 use lib.Ieee.{round, of_bits, of_int, to_signed, add, sub, mul, div, neg, lt, le, eq}
 use Rattle.refusals.specs.Outcome.{Outcome, answer, onward}
-use Rattle.floats.specs.Whole.{abs, toWhole, nearestInt}
-use Rattle.constants.specs.Constants.{decimal, secondsPerDay}
+use Rattle.floats.specs.Whole.{abs, to_whole, nearest_int}
+use Rattle.constants.specs.Constants.{decimal, seconds_per_day}
 use Rattle.calendar.specs.declared.CalendarDate.{CalendarDate}
-use Rattle.calendar.specs.Calendar.{next, leapSize, lengths, daysInMonth}
-use Rattle.calendar.specs.Refusals.{validDate, next_of}
-use Rattle.calendar.specs.DayCount.{civilCount, mjdNumber, mjdOf}
-use Rattle.julian.specs.day_number.Answer.{dayNumberAndFraction}
+use Rattle.calendar.specs.Calendar.{next, leap_size, lengths, days_in_month}
+use Rattle.calendar.specs.Refusals.{valid_date, next_of}
+use Rattle.calendar.specs.DayCount.{civil_count, mjd_number, mjd_of}
+use Rattle.julian.specs.day_number.Answer.{day_number_and_fraction}
 use Rattle.julian.specs.JulianDate.{julian}
-use Rattle.julian.specs.Calendar.{julianToCalendar}
-use Rattle.julian.proofs.laws.Divisions.{dividedDate, divided-date}
-use Rattle.leap_table.specs.rows.Table.{fixed, monthNumber, reached}
-use Rattle.leap_table.specs.offsets.Offset.{secondsOf, byRow, offsetBy, offsetAt, inDay, taiUtcOffset}
-use Rattle.leap_table.specs.offsets.Leap.{dayOffsets, leapOf, leapAtEndOfDay}
+use Rattle.julian.specs.Calendar.{julian_to_calendar}
+use Rattle.julian.proofs.laws.Divisions.{divided_date, divided-date}
+use Rattle.leap_table.specs.rows.Table.{fixed, month_number, reached}
+use Rattle.leap_table.specs.offsets.Offset.{seconds_of, by_row, offset_by, offset_at, in_day, tai_utc_offset}
+use Rattle.leap_table.specs.offsets.Leap.{day_offsets, leap_of, leap_at_end_of_day}
 use Rattle.time_of_day.specs.Milliseconds as Millis
-use Rattle.time_of_day.specs.HalfEven.{nearestEven, gridUnits, worth, dayIsWhole, inWhole, evenCount}
-use Rattle.time_of_day.specs.TimeShown.{timeOf, dayEnd, fromZero, shownAt, countBy, shownBy}
-use Rattle.utc.specs.text.Ascii.{asciiBytes}
-use Rattle.utc.specs.text.Text.{yearText, utcText}
+use Rattle.time_of_day.specs.HalfEven.{nearest_even, grid_units, worth, day_is_whole, in_whole, even_count}
+use Rattle.time_of_day.specs.TimeShown.{time_of, day_end, from_zero, shown_at, count_by, shown_by}
+use Rattle.utc.specs.text.Ascii.{ascii_bytes}
+use Rattle.utc.specs.text.Text.{year_text, utc_text}
 use Rattle.utc.specs.iso_texts.TextForm.{TextForm}
-use Rattle.utc.specs.iso_texts.IsoText.{nextMidnightTextBy, shownTextBy, dayTextBy, isoTextBy, standardForm, isoText}
-use Rattle.utc.specs.iso_texts.HalfEven.{halfEvenForm, isoTextHalfEven}
-use Rattle.worked_cases.proofs.ByDates.{toCalendar}
-use Rattle.promises.specs.Terms.{three-2048ths}
+use Rattle.utc.specs.iso_texts.IsoText.{next_midnight_text_by, shown_text_by, day_text_by, iso_text_by, standard_form, iso_text}
+use Rattle.utc.specs.iso_texts.HalfEven.{half_even_form, iso_text_half_even}
+use Rattle.worked_cases.proofs.ByDates.{to_calendar}
+use Rattle.promises.specs.Terms.{three_2048ths}
 
-abbrev textOn : TextForm → (ℤ → CalendarDate) → Outcome (List ℕ)
-textOn form dates = onward (toCalendar dates (decimal 24515445 1) three-2048ths) (λ c. dayTextBy form fixed c.date c.fraction)
+abbrev text_on : TextForm → (ℤ → CalendarDate) → Outcome (List ℕ)
+text_on form dates = onward (to_calendar dates (decimal 24515445 1) three_2048ths) (λ c. day_text_by form fixed c.date c.fraction)
 
-as-divided : (form : TextForm) → isoTextBy form fixed (julian (decimal 24515445 1) three-2048ths) ≡ textOn form dividedDate
-unfolding isoTextBy julianToCalendar
-as-divided form = λ i. textOn form (λ n. divided-date n i)
+as_divided : (form : TextForm) → iso_text_by form fixed (julian (decimal 24515445 1) three_2048ths) ≡ text_on form divided_date
+unfolding iso_text_by julian_to_calendar
+as_divided form = λ i. text_on form (λ n. divided-date n i)
 
-pub old-half : isoText fixed (julian (decimal 24515445 1) three-2048ths) ≡ answer (asciiBytes "2000-01-01T00:02:06.563")
-unfolding dayNumberAndFraction dividedDate onward
-    validDate next_of next daysInMonth leapSize lengths mjdOf mjdNumber civilCount leapAtEndOfDay leapOf dayOffsets taiUtcOffset inDay offsetAt offsetBy byRow
-    secondsOf fixed monthNumber reached
-    shownBy countBy shownAt fromZero timeOf dayEnd Millis.wholeLeap Millis.millisOf Millis.fractionSeconds dayTextBy shownTextBy nextMidnightTextBy utcText
-    yearText secondsPerDay
-    abs toWhole nearestInt round of_bits of_int add sub mul div neg lt le eq to_signed
-old-half = as-divided standardForm ∙ refl
+pub old_half : iso_text fixed (julian (decimal 24515445 1) three_2048ths) ≡ answer (ascii_bytes "2000-01-01T00:02:06.563")
+unfolding day_number_and_fraction divided_date onward
+    valid_date next_of next days_in_month leap_size lengths mjd_of mjd_number civil_count leap_at_end_of_day leap_of day_offsets tai_utc_offset in_day offset_at offset_by by_row
+    seconds_of fixed month_number reached
+    shown_by count_by shown_at from_zero time_of day_end Millis.whole_leap Millis.millis_of Millis.fraction_seconds day_text_by shown_text_by next_midnight_text_by utc_text
+    year_text seconds_per_day
+    abs to_whole nearest_int round of_bits of_int add sub mul div neg lt le eq to_signed
+old_half = as_divided standard_form ∙ refl
 
-pub new-half : isoTextHalfEven fixed (julian (decimal 24515445 1) three-2048ths) ≡ answer (asciiBytes "2000-01-01T00:02:06.562")
-unfolding dayNumberAndFraction dividedDate onward
-    validDate next_of next daysInMonth leapSize lengths mjdOf mjdNumber civilCount leapAtEndOfDay leapOf dayOffsets taiUtcOffset inDay offsetAt offsetBy byRow
-    secondsOf fixed monthNumber reached evenCount inWhole dayIsWhole worth gridUnits nearestEven
-    shownBy countBy shownAt fromZero timeOf dayEnd Millis.wholeLeap Millis.millisOf Millis.fractionSeconds dayTextBy shownTextBy nextMidnightTextBy utcText
-    yearText secondsPerDay
-    abs toWhole nearestInt round of_bits of_int add sub mul div neg lt le eq to_signed
-new-half = as-divided halfEvenForm ∙ refl
+pub new_half : iso_text_half_even fixed (julian (decimal 24515445 1) three_2048ths) ≡ answer (ascii_bytes "2000-01-01T00:02:06.562")
+unfolding day_number_and_fraction divided_date onward
+    valid_date next_of next days_in_month leap_size lengths mjd_of mjd_number civil_count leap_at_end_of_day leap_of day_offsets tai_utc_offset in_day offset_at offset_by by_row
+    seconds_of fixed month_number reached even_count in_whole day_is_whole worth grid_units nearest_even
+    shown_by count_by shown_at from_zero time_of day_end Millis.whole_leap Millis.millis_of Millis.fraction_seconds day_text_by shown_text_by next_midnight_text_by utc_text
+    year_text seconds_per_day
+    abs to_whole nearest_int round of_bits of_int add sub mul div neg lt le eq to_signed
+new_half = as_divided half_even_form ∙ refl

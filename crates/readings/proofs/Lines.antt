@@ -15,11 +15,11 @@ use Rattle.julian.specs.declared.JulianDate.{JulianDate}
 use Rattle.leap_table.specs.rows.Table.{Row}
 use Rattle.utc.specs.declared.text.TextAnswer.{TextAnswer}
 use Rattle.utc.specs.declared.text.TextAnswer.TheVariants.{Written, Refused}
-use Rattle.utc.specs.text.Answer.{textOutcome, textWritten, bufferAfter}
-use Rattle.utc.specs.iso_texts.TextCall.{written, bufferHolds, TextCall}
-use Rattle.utc.specs.iso_texts.Expanded.{isoTextExpanded}
+use Rattle.utc.specs.text.Answer.{text_outcome, text_written, buffer_after}
+use Rattle.utc.specs.iso_texts.TextCall.{written, buffer_holds, TextCall}
+use Rattle.utc.specs.iso_texts.Expanded.{iso_text_expanded}
 use Rattle.utc.specs.declared.iso_texts.TextByRule.{TextByRule}
-use Rattle.utc.specs.iso_texts.ByRule.{expandedByRule, textByRuleOutcome, TextRuleCall}
+use Rattle.utc.specs.iso_texts.ByRule.{expanded_by_rule, text_by_rule_outcome, TextRuleCall}
 use Rattle.utc.proofs.iso_texts.TextRules.{rule-call-forgets, expanded-forgets}
 use Rattle.utc.specs.declared.iso_texts.TextByRule.TheVariants as Ruled
 use Rattle.leap_table.specs.declared.offsets.Rule.{Rule}
@@ -28,16 +28,16 @@ use Rattle.utc.proofs.laws.ExpandedTexts.{expanded-text-length}
 use Rattle.parsing.specs.declared.ParsedUtc.{ParsedUtc}
 use Rattle.parsing.specs.declared.ParsedUtcAnswer.{ParsedUtcAnswer}
 use Rattle.parsing.specs.declared.ParsedUtcAnswer.TheVariants as Utc
-use Rattle.parsing.specs.Parsed.{parsedUtcOutcome, parsedUtc}
+use Rattle.parsing.specs.Parsed.{parsed_utc_outcome, parsed_utc}
 use Rattle.numerals.specs.digits.Placed.{pasted, Placed, Placing}
 use Rattle.numerals.proofs.digits.Places.{then}
 use Rattle.reasons.proofs.sentences.Placing.{placed-length, decimal-placed}
-use Rattle.readings.specs.Reading.{reading, readingWords, LineCall}
+use Rattle.readings.specs.Reading.{reading, reading_words, LineCall}
 
 -- ---- the index and the blank, at the start of a buffer with room for a line
-pub index-put : {d s d' t d'' : List ℕ} {r r2 : ℕ} → Placing d 0 s r d' → length s ≤ 20 → Placing d' r t r2 d'' → length t ≤ 1 → 50 ≤ length d
+pub index_put : {d s d' t d'' : List ℕ} {r r2 : ℕ} → Placing d 0 s r d' → length s ≤ 20 → Placing d' r t r2 d'' → length t ≤ 1 → 50 ≤ length d
     → (Placed d 0 (s ++ t) r2 d'') × (r2 ≤ 21) × (length d'' ≡ length d)
-index-put index few blank one room =
+index_put index few blank one room =
     let p = decimal-placed index few (omega arith) in
     let m = placed-length p.0 (omega arith) in
     let q = blank.written (omega arith) in
@@ -48,7 +48,7 @@ index-put index few blank one room =
 abbrev Short : Outcome (List ℕ) → Type 0
 Short o = (t : List ℕ) → o ≡ answer t → length t ≤ 27
 
-short : (rows : List Row) (jd : JulianDate) → Short (isoTextExpanded rows jd)
+short : (rows : List Row) (jd : JulianDate) → Short (iso_text_expanded rows jd)
 short rows jd t e = of (expanded-text-length rows jd t e)
   where
     of : (length t ≡ 23) ⊎ (length t ≡ 27) → length t ≤ 27
@@ -61,78 +61,78 @@ written-by t p n true e = (cc, refl)
 written-by t p n false e = let z : ◌≡◌ {A = ℕ} 0 1 = cc in absurd (omega arith)
 
 told-written : (o : Outcome (List ℕ)) (p : List ℕ) (n : ℕ) → Short o → written o (length p) ≡ answer n
-    → (n ≡ length (readingWords o)) × (bufferHolds o p ≡ readingWords o ++ drop (length (readingWords o)) p) × (n ≤ 27)
-unfolding written bufferHolds readingWords onward textWritten bufferAfter
+    → (n ≡ length (reading_words o)) × (buffer_holds o p ≡ reading_words o ++ drop (length (reading_words o)) p) × (n ≤ 27)
+unfolding written buffer_holds reading_words onward text_written buffer_after
 told-written (answer t) p n s e = let w = written-by t p n (leb (length t) (length p)) e in let m = s t refl in (w.0, w.1, omega (arith, w.0))
 told-written (refusal k) p n s e = let z : ◌≡◌ {A = ℕ} 0 1 = cc in absurd (omega arith)
 
-refused-by : (t : List ℕ) (p : List ℕ) (k : ℕ) → length t ≤ length p → textWritten t (length p) ≡ refusal k → ⊥
-unfolding textWritten
+refused-by : (t : List ℕ) (p : List ℕ) (k : ℕ) → length t ≤ length p → text_written t (length p) ≡ refusal k → ⊥
+unfolding text_written
 refused-by t p k h e =
     let g : ◌≡◌ {A = Outcome ℕ} (answer (length t)) (refusal k) = simp (le-leb _ _ h) at e in
     let z : ◌≡◌ {A = ℕ} 0 1 = cc in omega arith
 
 told-refused : (o : Outcome (List ℕ)) (p : List ℕ) (k : ℕ) → Short o → 27 ≤ length p → written o (length p) ≡ refusal k → (o ≡ refusal k)
-    × (bufferHolds o p ≡ p)
-unfolding written bufferHolds onward
+    × (buffer_holds o p ≡ p)
+unfolding written buffer_holds onward
 told-refused (answer t) p k s h e = let m = s t refl in absurd (refused-by t p k (omega arith) e)
 told-refused (refusal j) p k s h e = let same : j ≡ k = cc in (ap refusal same, refl)
 
-module _ (rows : List Row) (jd : JulianDate) {p ys : List ℕ} {res : TextByRule} (call : TextRuleCall (expandedByRule rows jd) p res ys) where
+module _ (rows : List Row) (jd : JulianDate) {p ys : List ℕ} {res : TextByRule} (call : TextRuleCall (expanded_by_rule rows jd) p res ys) where
   -- without the rule
-  as_call : (t : TextAnswer) → textOutcome t ≡ forget (textByRuleOutcome res) → TextCall (isoTextExpanded rows jd) p t ys
-  as_call t e = subst (λ (o : Outcome (List ℕ)). TextCall o p t ys) (expanded-forgets rows jd) (rule-call-forgets (expandedByRule rows jd) p ys res t e call)
+  as_call : (t : TextAnswer) → text_outcome t ≡ forget (text_by_rule_outcome res) → TextCall (iso_text_expanded rows jd) p t ys
+  as_call t e = subst (λ (o : Outcome (List ℕ)). TextCall o p t ys) (expanded-forgets rows jd) (rule-call-forgets (expanded_by_rule rows jd) p ys res t e call)
 
   pub text-written : (n : ℕ) (rule : Rule) → res ≡ Ruled.Written n rule
-      → (n ≡ length (readingWords (isoTextExpanded rows jd)))
-      × (ys ≡ readingWords (isoTextExpanded rows jd) ++ drop (length (readingWords (isoTextExpanded rows jd))) p) × (n ≤ 27)
-  unfolding textOutcome textByRuleOutcome forget onward
+      → (n ≡ length (reading_words (iso_text_expanded rows jd)))
+      × (ys ≡ reading_words (iso_text_expanded rows jd) ++ drop (length (reading_words (iso_text_expanded rows jd))) p) × (n ≤ 27)
+  unfolding text_outcome text_by_rule_outcome forget onward
   text-written n rule e =
-      let c : TextCall (isoTextExpanded rows jd) p (Written n) ys = as_call (Written n) (ap (λ (x : TextByRule). forget (textByRuleOutcome x)) (sym e)) in
-      let w = told-written (isoTextExpanded rows jd) p n (short rows jd) (sym c.says) in (w.0, c.holds ∙ w.1, w.2)
+      let c : TextCall (iso_text_expanded rows jd) p (Written n) ys = as_call (Written n) (ap (λ (x : TextByRule). forget (text_by_rule_outcome x)) (sym e)) in
+      let w = told-written (iso_text_expanded rows jd) p n (short rows jd) (sym c.says) in (w.0, c.holds ∙ w.1, w.2)
 
-  pub text-refused : (k : ℕ) → res ≡ Ruled.Refused k → 27 ≤ length p → (isoTextExpanded rows jd ≡ refusal k) × (ys ≡ p)
-  unfolding textOutcome textByRuleOutcome forget onward
-  text-refused k e h =
-      let c : TextCall (isoTextExpanded rows jd) p (Refused k) ys = as_call (Refused k) (ap (λ (x : TextByRule). forget (textByRuleOutcome x)) (sym e)) in
-      let w = told-refused (isoTextExpanded rows jd) p k (short rows jd) h (sym c.says) in (w.0, c.holds ∙ w.1)
+  pub text_refused : (k : ℕ) → res ≡ Ruled.Refused k → 27 ≤ length p → (iso_text_expanded rows jd ≡ refusal k) × (ys ≡ p)
+  unfolding text_outcome text_by_rule_outcome forget onward
+  text_refused k e h =
+      let c : TextCall (iso_text_expanded rows jd) p (Refused k) ys = as_call (Refused k) (ap (λ (x : TextByRule). forget (text_by_rule_outcome x)) (sym e)) in
+      let w = told-refused (iso_text_expanded rows jd) p k (short rows jd) h (sym c.says) in (w.0, c.holds ∙ w.1)
 
 -- ---- what the reader answered
-module _ (rows : List Row) (s : List ℕ) (a : ParsedUtcAnswer) (is : parsedUtcOutcome a ≡ parsedUtc rows s) where
+module _ (rows : List Row) (s : List ℕ) (a : ParsedUtcAnswer) (is : parsed_utc_outcome a ≡ parsed_utc rows s) where
   pub read-refused : (k : ℕ) → a ≡ Utc.Refused k → reading rows s ≡ refusal k
-  unfolding reading onward parsedUtcOutcome
-  read-refused k e = ap (λ (o : Outcome ParsedUtc). onward o (λ r. isoTextExpanded rows r.date.0)) (sym is ∙ ap parsedUtcOutcome e)
+  unfolding reading onward parsed_utc_outcome
+  read-refused k e = ap (λ (o : Outcome ParsedUtc). onward o (λ r. iso_text_expanded rows r.date.0)) (sym is ∙ ap parsed_utc_outcome e)
 
-  pub read-dated : (r : ParsedUtc) → a ≡ Utc.Read r → reading rows s ≡ isoTextExpanded rows r.date.0
-  unfolding reading onward parsedUtcOutcome
-  read-dated r e = ap (λ (o : Outcome ParsedUtc). onward o (λ r. isoTextExpanded rows r.date.0)) (sym is ∙ ap parsedUtcOutcome e)
+  pub read-dated : (r : ParsedUtc) → a ≡ Utc.Read r → reading rows s ≡ iso_text_expanded rows r.date.0
+  unfolding reading onward parsed_utc_outcome
+  read-dated r e = ap (λ (o : Outcome ParsedUtc). onward o (λ r. iso_text_expanded rows r.date.0)) (sym is ∙ ap parsed_utc_outcome e)
 
 -- ---- the whole line
 pub no_room : (line before : List ℕ) → length before < 50 → LineCall line before (Refused 11) before
-unfolding textOutcome
+unfolding text_outcome
 no_room line before h = record {
   says = sym (ap (λ (b : Bool). cond b (answer (length line)) (refusal 11)) (lt-leb 50 (length before) h));
   holds =
       sym (ap (λ (b : Bool). cond b (line ++ drop (length line) before) before) (lt-leb 50 (length before) h));
 }
 
-at-start : (line before : List ℕ) → pasted before 0 line ≡ line ++ drop (length line) before
+at_start : (line before : List ℕ) → pasted before 0 line ≡ line ++ drop (length line) before
 unfolding pasted
-at-start line before = ap (λ (k : ℕ). line ++ drop k before) (zero-add (length line))
+at_start line before = ap (λ (k : ℕ). line ++ drop k before) (zero-add (length line))
 
 pub line-put : (line before : List ℕ) (n : ℕ) (after : List ℕ) → 50 ≤ length before → Placed before 0 line n after → LineCall line before (Written n) after
-unfolding textOutcome
+unfolding text_outcome
 line-put line before n after h p = record {
   says = ap answer (p.ends ∙ zero-add (length line)) ∙ sym (ap (λ (b : Bool). cond b (answer (length line)) (refusal 11)) (le-leb 50 (length before) h));
-  holds = p.holds ∙ at-start line before ∙ sym (ap (λ (b : Bool). cond b (line ++ drop (length line) before) before) (le-leb 50 (length before) h));
+  holds = p.holds ∙ at_start line before ∙ sym (ap (λ (b : Bool). cond b (line ++ drop (length line) before) before) (le-leb 50 (length before) h));
 }
 
 -- what was written is within the buffer
 pub line-within : {line before after : List ℕ} {r : TextAnswer} → LineCall line before r after → (n : ℕ) → r ≡ Written n → (n ≤ length after)
     × (n ≡ length (take n after))
-unfolding textOutcome
+unfolding text_outcome
 line-within {line} {before} {after} c n is = let h =
-    go (leb 50 (length before)) (sym (ap textOutcome is) ∙ c.says) c.holds in (h, sym (length-take-le n after h))
+    go (leb 50 (length before)) (sym (ap text_outcome is) ∙ c.says) c.holds in (h, sym (length-take-le n after h))
   where
     go : (b : Bool) → answer n ≡ cond b (answer (length line)) (refusal 11) → after ≡ cond b (line ++ drop (length line) before) before → n ≤ length after
     go true e h = let m : n ≡ length line = cc in subst (λ (l : List ℕ). n ≤ length l) (sym h) (simp length-append (omega arith))

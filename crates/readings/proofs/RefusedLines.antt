@@ -3,53 +3,53 @@ use mathlib.Core.Path.{◌≡◌, refl, ap, ◌∙◌}
 use mathlib.Core.List.{List, [], ◌∷◌, ◌++◌, append_assoc}
 use Prim.Native.Nat.{ℕ}
 use Rattle.refusals.specs.Outcome.{Outcome, refusal, onward}
-use Rattle.numerals.specs.digits.Decimal.{digitsIn, digitsOf}
+use Rattle.numerals.specs.digits.Decimal.{digits_in, digits_of}
 use Rattle.leap_table.specs.rows.Table.{Row}
-use Rattle.utc.specs.iso_texts.Expanded.{isoTextExpanded}
-use Rattle.utc.specs.text.Ascii.{asciiBytes}
+use Rattle.utc.specs.iso_texts.Expanded.{iso_text_expanded}
+use Rattle.utc.specs.text.Ascii.{ascii_bytes}
 use Rattle.parsing.specs.declared.ParsedUtc.{ParsedUtc}
-use Rattle.parsing.specs.Parsed.{parsedUtc}
+use Rattle.parsing.specs.Parsed.{parsed_utc}
 use Rattle.parsing_laws.proofs.Ladder.{ReaderNumber, fifteen, sixteen, two, three, four}
 use Rattle.parsing_laws.proofs.UtcLadder.{utc-only-numbers}
-use Rattle.readings.specs.Reading.{reading, readingWords, readingLine}
-use Rattle.readings.specs.RefusedLine.{refusedAs, RefusedLine, by_form, by_digits, by-month, by-day, by-time}
+use Rattle.readings.specs.Reading.{reading, reading_words, reading_line}
+use Rattle.readings.specs.RefusedLine.{refused_as, RefusedLine, by_form, by_digits, by_month, by_day, by_time}
 
 -- the five words, byte by byte
-pub told-15 : readingWords (refusal 15) ≡ asciiBytes "refused 15"
-unfolding readingWords digitsOf digitsIn
+pub told-15 : reading_words (refusal 15) ≡ ascii_bytes "refused 15"
+unfolding reading_words digits_of digits_in
 told-15 = refl
 
-pub told-16 : readingWords (refusal 16) ≡ asciiBytes "refused 16"
-unfolding readingWords digitsOf digitsIn
+pub told-16 : reading_words (refusal 16) ≡ ascii_bytes "refused 16"
+unfolding reading_words digits_of digits_in
 told-16 = refl
 
-pub told-2 : readingWords (refusal 2) ≡ asciiBytes "refused 2"
-unfolding readingWords digitsOf digitsIn
+pub told-2 : reading_words (refusal 2) ≡ ascii_bytes "refused 2"
+unfolding reading_words digits_of digits_in
 told-2 = refl
 
-pub told-3 : readingWords (refusal 3) ≡ asciiBytes "refused 3"
-unfolding readingWords digitsOf digitsIn
+pub told-3 : reading_words (refusal 3) ≡ ascii_bytes "refused 3"
+unfolding reading_words digits_of digits_in
 told-3 = refl
 
-pub told-4 : readingWords (refusal 4) ≡ asciiBytes "refused 4"
-unfolding readingWords digitsOf digitsIn
+pub told-4 : reading_words (refusal 4) ≡ ascii_bytes "refused 4"
+unfolding reading_words digits_of digits_in
 told-4 = refl
 
 module _ (rows : List Row) (s : List ℕ) (index : ℕ) where
-  is-told : (k : ℕ) → parsedUtc rows s ≡ refusal k → readingWords (reading rows s) ≡ readingWords (refusal k)
+  is-told : (k : ℕ) → parsed_utc rows s ≡ refusal k → reading_words (reading rows s) ≡ reading_words (refusal k)
   unfolding reading onward
-  is-told k e = ap (λ (o : Outcome ParsedUtc). readingWords (onward o (λ r. isoTextExpanded rows r.date.0))) e
+  is-told k e = ap (λ (o : Outcome ParsedUtc). reading_words (onward o (λ r. iso_text_expanded rows r.date.0))) e
 
-  as_line : (words : List ℕ) → readingWords (reading rows s) ≡ words → readingLine rows s index ≡ refusedAs index (32 ∷ words)
-  unfolding readingLine
-  as_line words e = ap (λ (l : List ℕ). ((digitsOf index ++ (32 ∷ [])) ++ l) ++ (10 ∷ [])) e ∙ simp append_assoc
+  as_line : (words : List ℕ) → reading_words (reading rows s) ≡ words → reading_line rows s index ≡ refused_as index (32 ∷ words)
+  unfolding reading_line
+  as_line words e = ap (λ (l : List ℕ). ((digits_of index ++ (32 ∷ [])) ++ l) ++ (10 ∷ [])) e ∙ simp append_assoc
 
-  pub refused-line : (k : ℕ) → parsedUtc rows s ≡ refusal k → RefusedLine index (readingLine rows s index) k
+  pub refused-line : (k : ℕ) → parsed_utc rows s ≡ refusal k → RefusedLine index (reading_line rows s index) k
   refused-line k e = go (utc-only-numbers rows s k e) e
     where
-      go : {k : ℕ} → ReaderNumber k → parsedUtc rows s ≡ refusal k → RefusedLine index (readingLine rows s index) k
-      go fifteen e = by_form (as_line (asciiBytes "refused 15") (is-told 15 e ∙ told-15))
-      go sixteen e = by_digits (as_line (asciiBytes "refused 16") (is-told 16 e ∙ told-16))
-      go two e = by-month (as_line (asciiBytes "refused 2") (is-told 2 e ∙ told-2))
-      go three e = by-day (as_line (asciiBytes "refused 3") (is-told 3 e ∙ told-3))
-      go four e = by-time (as_line (asciiBytes "refused 4") (is-told 4 e ∙ told-4))
+      go : {k : ℕ} → ReaderNumber k → parsed_utc rows s ≡ refusal k → RefusedLine index (reading_line rows s index) k
+      go fifteen e = by_form (as_line (ascii_bytes "refused 15") (is-told 15 e ∙ told-15))
+      go sixteen e = by_digits (as_line (ascii_bytes "refused 16") (is-told 16 e ∙ told-16))
+      go two e = by_month (as_line (ascii_bytes "refused 2") (is-told 2 e ∙ told-2))
+      go three e = by_day (as_line (ascii_bytes "refused 3") (is-told 3 e ∙ told-3))
+      go four e = by_time (as_line (ascii_bytes "refused 4") (is-told 4 e ∙ told-4))

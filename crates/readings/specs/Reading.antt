@@ -3,29 +3,29 @@
 -- from item 6 on. Assumes nothing.
 use Rattle.std.specs.Prelude.{ℕ, ◌≡◌, List, [], ◌∷◌, ◌++◌, cond, length, drop, leb}
 use Rattle.refusals.specs.Outcome.{Outcome, answer, refusal, onward}
-use Rattle.numerals.specs.digits.Decimal.{digitsOf}
+use Rattle.numerals.specs.digits.Decimal.{digits_of}
 use Rattle.leap_table.specs.rows.Table.{Row}
 use Rattle.utc.specs.declared.text.TextAnswer.{TextAnswer}
-use Rattle.utc.specs.text.Answer.{textOutcome}
-use Rattle.utc.specs.iso_texts.Expanded.{isoTextExpanded}
-use Rattle.parsing.specs.Parsed.{parsedUtc}
-use Rattle.stamps.specs.Listing.{refusedWord}
+use Rattle.utc.specs.text.Answer.{text_outcome}
+use Rattle.utc.specs.iso_texts.Expanded.{iso_text_expanded}
+use Rattle.parsing.specs.Parsed.{parsed_utc}
+use Rattle.stamps.specs.Listing.{refused_word}
 
 -- the text of the date that the text s is read as
 unfoldable pub reading : List Row → List ℕ → Outcome (List ℕ)
-reading rows s = onward (parsedUtc rows s) (λ r. isoTextExpanded rows r.date.0)
+reading rows s = onward (parsed_utc rows s) (λ r. iso_text_expanded rows r.date.0)
 
 -- a text, or `refused` and the number
-unfoldable pub readingWords : Outcome (List ℕ) → List ℕ
-readingWords (answer t) = t
-readingWords (refusal k) = refusedWord ++ digitsOf k
+unfoldable pub reading_words : Outcome (List ℕ) → List ℕ
+reading_words (answer t) = t
+reading_words (refusal k) = refused_word ++ digits_of k
 
 -- the line of the text s with this index; 32 is the blank, 10 the line's end
-unfoldable pub readingLine : List Row → List ℕ → ℕ → List ℕ
-readingLine rows s index = ((digitsOf index ++ (32 ∷ [])) ++ readingWords (reading rows s)) ++ (10 ∷ [])
+unfoldable pub reading_line : List Row → List ℕ → ℕ → List ℕ
+reading_line rows s index = ((digits_of index ++ (32 ∷ [])) ++ reading_words (reading rows s)) ++ (10 ∷ [])
 
 -- r answers the line's length, and the buffer, which held `before`, holds the line at its start and then what stood there; in a buffer of less than 50 bytes,
 -- which the longest line may need, r is 11 and the buffer is as it was
 pub record LineCall (line before : List ℕ) (r : TextAnswer) (after : List ℕ) : Type 0 where
-  pub says : textOutcome r ≡ cond (leb 50 (length before)) (answer (length line)) (refusal 11)
+  pub says : text_outcome r ≡ cond (leb 50 (length before)) (answer (length line)) (refusal 11)
   pub holds : after ≡ cond (leb 50 (length before)) (line ++ drop (length line) before) before

@@ -1,10 +1,10 @@
 // The texts of the marker boxes, each answered by a line.
 ghost use Rattle.std.specs.Prelude.{◌+◌, ◌≤◌, length};
 ghost use Rattle.refusals.specs.Outcome.{refusal};
-ghost use Rattle.leap_table.specs.rows.Announced.{rowsIn, rows_of};
-ghost use Rattle.utc.specs.iso_texts.Expanded.{isoTextExpanded};
+ghost use Rattle.leap_table.specs.rows.Announced.{rows_in, rows_of};
+ghost use Rattle.utc.specs.iso_texts.Expanded.{iso_text_expanded};
 ghost use Rattle.numerals.specs.digits.Placed.{Placed};
-ghost use Rattle.readings.specs.Reading.{reading, readingWords, readingLine, LineCall};
+ghost use Rattle.readings.specs.Reading.{reading, reading_words, reading_line, LineCall};
 
 use leap_table::rows::AnnouncedRows;
 use numerals::place::place_bytes;
@@ -20,7 +20,7 @@ const LINE_ROOM: usize = 50;
 
 fn place_refused(number: u32, dst: &mut [u8], at: usize) -> usize
     requires { at + 28 ≤ length dst.old }
-    ensures placed { Placed dst.old at (readingWords (refusal number)) result dst.new }
+    ensures placed { Placed dst.old at (reading_words (refusal number)) result dst.new }
     ensures upper_bound { result ≤ at + 28 }
 {
     let next = place_bytes(b"refused ", dst, at);
@@ -37,7 +37,7 @@ fn place_text<'a>(
 ) -> usize
     requires { at + 28 ≤ length dst.old }
     ensures placed { Placed dst.old at
-        (readingWords (isoTextExpanded (rowsIn size months.now seconds.now) utc.0)) result dst.new }
+        (reading_words (iso_text_expanded (rows_in size months.now seconds.now) utc.0)) result dst.new }
     ensures upper_bound { result ≤ at + 28 }
 {
     match utc::iso_texts::to_iso8601_expanded_by_arrays(
@@ -62,7 +62,7 @@ fn place_reading<'a>(
 ) -> usize
     requires { at + 28 ≤ length dst.old }
     ensures placed { Placed dst.old at
-        (readingWords (reading (rowsIn size months.now seconds.now) text.now)) result dst.new }
+        (reading_words (reading (rows_in size months.now seconds.now) text.now)) result dst.new }
     ensures upper_bound { result ≤ at + 28 }
 {
     match parsing::from_str_by_arrays(text, size, months, seconds) {
@@ -74,7 +74,7 @@ fn place_reading<'a>(
 // The line that answers a text, at the start of the buffer, by the rows of a table that is tested elsewhere: how many bytes it has. 11 where the buffer has
 // less than 50 bytes; nothing is written then.
 pub fn answer_line(text: &[u8], index: u64, table: AnnouncedRows, out: &mut [u8]) -> TextAnswer
-    ensures { LineCall (readingLine (rows_of table) text.now index) out.old result out.new }
+    ensures { LineCall (reading_line (rows_of table) text.now index) out.old result out.new }
 {
     if out.len() < LINE_ROOM {
         return TextAnswer::Refused(refusals::NO_ROOM);

@@ -2,22 +2,22 @@
 use mathlib.Core.Path.{◌≡◌, refl}
 use Rattle.reasons.specs.declared.sentences.Named.TheVariants.{NoField, Size}
 use Rattle.reasons.specs.declared.Values.TheVariants.{Block}
-use Rattle.reasons.specs.Offending.{blockField, offending}
-use Rattle.reasons.specs.sentences.Texts.{asciiBytes, texts, fixedText}
+use Rattle.reasons.specs.Offending.{block_field, offending}
+use Rattle.reasons.specs.sentences.Texts.{ascii_bytes, texts, fixed_text}
 
-pub text-of-15 : fixedText 15 ≡ asciiBytes "text is not an ISO 8601 time"
-unfolding fixedText texts
+pub text-of-15 : fixed_text 15 ≡ ascii_bytes "text is not an ISO 8601 time"
+unfolding fixed_text texts
 text-of-15 = refl
 
-pub text-of-16 : fixedText 16 ≡ asciiBytes "second has more than 13 digits after its point"
-unfolding fixedText texts
+pub text-of-16 : fixed_text 16 ≡ ascii_bytes "second has more than 13 digits after its point"
+unfolding fixed_text texts
 text-of-16 = refl
 
 -- 4,000 stamps pass, and no field is at fault; 4,001 are too many
 pub size-that-passes : offending 13 (Block 64008 4000 4000) ≡ NoField
-unfolding offending blockField
+unfolding offending block_field
 size-that-passes = refl
 
 pub size-too-large : offending 13 (Block 64024 4001 4001) ≡ Size 4001
-unfolding offending blockField
+unfolding offending block_field
 size-too-large = refl

@@ -10,13 +10,13 @@ use Rattle.reasons.specs.declared.ReasonAnswer.TheVariants.{Told, Refused}
 use Rattle.reasons.specs.Offending.{offending}
 
 -- the reason of a number, 1 to 28, by the values of its test; 18 for any other number
-unfoldable pub reasonOf : ℕ → Values → Outcome Reason
-reasonOf k values = cond (leb 1 k && leb k 28) (answer (record { number = k; named = offending k values })) (refusal 18)
+unfoldable pub reason_of : ℕ → Values → Outcome Reason
+reason_of k values = cond (leb 1 k && leb k 28) (answer (record { number = k; named = offending k values })) (refusal 18)
 
-unfoldable pub reasonOutcome : ReasonAnswer → Outcome Reason
-reasonOutcome (Told r) = answer r
-reasonOutcome (Refused k) = refusal k
+unfoldable pub reason_outcome : ReasonAnswer → Outcome Reason
+reason_outcome (Told r) = answer r
+reason_outcome (Refused k) = refusal k
 
 -- the sentence, or 18
 unfoldable pub sentence : ℕ → Values → Outcome (List ℕ)
-sentence k values = onward (reasonOf k values) (λ r. answer (render r))
+sentence k values = onward (reason_of k values) (λ r. answer (render r))

@@ -1,13 +1,13 @@
 // Which field is at fault, by the number and its test.
 ghost use Rattle.std.specs.Prelude.{◌≡◌, eqb};
-ghost use Rattle.reasons.specs.Offending.{only_if, yearField, monthField, dayField, dateField, timeField, sumField, partField, partsField};
-ghost use Rattle.reasons.specs.Offending.{floatField, nanosField, blockField};
+ghost use Rattle.reasons.specs.Offending.{only_if, year_field, month_field, day_field, date_field, time_field, sum_field, part_field, parts_field};
+ghost use Rattle.reasons.specs.Offending.{float_field, nanos_field, block_field};
 
 use crate::sentences::Named;
 use julian::FractionAnswer;
 
 fn year_field(year: i32) -> Named
-    ensures { result ≡ yearField year }
+    ensures { result ≡ year_field year }
 {
     if year < -4799 {
         return Named::Year(year);
@@ -16,7 +16,7 @@ fn year_field(year: i32) -> Named
 }
 
 fn month_field(month: i32) -> Named
-    ensures { result ≡ monthField month }
+    ensures { result ≡ month_field month }
 {
     if month < 1 {
         return Named::Month(month);
@@ -28,7 +28,7 @@ fn month_field(month: i32) -> Named
 }
 
 fn day_field(year: i32, month: i32, day: i32) -> Named
-    ensures { result ≡ dayField year month day }
+    ensures { result ≡ day_field year month day }
 {
     if day < 1 {
         return Named::Day(day);
@@ -40,7 +40,7 @@ fn day_field(year: i32, month: i32, day: i32) -> Named
 }
 
 pub(crate) fn date_field(number: u32, year: i32, month: i32, day: i32) -> Named
-    ensures { result ≡ dateField number year month day }
+    ensures { result ≡ date_field number year month day }
 {
     if number == 1 {
         return year_field(year);
@@ -56,7 +56,7 @@ pub(crate) fn date_field(number: u32, year: i32, month: i32, day: i32) -> Named
 
 // The first of hour, minute and second that is wrong.
 fn first_wrong(hour: u8, minute: u8, second: f64, leap: f64) -> Named
-    ensures { result ≡ timeField hour minute second leap }
+    ensures { result ≡ time_field hour minute second leap }
 {
     if hour > 23 {
         return Named::Hour(hour);
@@ -71,7 +71,7 @@ fn first_wrong(hour: u8, minute: u8, second: f64, leap: f64) -> Named
 }
 
 pub(crate) fn time_field(number: u32, hour: u8, minute: u8, second: f64, leap: f64) -> Named
-    ensures { result ≡ only_if (eqb number 4) (timeField hour minute second leap) }
+    ensures { result ≡ only_if (eqb number 4) (time_field hour minute second leap) }
 {
     if number == 4 {
         return first_wrong(hour, minute, second, leap);
@@ -80,7 +80,7 @@ pub(crate) fn time_field(number: u32, hour: u8, minute: u8, second: f64, leap: f
 }
 
 fn sum_field(jd1: f64, jd2: f64) -> Named
-    ensures { result ≡ sumField jd1 jd2 }
+    ensures { result ≡ sum_field jd1 jd2 }
 {
     let sum = jd1 + jd2;
     if sum >= -68569.5 && sum <= 1e9 {
@@ -91,7 +91,7 @@ fn sum_field(jd1: f64, jd2: f64) -> Named
 
 // The first part that is not finite.
 fn part_field(jd1: f64, jd2: f64) -> Named
-    ensures { result ≡ partField jd1 jd2 }
+    ensures { result ≡ part_field jd1 jd2 }
 {
     if !floats::is_finite(jd1) {
         return Named::FirstPart(jd1);
@@ -103,7 +103,7 @@ fn part_field(jd1: f64, jd2: f64) -> Named
 }
 
 pub(crate) fn parts_field(number: u32, jd1: f64, jd2: f64) -> Named
-    ensures { result ≡ partsField number jd1 jd2 }
+    ensures { result ≡ parts_field number jd1 jd2 }
 {
     if number == 6 {
         return sum_field(jd1, jd2);
@@ -115,7 +115,7 @@ pub(crate) fn parts_field(number: u32, jd1: f64, jd2: f64) -> Named
 }
 
 pub(crate) fn float_field(number: u32, x: f64) -> Named
-    ensures { result ≡ floatField number x }
+    ensures { result ≡ float_field number x }
 {
     if number == 7 {
         if 0.0 <= x && x <= 1.0 {
@@ -132,7 +132,7 @@ pub(crate) fn float_field(number: u32, x: f64) -> Named
 }
 
 pub(crate) fn nanos_field(number: u32, n: u32) -> Named
-    ensures { result ≡ only_if (eqb number 8) (nanosField n) }
+    ensures { result ≡ only_if (eqb number 8) (nanos_field n) }
 {
     if number == 8 {
         if n >= 1000000000 {
@@ -144,7 +144,7 @@ pub(crate) fn nanos_field(number: u32, n: u32) -> Named
 
 // Of a block: 12 the second size, 13 the size, 14 the whole length.
 pub(crate) fn block_field(number: u32, length: u64, size: u32, second: u32) -> Named
-    ensures { result ≡ blockField number length size second }
+    ensures { result ≡ block_field number length size second }
 {
     if number == 12 {
         if size != second {

@@ -5,7 +5,7 @@ pub mod sentences;
 ghost use Rattle.std.specs.Prelude.{◌≡◌};
 ghost use Rattle.utc.specs.iso_texts.TextCall.{TextCall};
 ghost use Rattle.reasons.specs.Offending.{offending};
-ghost use Rattle.reasons.specs.Sentence.{reasonOf, reasonOutcome, sentence};
+ghost use Rattle.reasons.specs.Sentence.{reason_of, reason_outcome, sentence};
 
 use crate::sentences::{Named, Reason};
 use utc::text::TextAnswer;
@@ -54,7 +54,7 @@ fn named_field(number: u32, values: Values) -> Named
 
 // The reason of a number with the values of its test. 18: a number that is not 1 to 28.
 pub fn reason_of(number: u32, values: Values) -> ReasonAnswer
-    ensures { reasonOutcome result ≡ reasonOf number values }
+    ensures { reason_outcome result ≡ reason_of number values }
 {
     if number < 1 {
         return ReasonAnswer::Refused(refusals::OUT_OF_LIMIT);

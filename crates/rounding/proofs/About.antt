@@ -11,9 +11,9 @@ use lib.Ieee.{Float, binary64, add, sub, mul, div, neg}
 use Rattle.rounding.specs.Value.{Val, L}
 use Rattle.rounding.specs.Picoseconds.{Within}
 use Rattle.rounding.proofs.Signed.{product_le}
-use Rattle.rounding.proofs.Value.{neg-val, L-pos}
-use Rattle.rounding.proofs.Near.{add-near}
-use Rattle.rounding.proofs.Scaled.{Scaled, mul-near, div-near}
+use Rattle.rounding.proofs.Value.{neg_val, L-pos}
+use Rattle.rounding.proofs.Near.{add_near}
+use Rattle.rounding.proofs.Scaled.{Scaled, mul_near, div_near}
 
 -- 2 ^ -90, in units of the smallest float. Shut on purpose, as L is
 unfoldable pub U : ℕ
@@ -58,35 +58,35 @@ own-size : (p n M : ℕ) → p ≤ n + M * U → p * L ≤ n * L + M * (U * L)
 own-size p n M h = le_trans (mul-le-mul_right L h) (le_of_eq (add-mul n (M * U) L ∙ ap (λ (z : ℕ). n * L + z) (mul_assoc M U L)))
 
 -- a float is about itself: no error, and at most M in size
-pub about-own : (M : ℕ) {x : Float} {p n : ℕ} → p ≤ n + M * U → n ≤ p + M * U → Val x p n L → About x p n L M 0
-about-own M {x} {p} {n} h k v =
+pub about_own : (M : ℕ) {x : Float} {p n : ℕ} → p ≤ n + M * U → n ≤ p + M * U → Val x p n L → About x p n L M 0
+about_own M {x} {p} {n} h k v =
     record { p = p; n = n; val = v; over = omega arith; under = omega arith; high = own-size p n M h; low = own-size n p M k; some = L-pos }
 
 -- -x is about -(P - N) / D
-pub about-neg : {x : Float} {P N D M e : ℕ} → About x P N D M e → About (neg x) N P D M e
-about-neg a = record { p = a.n; n = a.p; val = neg-val a.val; over = a.under; under = a.over; high = a.low; low = a.high; some = a.some }
+pub about_neg : {x : Float} {P N D M e : ℕ} → About x P N D M e → About (neg x) N P D M e
+about_neg a = record { p = a.n; n = a.p; val = neg_val a.val; over = a.under; under = a.over; high = a.low; low = a.high; some = a.some }
 
 -- ---- other numbers for the same fraction
-scale-le : (a b P N D e c : ℕ) → a * D + N * L ≤ b * D + P * L + e * (U * D) → a * (D * c) + N * c * L ≤ b * (D * c) + P * c * L + e * (U * (D * c))
-scale-le a b P N D e c h =
+scale_le : (a b P N D e c : ℕ) → a * D + N * L ≤ b * D + P * L + e * (U * D) → a * (D * c) + N * c * L ≤ b * (D * c) + P * c * L + e * (U * (D * c))
+scale_le a b P N D e c h =
     let g : (a * D + N * L) * c ≤ (b * D + P * L + e * (U * D)) * c = mul-le-mul_right c h in
     simp (mul_assoc, mul_comm, mul_left_comm) (simp (add-mul, mul_assoc, mul_comm, mul_left_comm) at g)
 
-scale-size : (P N D M c : ℕ) → P * L ≤ N * L + M * (U * D) → P * c * L ≤ N * c * L + M * (U * (D * c))
-scale-size P N D M c h =
+scale_size : (P N D M c : ℕ) → P * L ≤ N * L + M * (U * D) → P * c * L ≤ N * c * L + M * (U * (D * c))
+scale_size P N D M c h =
     let g : P * L * c ≤ (N * L + M * (U * D)) * c = mul-le-mul_right c h in
     simp (mul_assoc, mul_comm, mul_left_comm) (simp (add-mul, mul_assoc, mul_comm, mul_left_comm) at g)
 
 -- (P - N) / D = (P * c - N * c) / (D * c)
-pub about-scale : (c : ℕ) {x : Float} {P N D M e : ℕ} → 0 < c → About x P N D M e → About x (P * c) (N * c) (D * c) M e
-about-scale c {x} {P} {N} {D} {M} {e} C a = record {
+pub about_scale : (c : ℕ) {x : Float} {P N D M e : ℕ} → 0 < c → About x P N D M e → About x (P * c) (N * c) (D * c) M e
+about_scale c {x} {P} {N} {D} {M} {e} C a = record {
   p = a.p;
   n = a.n;
   val = a.val;
-  over = scale-le a.p a.n P N D e c a.over;
-  under = scale-le a.n a.p N P D e c a.under;
-  high = scale-size P N D M c a.high;
-  low = scale-size N P D M c a.low;
+  over = scale_le a.p a.n P N D e c a.over;
+  under = scale_le a.n a.p N P D e c a.under;
+  high = scale_size P N D M c a.high;
+  low = scale_size N P D M c a.low;
   some = mul-pos a.some C;
 }
 
@@ -131,12 +131,12 @@ bound M M' e f w h = mul-lt-mul_of_pos_right (go M M' e f w h) U_pos
     go M M' e f w h = omega arith
 
 -- the errors add up, and the sum's own rounding adds 2 ^ i, where the sum is below 2 ^ (54 + i)
-pub about-add : (i : ℕ) {x y : Float} {P N Q R D M M' e f : ℕ} → 985 + i ≤ 2044 → M + M' + (e + f) < 2 ^ (54 + i) → About x P N D M e → About y Q R D M' f
+pub about_add : (i : ℕ) {x y : Float} {P N Q R D M M' e f : ℕ} → 985 + i ≤ 2044 → M + M' + (e + f) < 2 ^ (54 + i) → About x P N D M e → About y Q R D M' f
     → About (add binary64 x y) (P + Q) (N + R) D (M + M') (e + f + 2 ^ i)
-about-add i {x} {y} {P} {N} {Q} {R} {D} {M} {M'} {e} {f} I h a b =
+about_add i {x} {y} {P} {N} {Q} {R} {D} {M} {M'} {e} {f} I h a b =
     let w : (M + e + (M' + f)) * U < 2 ^ (53 + (985 + i)) = lt_of_lt_of_le (bound M M' e f (2 ^ (54 + i)) h) (le_of_eq (sym (room i))) in
     let s : (M + e) * U + (M' + f) * U ≡ (M + e + (M' + f)) * U = sym (add-mul (M + e) (M' + f) U) in
-    let z = add-near (985 + i) I
+    let z = add_near (985 + i) I
     (fits a.p a.n b.p b.n ((M + e) * U) ((M' + f) * U) ((M + e + (M' + f)) * U) (2 ^ (53 + (985 + i))) (size-high a) (size-high b) s w)
     (fits a.n a.p b.n b.p ((M + e) * U) ((M' + f) * U) ((M + e + (M' + f)) * U) (2 ^ (53 + (985 + i))) (size_low a) (size_low b) s w)
     a.val b.val in
@@ -153,10 +153,10 @@ about-add i {x} {y} {P} {N} {Q} {R} {D} {M} {M'} {e} {f} I h a b =
       some = a.some;
     }
 
-pub about-sub : (i : ℕ) {x y : Float} {P N Q R D M M' e f : ℕ} → 985 + i ≤ 2044 → M + M' + (e + f) < 2 ^ (54 + i) → About x P N D M e → About y Q R D M' f
+pub about_sub : (i : ℕ) {x y : Float} {P N Q R D M M' e f : ℕ} → 985 + i ≤ 2044 → M + M' + (e + f) < 2 ^ (54 + i) → About x P N D M e → About y Q R D M' f
     → About (sub binary64 x y) (P + R) (N + Q) D (M + M') (e + f + 2 ^ i)
 unfolding sub
-about-sub i I h a b = about-add i I h a (about-neg b)
+about_sub i I h a b = about_add i I h a (about_neg b)
 
 -- ---- a product by a float B / E for an exact A / C, and a quotient by a whole number
 -- over E: the rounded product, what x was off, and what B / E is off from A / C
@@ -185,11 +185,11 @@ module _ (a' b' a b P N D M e A B C E Δ t e' : ℕ) (F : 0 < E)
           → x + qN ≤ y + qP + s
       go x y pa pb pP pN qP qN s1 s2 s3 s r1 r2 r3 r4 = omega arith
 
-  scaled-le : a' * (D * C) + N * A * L ≤ b' * (D * C) + P * A * L + e' * (U * (D * C))
-  scaled-le = le_of_mul-le-mul_right {k = E} (simp (add-mul, mul_assoc, mul_comm, mul_left_comm) (simp (mul_assoc, mul_comm, mul_left_comm) at all_in)) F
+  scaled_le : a' * (D * C) + N * A * L ≤ b' * (D * C) + P * A * L + e' * (U * (D * C))
+  scaled_le = le_of_mul-le-mul_right {k = E} (simp (add-mul, mul_assoc, mul_comm, mul_left_comm) (simp (mul_assoc, mul_comm, mul_left_comm) at all_in)) F
 
-product-size : (P N D M M' A C : ℕ) → M * A ≤ M' * C → P * L ≤ N * L + M * (U * D) → P * A * L ≤ N * A * L + M' * (U * (D * C))
-product-size P N D M M' A C m h =
+product_size : (P N D M M' A C : ℕ) → M * A ≤ M' * C → P * L ≤ N * L + M * (U * D) → P * A * L ≤ N * A * L + M' * (U * (D * C))
+product_size P N D M M' A C m h =
     let g : P * L * A ≤ N * L * A + M * (U * D) * A = le_trans (mul-le-mul_right A h) (le_of_eq (add-mul (N * L) (M * (U * D)) A)) in
     let k : M * A * (U * D) ≤ M' * C * (U * D) = mul-le-mul_right (U * D) m in
     go (P * L * A) (P * A * L) (N * L * A) (N * A * L) (M * (U * D) * A) (M * A * (U * D)) (M' * C * (U * D)) (M' * (U * (D * C))) g k
@@ -207,22 +207,22 @@ whole i E x y w q h = go x y (E * w) (E * (2 ^ i * U)) (ap (λ (v : ℕ). E * v)
 module _ (i : ℕ) {x z : Float} {P N D M e : ℕ} (A B C E Δ M' e' : ℕ) (F : 0 < E) (G : 0 < C) (d1 : B * C ≤ A * E + Δ) (d2 : A * E ≤ B * C + Δ)
     (m : M * A ≤ M' * C)
     (budget : e * (B * C) + Δ * M + 2 ^ i * (E * C) ≤ e' * (E * C)) (a : About x P N D M e) where
-  about-scaled : Scaled z a.p a.n B E (985 + i) → About z (P * A) (N * A) (D * C) M' e'
-  about-scaled s = record {
+  about_scaled : Scaled z a.p a.n B E (985 + i) → About z (P * A) (N * A) (D * C) M' e'
+  about_scaled s = record {
     p = s.p;
     n = s.n;
     val = s.val;
-    over = scaled-le s.p s.n a.p a.n P N D M e A B C E Δ (2 ^ i) e' F
+    over = scaled_le s.p s.n a.p a.n P N D M e A B C E Δ (2 ^ i) e' F
         (whole i E (E * s.p + B * a.n) (E * s.n + B * a.p) (2 ^ (985 + i)) (unit i) s.over) a.over a.high a.low d1 d2 budget;
-    under = scaled-le s.n s.p a.n a.p N P D M e A B C E Δ (2 ^ i) e' F
+    under = scaled_le s.n s.p a.n a.p N P D M e A B C E Δ (2 ^ i) e' F
         (whole i E (E * s.n + B * a.p) (E * s.p + B * a.n) (2 ^ (985 + i)) (unit i) s.under) a.under a.low a.high d1 d2 budget;
-    high = product-size P N D M M' A C m a.high;
-    low = product-size N P D M M' A C m a.low;
+    high = product_size P N D M M' A C m a.high;
+    low = product_size N P D M M' A C m a.low;
     some = mul-pos a.some G;
   }
 
-times-fits : (i a b W B E : ℕ) → a ≤ b + W * U → W * B < 2 ^ (54 + i) * E → a * B < b * B + 2 ^ (53 + (985 + i)) * E
-times-fits i a b W B E h k =
+times_fits : (i a b W B E : ℕ) → a ≤ b + W * U → W * B < 2 ^ (54 + i) * E → a * B < b * B + 2 ^ (53 + (985 + i)) * E
+times_fits i a b W B E h k =
     let g : a * B ≤ b * B + W * U * B = le_trans (mul-le-mul_right B h) (le_of_eq (add-mul b (W * U) B)) in
     let l : W * B * U < 2 ^ (54 + i) * E * U = mul-lt-mul_of_pos_right k U_pos in
     go (a * B) (b * B) (W * U * B) (W * B * U) (2 ^ (54 + i) * E * U) (2 ^ (53 + (985 + i)) * E) g (mul_right_comm W U B) l
@@ -232,33 +232,33 @@ times-fits i a b W B E h k =
     go x y s s' t t' a b c d = omega arith
 
 -- x * k, for a float k = B / E that stands for the constant A / C, and is off by Δ / (C * E) at most: e' is the budget for all errors together
-pub about-mul : (i : ℕ) {x y : Float} {P N D M e : ℕ} (A B C E Δ M' e' : ℕ) → 985 + i ≤ 2044 → 0 < E → 0 < C → B * C ≤ A * E + Δ → A * E ≤ B * C + Δ
+pub about_mul : (i : ℕ) {x y : Float} {P N D M e : ℕ} (A B C E Δ M' e' : ℕ) → 985 + i ≤ 2044 → 0 < E → 0 < C → B * C ≤ A * E + Δ → A * E ≤ B * C + Δ
     → M * A ≤ M' * C → (M + e) * B < 2 ^ (54 + i) * E
     → e * (B * C) + Δ * M + 2 ^ i * (E * C) ≤ e' * (E * C) → Val y B 0 E → About x P N D M e → About (mul binary64 x y) (P * A) (N * A) (D * C) M' e'
-about-mul i {x} {y} {P} {N} {D} {M} {e} A B C E Δ M' e' I F G d1 d2 m r budget v a =
-    about-scaled i A B C E Δ M' e' F G d1 d2 m budget a
-    (mul-near (985 + i) F I (times-fits i a.p a.n (M + e) B E (size-high a) r) (times-fits i a.n a.p (M + e) B E (size_low a) r) a.val v)
+about_mul i {x} {y} {P} {N} {D} {M} {e} A B C E Δ M' e' I F G d1 d2 m r budget v a =
+    about_scaled i A B C E Δ M' e' F G d1 d2 m budget a
+    (mul_near (985 + i) F I (times_fits i a.p a.n (M + e) B E (size-high a) r) (times_fits i a.n a.p (M + e) B E (size_low a) r) a.val v)
 
 -- x / c, for a whole number c
-pub about-div : (i : ℕ) {x y : Float} {P N D M e : ℕ} (c M' e' : ℕ) → 985 + i ≤ 2044 → 0 < c → M ≤ M' * c → M + e < 2 ^ (54 + i) * c → e + 2 ^ i * c ≤ e' * c
+pub about_div : (i : ℕ) {x y : Float} {P N D M e : ℕ} (c M' e' : ℕ) → 985 + i ≤ 2044 → 0 < c → M ≤ M' * c → M + e < 2 ^ (54 + i) * c → e + 2 ^ i * c ≤ e' * c
     → Val y c 0 1 → About x P N D M e
     → About (div binary64 x y) (P * 1) (N * 1) (D * c) M' e'
-about-div i {x} {y} {P} {N} {D} {M} {e} c M' e' I F m r budget v a =
-    about-scaled i 1 1 c c 0 M' e' F F (omega arith) (omega arith) (subst (λ (z : ℕ). z ≤ M' * c) (sym (mul-one M)) m)
+about_div i {x} {y} {P} {N} {D} {M} {e} c M' e' I F m r budget v a =
+    about_scaled i 1 1 c c 0 M' e' F F (omega arith) (omega arith) (subst (λ (z : ℕ). z ≤ M' * c) (sym (mul-one M)) m)
     (le_trans (le_of_eq (go e M c (2 ^ i))) (le_trans (mul-le-mul_right c budget) (le_of_eq (mul_assoc e' c c)))) a
-    (div-near (985 + i) c F I (one a.p a.n (size-high a)) (one a.n a.p (size_low a)) a.val v)
+    (div_near (985 + i) c F I (one a.p a.n (size-high a)) (one a.n a.p (size_low a)) a.val v)
   where
     go : (e M c t : ℕ) → e * (1 * c) + 0 * M + t * (c * c) ≡ (e + t * c) * c
     go e M c t = simp (one-mul, add-mul, mul_assoc) (omega arith)
 
     one : (p n : ℕ) → p ≤ n + (M + e) * U → p < n + 2 ^ (53 + (985 + i)) * c
     one p n h = subst₂ (λ (s t : ℕ). s < t + 2 ^ (53 + (985 + i)) * c) (mul-one p) (mul-one n)
-        (times-fits i p n (M + e) 1 c h (subst (λ (z : ℕ). z < 2 ^ (54 + i) * c) (sym (mul-one (M + e))) r))
+        (times_fits i p n (M + e) 1 c h (subst (λ (z : ℕ). z < 2 ^ (54 + i) * c) (sym (mul-one (M + e))) r))
 
 -- ---- of a value in days: x is within ps picoseconds of (P - N) / D days
 -- 86400 * 10 ^ 12 picoseconds are a day
-pub about-within : (ps : ℕ) {x : Float} {P N D M e : ℕ} → 86400000000000000 * e ≤ ps * 2 ^ 90 → About x P N D M e → Within ps x P N D
-about-within ps {x} {P} {N} {D} {M} {e} h a = record {
+pub about_within : (ps : ℕ) {x : Float} {P N D M e : ℕ} → 86400000000000000 * e ≤ ps * 2 ^ 90 → About x P N D M e → Within ps x P N D
+about_within ps {x} {P} {N} {D} {M} {e} h a = record {
   p = a.p;
   n = a.n;
   val = a.val;

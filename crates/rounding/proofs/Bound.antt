@@ -14,10 +14,10 @@ use lib.Ieee.Order.{drop, kept, round_mono}
 use lib.Ieee.Scale.{grid, round_same}
 use Rattle.floats.proofs.Casts.{or_l}
 use Rattle.rounding.specs.Value.{Signed, Val, Rounds, L}
-use Rattle.rounding.proofs.Signed.{dist, dist-hi, dist-flip, signed_le, signed-scale}
-use Rattle.rounding.proofs.Grid.{grid-le, grid-ge}
+use Rattle.rounding.proofs.Signed.{dist, dist_hi, dist_flip, signed_le, signed-scale}
+use Rattle.rounding.proofs.Grid.{grid_le, grid_ge}
 use Rattle.rounding.proofs.Near.{rounds-has}
-use Rattle.rounding.proofs.Own.{Rep, rep-flip, val-rep, val-small}
+use Rattle.rounding.proofs.Own.{Rep, rep_flip, val-rep, val-small}
 
 -- ---- at most B in size
 -- z is finite, and |z| is at most B units
@@ -35,19 +35,19 @@ within_of : (s : Bool) (z : Float) (g B : ℕ) → HasValue z s g L → g ≤ B 
 within_of false z g B h l = record { p = g; n = 0; val = record { sign = false; size = g; has = h; is = omega arith }; high = omega arith; low = omega arith }
 within_of true z g B h l = record { p = 0; n = g; val = record { sign = true; size = g; has = h; is = omega arith }; high = omega arith; low = omega arith }
 
-round-le : (a D B : ℕ) → Rep B → 0 < D → a * L ≤ B * D → grid binary64 a D ≤ B
+round_le : (a D B : ℕ) → Rep B → 0 < D → a * L ≤ B * D → grid binary64 a D ≤ B
 unfolding L
-round-le a D B r E h = le_trans (grid-le binary64 a D r.q r.j E r.small (subst (λ (x : ℕ). a * 2 ^ 1074 ≤ x * D) r.is h)) (le_of_eq (sym r.is))
+round_le a D B r E h = le_trans (grid_le binary64 a D r.q r.j E r.small (subst (λ (x : ℕ). a * 2 ^ 1074 ≤ x * D) r.is h)) (le_of_eq (sym r.is))
 
-round-ge : (a D B : ℕ) → Rep B → 0 < D → B * D ≤ a * L → B ≤ grid binary64 a D
+round_ge : (a D B : ℕ) → Rep B → 0 < D → B * D ≤ a * L → B ≤ grid binary64 a D
 unfolding L
-round-ge a D B r E h = le_trans (le_of_eq r.is) (grid-ge binary64 a D r.q r.j E r.small (subst (λ (x : ℕ). x * D ≤ a * 2 ^ 1074) r.is h))
+round_ge a D B r E h = le_trans (le_of_eq r.is) (grid_ge binary64 a D r.q r.j E r.small (subst (λ (x : ℕ). x * D ≤ a * 2 ^ 1074) r.is h))
 
 -- |P - N| / D ≤ B / L gives |z| ≤ B / L
 pub rounds-within : {z : Float} {P N D B : ℕ} → 0 < D → Rep B → B < 2 ^ 2098 → P * L ≤ N * L + B * D → N * L ≤ P * L + B * D → Rounds binary64 z P N D
     → SizeWithin z B
 rounds-within {z} {P} {N} {D} {B} E rep b u l r =
-    let g = round-le r.size D B rep E (signed_le r.sign (r.size * L) (P * L) (N * L) (B * D) (signed-scale r.sign r.size P N L r.is) u l)
+    let g = round_le r.size D B rep E (signed_le r.sign (r.size * L) (P * L) (N * L) (B * D) (signed-scale r.sign r.size P N L r.is) u l)
     in within_of r.sign z (grid binary64 r.size D) B (rounds-has r (lt_of_le_of_lt g b)) g
 
 -- ---- between two floats
@@ -62,13 +62,13 @@ pub record Enclosed (z : Float) (a b c d : ℕ) : Type 0 where
 -- for a size k / D from (a - b) / L to (c - d) / L: its rounded value lies there
 module _ (k a b c d D : ℕ) (E : 0 < D) (lo : Rep (dist a b)) (hi : Rep (dist c d)) (h : a * D ≤ k * L + b * D) (l : k * L + d * D ≤ c * D) where
   ordered : d ≤ c
-  ordered = le_of_mul-le-mul_right {k = D} (drop-left (k * L) (d * D) (c * D) l) E
+  ordered = le_of_mul-le-mul_right {k = D} (drop_left (k * L) (d * D) (c * D) l) E
     where
-      drop-left : (x y z : ℕ) → x + y ≤ z → y ≤ z
-      drop-left x y z e = omega arith
+      drop_left : (x y z : ℕ) → x + y ≤ z → y ≤ z
+      drop_left x y z e = omega arith
 
   size-high : grid binary64 k D ≤ dist c d
-  size-high = round-le k D (dist c d) hi E (room (dist c d) (dist-hi c d ordered))
+  size-high = round_le k D (dist c d) hi E (room (dist c d) (dist_hi c d ordered))
     where
       room : (x : ℕ) → x + d ≡ c → k * L ≤ x * D
       room x e = let f : x * D + d * D ≡ c * D = sym (add-mul x d D) ∙ ap (λ (z : ℕ). z * D) e in omega arith
@@ -77,26 +77,26 @@ module _ (k a b c d D : ℕ) (E : 0 < D) (lo : Rep (dist a b)) (hi : Rep (dist c
   above = go (leb b a) (leb→le b a) (nleb→lt b a)
     where
       go : (t : Bool) → (T t → b ≤ a) → (T (not t) → a < b) → a ≤ grid binary64 k D + b
-      go true f _ = add-b (dist a b) (grid binary64 k D) (dist-hi a b (f tt)) (round-ge k D (dist a b) lo E (room (dist a b) (dist-hi a b (f tt))))
+      go true f _ = add_b (dist a b) (grid binary64 k D) (dist_hi a b (f tt)) (round_ge k D (dist a b) lo E (room (dist a b) (dist_hi a b (f tt))))
         where
           room : (x : ℕ) → x + b ≡ a → x * D ≤ k * L
           room x e = let w : x * D + b * D ≡ a * D = sym (add-mul x b D) ∙ ap (λ (z : ℕ). z * D) e in omega arith
 
-          add-b : (x g : ℕ) → x + b ≡ a → x ≤ g → a ≤ g + b
-          add-b x g e f = omega arith
+          add_b : (x g : ℕ) → x + b ≡ a → x ≤ g → a ≤ g + b
+          add_b x g e f = omega arith
       go false _ f = small (grid binary64 k D) (f tt)
         where
           small : (g : ℕ) → a < b → a ≤ g + b
           small g e = omega arith
 
   under : grid binary64 k D + d ≤ c
-  under = add-d (dist c d) (grid binary64 k D) (dist-hi c d ordered) size-high
+  under = add_d (dist c d) (grid binary64 k D) (dist_hi c d ordered) size-high
     where
-      add-d : (x g : ℕ) → x + d ≡ c → g ≤ x → g + d ≤ c
-      add-d x g e f = omega arith
+      add_d : (x g : ℕ) → x + d ≡ c → g ≤ x → g + d ≤ c
+      add_d x g e f = omega arith
 
 small-turn : (a b : ℕ) → dist a b < 2 ^ 2098 → dist b a < 2 ^ 2098
-small-turn a b h = lt_of_le_of_lt (le_of_eq (dist-flip b a)) h
+small-turn a b h = lt_of_le_of_lt (le_of_eq (dist_flip b a)) h
 
 between-of : (s : Bool) (z : Float) (k P N D a b c d : ℕ) → 0 < D → Rep (dist a b) → Rep (dist c d) → dist a b < 2 ^ 2098 → dist c d < 2 ^ 2098
     → Signed s k P N → a * D + N * L ≤ P * L + b * D → P * L + d * D ≤ c * D + N * L
@@ -120,9 +120,9 @@ between-of true z k P N D a b c d E ra rc sa sc i h l has =
     let e : k * L + P * L ≡ N * L = signed-scale true k P N L i in
     let h' : d * D ≤ k * L + c * D = omega arith in
     let l' : k * L + a * D ≤ b * D = omega arith in
-    let v = has (lt_of_le_of_lt (size-high k d c b a D E (rep-flip c d rc) (rep-flip a b ra) h' l') (small-turn a b sa)) in
-    let x = above k d c b a D E (rep-flip c d rc) (rep-flip a b ra) h' l' in
-    let y = under k d c b a D E (rep-flip c d rc) (rep-flip a b ra) h' l' in
+    let v = has (lt_of_le_of_lt (size-high k d c b a D E (rep_flip c d rc) (rep_flip a b ra) h' l') (small-turn a b sa)) in
+    let x = above k d c b a D E (rep_flip c d rc) (rep_flip a b ra) h' l' in
+    let y = under k d c b a D E (rep_flip c d rc) (rep_flip a b ra) h' l' in
     record {
       p = 0;
       n = grid binary64 k D;
@@ -140,22 +140,22 @@ rounds-between {z} {P = P} {N} {D} {a} {b} {c} {d} E fl fh vl vh h l r =
     between-of r.sign z r.size P N D a b c d E (val-rep fl vl) (val-rep fh vh) (val-small fl vl) (val-small fh vh) r.is h l (rounds-has r)
 
 -- ---- the order is kept
-odd-neg : (d q k l : ℕ) → odd d true q k l ≡ neg (odd d false q k l)
+odd_neg : (d q k l : ℕ) → odd d true q k l ≡ neg (odd d false q k l)
 unfolding odd neg
-odd-neg d zero k l = refl
-odd-neg d (suc q) k l = refl
+odd_neg d zero k l = refl
+odd_neg d (suc q) k l = refl
 
 units-neg : (f : Format) (q k : ℕ) → units f true q k ≡ neg (units f false q k)
 unfolding units
 units-neg f q k = go (ltb (q * 2 ^ k) (2 ^ (low f + suc (emax f))))
   where
     go : (b : Bool) → cond b (odd (suc (prec f)) true q k (low f)) (inf true) ≡ neg (cond b (odd (suc (prec f)) false q k (low f)) (inf false))
-    go true = odd-neg (suc (prec f)) q k (low f)
+    go true = odd_neg (suc (prec f)) q k (low f)
     go false = unfold neg in refl
 
 -- round (-x) = -(round x)
-pub round-neg : (f : Format) (a c : ℕ) → round f true a c ≡ neg (round f false a c)
-round-neg f a c = round_is f true a c ∙ units-neg f (kept (prec f) (a * 2 ^ low f) c) (drop (prec f) (a * 2 ^ low f) c) ∙ ap neg (sym (round_is f false a c))
+pub round_neg : (f : Format) (a c : ℕ) → round f true a c ≡ neg (round f false a c)
+round_neg f a c = round_is f true a c ∙ units-neg f (kept (prec f) (a * 2 ^ low f) c) (drop (prec f) (a * 2 ^ low f) c) ∙ ap neg (sym (round_is f false a c))
 
 -- -y ≤ -x, where x ≤ y
 below-neg : (s t : Bool) (a b : ℕ) → T (below s a t b) → T (below (not t) b (not s) a)
@@ -176,18 +176,18 @@ level-neg s t a b h = go (eqb→eq a b (and_l (eqb a b) (beq s t || eqb a 0) h))
     go : a ≡ b → T (level (not t) b (not s) a)
     go e = subst (λ (z : ℕ). T (level (not t) z (not s) a)) e (same s t (subst (λ (z : ℕ). T (level s a t z)) (sym e) h))
 
-lt-neg : (x y : Float) → T (lt x y) → T (lt (neg y) (neg x))
+lt_neg : (x y : Float) → T (lt x y) → T (lt (neg y) (neg x))
 unfolding lt neg
-lt-neg nan y h = absurd h
-lt-neg (inf s) nan h = absurd h
-lt-neg (inf true) (inf true) h = absurd h
-lt-neg (inf true) (inf false) h = tt
-lt-neg (inf false) (inf t) h = absurd h
-lt-neg (inf true) (fin t n d) h = tt
-lt-neg (inf false) (fin t n d) h = absurd h
-lt-neg (fin s m e) nan h = absurd h
-lt-neg (fin s m e) (inf t) h = h
-lt-neg (fin s m e) (fin t n d) h = below-neg s t (m * up e * down d) (n * up d * down e) h
+lt_neg nan y h = absurd h
+lt_neg (inf s) nan h = absurd h
+lt_neg (inf true) (inf true) h = absurd h
+lt_neg (inf true) (inf false) h = tt
+lt_neg (inf false) (inf t) h = absurd h
+lt_neg (inf true) (fin t n d) h = tt
+lt_neg (inf false) (fin t n d) h = absurd h
+lt_neg (fin s m e) nan h = absurd h
+lt_neg (fin s m e) (inf t) h = h
+lt_neg (fin s m e) (fin t n d) h = below-neg s t (m * up e * down d) (n * up d * down e) h
 
 eq-neg : (x y : Float) → T (eq x y) → T (eq (neg y) (neg x))
 unfolding eq neg
@@ -202,9 +202,9 @@ eq-neg (fin s m e) nan h = absurd h
 eq-neg (fin s m e) (inf t) h = absurd h
 eq-neg (fin s m e) (fin t n d) h = level-neg s t (m * up e * down d) (n * up d * down e) h
 
-le-neg : (x y : Float) → T (le x y) → T (le (neg y) (neg x))
+le_neg : (x y : Float) → T (le x y) → T (le (neg y) (neg x))
 unfolding le
-le-neg x y h = go (lt x y) (lt (neg y) (neg x)) (lt-neg x y) (eq-neg x y) h
+le_neg x y h = go (lt x y) (lt (neg y) (neg x)) (lt_neg x y) (eq-neg x y) h
   where
     go : (b c : Bool) → (T b → T c) → (T (eq x y) → T (eq (neg y) (neg x))) → T (b || eq x y) → T (c || eq (neg y) (neg x))
     go b true f g h = tt
@@ -217,24 +217,24 @@ Side s nan = ⊥
 Side s (inf t) = t ≡ s
 Side s (fin t m e) = t ≡ s
 
-odd-side : (d : ℕ) (s : Bool) (q k l : ℕ) → Side s (odd d s q k l)
+odd_side : (d : ℕ) (s : Bool) (q k l : ℕ) → Side s (odd d s q k l)
 unfolding odd
-odd-side d s zero k l = refl
-odd-side d s (suc q) k l = refl
+odd_side d s zero k l = refl
+odd_side d s (suc q) k l = refl
 
 units-side : (f : Format) (s : Bool) (q k : ℕ) → Side s (units f s q k)
 unfolding units
 units-side f s q k = pick (ltb (q * 2 ^ k) (2 ^ (low f + suc (emax f))))
   where
     pick : (b : Bool) → Side s (cond b (odd (suc (prec f)) s q k (low f)) (inf s))
-    pick true = odd-side (suc (prec f)) s q k (low f)
+    pick true = odd_side (suc (prec f)) s q k (low f)
     pick false = refl
 
-round-side : (f : Format) (s : Bool) (a c : ℕ) → Side s (round f s a c)
-round-side f s a c = subst (Side s) (sym (round_is f s a c)) (units-side f s (kept (prec f) (a * 2 ^ low f) c) (drop (prec f) (a * 2 ^ low f) c))
+round_side : (f : Format) (s : Bool) (a c : ℕ) → Side s (round f s a c)
+round_side f s a c = subst (Side s) (sym (round_is f s a c)) (units-side f s (kept (prec f) (a * 2 ^ low f) c) (drop (prec f) (a * 2 ^ low f) c))
 
-sides-below : (a b : ℕ) → T (below true a false b || level true a false b)
-sides-below a b = elim (eq-zero-or-pos (a + b)) [
+sides_below : (a b : ℕ) → T (below true a false b || level true a false b)
+sides_below a b = elim (eq-zero-or-pos (a + b)) [
   | inl e ↦ subst₂ (λ (x y : ℕ). T (below true x false y || level true x false y)) (sym (first a b e)) (sym (first b a (add_comm b a ∙ e))) tt
   | inr h ↦ or_l (below true a false b) (level true a false b) (lt→ltb 0 (a + b) h)
 ]
@@ -242,20 +242,20 @@ sides-below a b = elim (eq-zero-or-pos (a + b)) [
     first : (a b : ℕ) → a + b ≡ 0 → a ≡ 0
     first a b e = omega arith
 
-sides-le : (x y : Float) → Side true x → Side false y → T (le x y)
+sides_le : (x y : Float) → Side true x → Side false y → T (le x y)
 unfolding le
-sides-le nan y h k = absurd h
-sides-le (inf false) y h k = absurd (true≢false (sym h))
-sides-le (inf true) nan h k = absurd k
-sides-le (inf true) (inf true) h k = absurd (true≢false k)
-sides-le (inf true) (inf false) h k = tt
-sides-le (inf true) (fin t n d) h k = tt
-sides-le (fin false m e) y h k = absurd (true≢false (sym h))
-sides-le (fin true m e) nan h k = absurd k
-sides-le (fin true m e) (inf true) h k = absurd (true≢false k)
-sides-le (fin true m e) (inf false) h k = tt
-sides-le (fin true m e) (fin true n d) h k = absurd (true≢false k)
-sides-le (fin true m e) (fin false n d) h k = sides-below (m * up e * down d) (n * up d * down e)
+sides_le nan y h k = absurd h
+sides_le (inf false) y h k = absurd (true≢false (sym h))
+sides_le (inf true) nan h k = absurd k
+sides_le (inf true) (inf true) h k = absurd (true≢false k)
+sides_le (inf true) (inf false) h k = tt
+sides_le (inf true) (fin t n d) h k = tt
+sides_le (fin false m e) y h k = absurd (true≢false (sym h))
+sides_le (fin true m e) nan h k = absurd k
+sides_le (fin true m e) (inf true) h k = absurd (true≢false k)
+sides_le (fin true m e) (inf false) h k = tt
+sides_le (fin true m e) (fin true n d) h k = absurd (true≢false k)
+sides_le (fin true m e) (fin false n d) h k = sides_below (m * up e * down d) (n * up d * down e)
 
 -- +0 ≤ -0
 zeros-closed : (f : Format) → T (le (round f false 0 1) (round f true 0 1))
@@ -283,9 +283,9 @@ rounds-mono {f} {z} {w} {P} {N} {D} {Q} {M} {E} F G h r k =
     go true true a b i j =
         let x : a * E + P * E ≡ N * E = signed-scale true a P N E i in
         let y : b * D + Q * D ≡ M * D = signed-scale true b Q M D j in
-        subst₂ (λ (x y : Float). T (le x y)) (sym (round-neg f a D)) (sym (round-neg f b E))
-        (le-neg (round f false b E) (round f false a D) (round_mono f b E a D G F (omega arith)))
-    go true false a b i j = sides-le (round f true a D) (round f false b E) (round-side f true a D) (round-side f false b E)
+        subst₂ (λ (x y : Float). T (le x y)) (sym (round_neg f a D)) (sym (round_neg f b E))
+        (le_neg (round f false b E) (round f false a D) (round_mono f b E a D G F (omega arith)))
+    go true false a b i j = sides_le (round f true a D) (round f false b E) (round_side f true a D) (round_side f false b E)
     go false true a b i j =
         let x : a * E + N * E ≡ P * E = signed-scale false a P N E i in
         let y : b * D + Q * D ≡ M * D = signed-scale true b Q M D j in

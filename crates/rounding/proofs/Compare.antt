@@ -12,7 +12,7 @@ use lib.Ieee.Exact.{HasValue}
 use borrow.Author.Tests.{ltb-true, ltb-false, leb-true, leb-false}
 use Rattle.floats.proofs.Fields.{same_test}
 use Rattle.rounding.specs.Value.{Signed, Val}
-use Rattle.rounding.proofs.Fractions.{order, order_lt, plus, cross-l, cross-r}
+use Rattle.rounding.proofs.Fractions.{order, order_lt, plus, cross_l, cross_r}
 
 module _ (a b c A B D p n q m : ℕ) (C : 0 < c) (E : 0 < D) (e : a * D ≡ A * c) (g : b * D ≡ B * c) where
   forth : a < b → A < B
@@ -79,16 +79,16 @@ module _ (a b c A B D p n q m : ℕ) (C : 0 < c) (E : 0 < D) (e : a * D ≡ A * 
       (λ u. let h : p + m ≡ q + n = eqb→eq (p + m) (q + n) u in and_i (eqb a b) (eqb a 0) (eq→eqb {a = a} {b = b} (same' (omega arith)))
       (eq→eqb {a = a} {b = 0} (nought (omega arith))))
 
-lt-has : (x y : Float) (s t : Bool) (A B D p n q m : ℕ) → 0 < D → HasValue x s A D → HasValue y t B D → Signed s A p n → Signed t B q m
+lt_has : (x y : Float) (s t : Bool) (A B D p n q m : ℕ) → 0 < D → HasValue x s A D → HasValue y t B D → Signed s A p n → Signed t B q m
     → lt x y ≡ ltb (p + m) (q + n)
 unfolding lt
-lt-has nan y s t A B D p n q m E h k i j = absurd h
-lt-has (inf u) y s t A B D p n q m E h k i j = absurd h
-lt-has (fin u a e) nan s t A B D p n q m E h k i j = absurd k
-lt-has (fin u a e) (inf v) s t A B D p n q m E h k i j = absurd k
-lt-has (fin u a e) (fin v b d) s t A B D p n q m E h k i j =
+lt_has nan y s t A B D p n q m E h k i j = absurd h
+lt_has (inf u) y s t A B D p n q m E h k i j = absurd h
+lt_has (fin u a e) nan s t A B D p n q m E h k i j = absurd k
+lt_has (fin u a e) (inf v) s t A B D p n q m E h k i j = absurd k
+lt_has (fin u a e) (fin v b d) s t A B D p n q m E h k i j =
     below-is (a * up e * down d) (b * up d * down e) (down e * down d) A B D p n q m (mul-pos (down_pos e) (down_pos d)) E
-    (cross-l (a * up e) (down e) (down d) A D h.1) (cross-r (b * up d) (down e) (down d) B D k.1) u v
+    (cross_l (a * up e) (down e) (down d) A D h.1) (cross_r (b * up d) (down e) (down d) B D k.1) u v
     (subst (λ (z : Bool). Signed z A p n) (sym h.0) i) (subst (λ (z : Bool). Signed z B q m) (sym k.0) j)
 
 eq-has : (x y : Float) (s t : Bool) (A B D p n q m : ℕ) → 0 < D → HasValue x s A D → HasValue y t B D → Signed s A p n → Signed t B q m
@@ -100,12 +100,12 @@ eq-has (fin u a e) nan s t A B D p n q m E h k i j = absurd k
 eq-has (fin u a e) (inf v) s t A B D p n q m E h k i j = absurd k
 eq-has (fin u a e) (fin v b d) s t A B D p n q m E h k i j =
     level-is (a * up e * down d) (b * up d * down e) (down e * down d) A B D p n q m (mul-pos (down_pos e) (down_pos d)) E
-    (cross-l (a * up e) (down e) (down d) A D h.1) (cross-r (b * up d) (down e) (down d) B D k.1) u v
+    (cross_l (a * up e) (down e) (down d) A D h.1) (cross_r (b * up d) (down e) (down d) B D k.1) u v
     (subst (λ (z : Bool). Signed z A p n) (sym h.0) i) (subst (λ (z : Bool). Signed z B q m) (sym k.0) j)
 
 -- x < y, x = y and x ≤ y, by the values
 pub lt_val : {x y : Float} {p n q m D : ℕ} → 0 < D → Val x p n D → Val y q m D → lt x y ≡ ltb (p + m) (q + n)
-lt_val {x} {y} {p} {n} {q} {m} {D} E v w = lt-has x y v.sign w.sign v.size w.size D p n q m E v.has w.has v.is w.is
+lt_val {x} {y} {p} {n} {q} {m} {D} E v w = lt_has x y v.sign w.sign v.size w.size D p n q m E v.has w.has v.is w.is
 
 pub eq_val : {x y : Float} {p n q m D : ℕ} → 0 < D → Val x p n D → Val y q m D → eq x y ≡ eqb (p + m) (q + n)
 eq_val {x} {y} {p} {n} {q} {m} {D} E v w = eq-has x y v.sign w.sign v.size w.size D p n q m E v.has w.has v.is w.is
@@ -129,27 +129,27 @@ le_val {x} {y} {p} {n} {q} {m} E v w = ap (λ (b : Bool). b || eq x y) (lt_val E
 
 module _ {x y : Float} {p n q m D : ℕ} (E : 0 < D) (v : Val x p n D) (w : Val y q m D) where
   -- ---- what a test says of the values
-  pub lt-true : lt x y ≡ true → p + m < q + n
-  lt-true e = ltb-true (p + m) (q + n) (sym (lt_val E v w) ∙ e)
+  pub lt_true : lt x y ≡ true → p + m < q + n
+  lt_true e = ltb-true (p + m) (q + n) (sym (lt_val E v w) ∙ e)
 
-  pub lt-false : lt x y ≡ false → q + n ≤ p + m
-  lt-false e = ltb-false (p + m) (q + n) (sym (lt_val E v w) ∙ e)
+  pub lt_false : lt x y ≡ false → q + n ≤ p + m
+  lt_false e = ltb-false (p + m) (q + n) (sym (lt_val E v w) ∙ e)
 
-  pub le-true : le x y ≡ true → p + m ≤ q + n
-  le-true e = leb-true (p + m) (q + n) (sym (le_val E v w) ∙ e)
+  pub le_true : le x y ≡ true → p + m ≤ q + n
+  le_true e = leb-true (p + m) (q + n) (sym (le_val E v w) ∙ e)
 
-  pub le-false : le x y ≡ false → q + n < p + m
-  le-false e = leb-false (p + m) (q + n) (sym (le_val E v w) ∙ e)
+  pub le_false : le x y ≡ false → q + n < p + m
+  le_false e = leb-false (p + m) (q + n) (sym (le_val E v w) ∙ e)
 
   -- ---- the same of a test as a proposition, and back: what the values say of a test
-  pub lt-says : T (lt x y) → p + m < q + n
-  lt-says t = ltb→lt (p + m) (q + n) (subst T (lt_val E v w) t)
+  pub lt_says : T (lt x y) → p + m < q + n
+  lt_says t = ltb→lt (p + m) (q + n) (subst T (lt_val E v w) t)
 
-  pub le-says : T (le x y) → p + m ≤ q + n
-  le-says t = leb→le (p + m) (q + n) (subst T (le_val E v w) t)
+  pub le_says : T (le x y) → p + m ≤ q + n
+  le_says t = leb→le (p + m) (q + n) (subst T (le_val E v w) t)
 
-  pub lt-show : p + m < q + n → T (lt x y)
-  lt-show h = subst T (sym (lt_val E v w)) (lt→ltb (p + m) (q + n) h)
+  pub lt_show : p + m < q + n → T (lt x y)
+  lt_show h = subst T (sym (lt_val E v w)) (lt→ltb (p + m) (q + n) h)
 
-  pub le-show : p + m ≤ q + n → T (le x y)
-  le-show h = subst T (sym (le_val E v w)) (le→leb (p + m) (q + n) h)
+  pub le_show : p + m ≤ q + n → T (le x y)
+  le_show h = subst T (sym (le_val E v w)) (le→leb (p + m) (q + n) h)

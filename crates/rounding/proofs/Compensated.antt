@@ -8,11 +8,11 @@ use lib.Dec.{T}
 use lib.Ieee.{Float, binary64, add, sub, le, fits}
 use Rattle.floats.specs.Whole.{abs}
 use Rattle.rounding.specs.Value.{Val, Rounds, L}
-use Rattle.rounding.proofs.Value.{add_rounds, sub-rounds, rounds-move, abs-val, L-pos}
-use Rattle.rounding.proofs.Signed.{dist, dist-up, dist-shift, dist-flip}
-use Rattle.rounding.proofs.Compare.{le-true, le-false}
+use Rattle.rounding.proofs.Value.{add_rounds, sub_rounds, rounds-move, abs-val, L-pos}
+use Rattle.rounding.proofs.Signed.{dist, dist_up, dist_shift, dist_flip}
+use Rattle.rounding.proofs.Compare.{le_true, le_false}
 use Rattle.rounding.proofs.Own.{Rep, val-rep}
-use Rattle.rounding.proofs.Nearest.{rn-exact, error-rep}
+use Rattle.rounding.proofs.Nearest.{rn_exact, error-rep}
 use Rattle.rounding.proofs.TwoSum.{dekker}
 use Rattle.rounding.proofs.TwoSumFloat.{At, rounds-at, Exact}
 
@@ -20,8 +20,8 @@ module _ {a b s : Float} {p n q m M : ℕ} (fa : T (fits binary64 a)) (fb : T (f
     (order : dist q m ≤ dist p n) (most : dist p n ≤ M) (far : 32 * M < 2 ^ 2098)
     (r : Rounds binary64 s (p + q) (n + m) L) where
   xs : At s (p + q) (n + m) (2 * M)
-  xs = rounds-at (twice M (2 ^ 2098) far) (join p n q m (dist p n) (dist q m) (dist-up p n).0 (dist-up q m).0 order most)
-      (join n p m q (dist p n) (dist q m) (dist-up p n).1 (dist-up q m).1 order most) r
+  xs = rounds-at (twice M (2 ^ 2098) far) (join p n q m (dist p n) (dist q m) (dist_up p n).0 (dist_up q m).0 order most)
+      (join n p m q (dist p n) (dist q m) (dist_up p n).1 (dist_up q m).1 order most) r
     where
       twice : (M t : ℕ) → 32 * M < t → 2 * (2 * M) < t
       twice M t h = omega arith
@@ -30,8 +30,8 @@ module _ {a b s : Float} {p n q m M : ℕ} (fa : T (fits binary64 a)) (fb : T (f
       join p n q m x y h k l o = omega arith
 
   xt : At (sub binary64 a s) (p + xs.n) (n + xs.p) (5 * M)
-  xt = rounds-at (twice M (2 ^ 2098) far) (join p n xs.n xs.p (dist p n) (dist-up p n).0 most xs.low)
-      (join n p xs.p xs.n (dist p n) (dist-up p n).1 most xs.high) (sub-rounds binary64 L-pos va xs.val)
+  xt = rounds-at (twice M (2 ^ 2098) far) (join p n xs.n xs.p (dist p n) (dist_up p n).0 most xs.low)
+      (join n p xs.p xs.n (dist p n) (dist_up p n).1 most xs.high) (sub_rounds binary64 L-pos va xs.val)
     where
       twice : (M t : ℕ) → 32 * M < t → 2 * (5 * M) < t
       twice M t h = omega arith
@@ -40,8 +40,8 @@ module _ {a b s : Float} {p n q m M : ℕ} (fa : T (fits binary64 a)) (fb : T (f
       join p n x y d h k l = omega arith
 
   xe : At (add binary64 (sub binary64 a s) b) (xt.p + q) (xt.n + m) (11 * M)
-  xe = rounds-at (twice M (2 ^ 2098) far) (join q m xt.p xt.n (dist p n) (dist q m) (dist-up q m).0 order most xt.high)
-      (join m q xt.n xt.p (dist p n) (dist q m) (dist-up q m).1 order most xt.low) (add_rounds binary64 L-pos xt.val vb)
+  xe = rounds-at (twice M (2 ^ 2098) far) (join q m xt.p xt.n (dist p n) (dist q m) (dist_up q m).0 order most xt.high)
+      (join m q xt.n xt.p (dist p n) (dist q m) (dist_up q m).1 order most xt.low) (add_rounds binary64 L-pos xt.val vb)
     where
       twice : (M t : ℕ) → 32 * M < t → 2 * (11 * M) < t
       twice M t h = omega arith
@@ -55,17 +55,17 @@ module _ {a b s : Float} {p n q m M : ℕ} (fa : T (fits binary64 a)) (fb : T (f
       let f : Rep (dist (xs.p + n) (xs.n + p)) = dekker p n q m xs.p xs.n (val-rep fa va) (val-rep fb vb) xs.rn order in
       let g : Rep (dist (p + q + xs.n) (n + m + xs.p)) = error-rep p n q m xs.p xs.n (val-rep fa va) (val-rep fb vb) xs.rn in
       let e1 : p + xs.n + xt.n ≡ xt.p + (n + xs.p) =
-      rn-exact (subst Rep (dist-flip (xs.p + n) (xs.n + p) ∙ dist-shift (xs.n + p) (xs.p + n) (p + xs.n) (n + xs.p) (omega arith)) f) xt.rn in
+      rn_exact (subst Rep (dist_flip (xs.p + n) (xs.n + p) ∙ dist_shift (xs.n + p) (xs.p + n) (p + xs.n) (n + xs.p) (omega arith)) f) xt.rn in
       let e2 : xt.p + q + xe.n ≡ xe.p + (xt.n + m) =
-      rn-exact (subst Rep (dist-shift (p + q + xs.n) (n + m + xs.p) (xt.p + q) (xt.n + m) (omega arith)) g) xe.rn in
+      rn_exact (subst Rep (dist_shift (p + q + xs.n) (n + m + xs.p) (xt.p + q) (xt.n + m) (omega arith)) g) xe.rn in
       record { sp = xs.p; sn = xs.n; ep = xe.p; en = xe.n; sum = xs.val; err = xe.val; total = omega arith }
 
 -- with the test on the sizes that picks the larger part
-pub compensated-either : {a b s : Float} {p n q m M : ℕ} → T (fits binary64 a) → T (fits binary64 b) → Val a p n L → Val b q m L → dist p n ≤ M → dist q m ≤ M
+pub compensated_either : {a b s : Float} {p n q m M : ℕ} → T (fits binary64 a) → T (fits binary64 b) → Val a p n L → Val b q m L → dist p n ≤ M → dist q m ≤ M
     → 32 * M < 2 ^ 2098 → Rounds binary64 s (p + q) (n + m) L
     → Exact s (cond (le (abs b) (abs a)) (add binary64 (sub binary64 a s) b) (add binary64 (sub binary64 b s) a)) (p + q) (n + m)
-compensated-either {a} {b} {s} {p} {n} {q} {m} {M} fa fb va vb ha hb far r =
-    go (le (abs b) (abs a)) (λ e. le-true L-pos (abs-val vb) (abs-val va) e) (λ e. le-false L-pos (abs-val vb) (abs-val va) e)
+compensated_either {a} {b} {s} {p} {n} {q} {m} {M} fa fb va vb ha hb far r =
+    go (le (abs b) (abs a)) (λ e. le_true L-pos (abs-val vb) (abs-val va) e) (λ e. le_false L-pos (abs-val vb) (abs-val va) e)
   where
     plain : (x y : ℕ) → x + 0 ≤ y + 0 → x ≤ y
     plain x y h = omega arith

@@ -11,7 +11,7 @@ use lib.Pow.{pow-add, pow_pos, pow-lt, pow_mono, shl_lt}
 use lib.Ieee.{Float, binary64, round, add, sub}
 use lib.Ieee.Exact.{HasValue, round_exact}
 use Rattle.rounding.specs.Value.{Val, Rounds}
-use Rattle.rounding.proofs.Value.{add_rounds, sub-rounds}
+use Rattle.rounding.proofs.Value.{add_rounds, sub_rounds}
 use Rattle.rounding.proofs.Signed.{signed_le}
 
 shift : (i k : ℕ) → k ≤ 1074 → i + 1074 ≡ i + (1074 - k) + k
@@ -56,11 +56,11 @@ rounds-exact k {z} {p} {n} h u l r =
 
 -- ---- a multiple of 2 ^ i units: |p - n| ≤ 2 ^ 53 counts the multiples
 -- (p - n) / 2 ^ k + (q - m) / 2 ^ k
-pub add-exact : (k : ℕ) {x y : Float} {p n q m : ℕ} → k ≤ 1074 → p + q ≤ n + m + 2 ^ 53 → n + m ≤ p + q + 2 ^ 53 → Val x p n (2 ^ k) → Val y q m (2 ^ k)
+pub add_exact : (k : ℕ) {x y : Float} {p n q m : ℕ} → k ≤ 1074 → p + q ≤ n + m + 2 ^ 53 → n + m ≤ p + q + 2 ^ 53 → Val x p n (2 ^ k) → Val y q m (2 ^ k)
     → Val (add binary64 x y) (p + q) (n + m) (2 ^ k)
-add-exact k h u l v w = rounds-exact k h u l (add_rounds binary64 (pow_pos k) v w)
+add_exact k h u l v w = rounds-exact k h u l (add_rounds binary64 (pow_pos k) v w)
 
 -- (p - n) / 2 ^ k - (q - m) / 2 ^ k
-pub sub-exact : (k : ℕ) {x y : Float} {p n q m : ℕ} → k ≤ 1074 → p + m ≤ n + q + 2 ^ 53 → n + q ≤ p + m + 2 ^ 53 → Val x p n (2 ^ k) → Val y q m (2 ^ k)
+pub sub_exact : (k : ℕ) {x y : Float} {p n q m : ℕ} → k ≤ 1074 → p + m ≤ n + q + 2 ^ 53 → n + q ≤ p + m + 2 ^ 53 → Val x p n (2 ^ k) → Val y q m (2 ^ k)
     → Val (sub binary64 x y) (p + m) (n + q) (2 ^ k)
-sub-exact k h u l v w = rounds-exact k h u l (sub-rounds binary64 (pow_pos k) v w)
+sub_exact k h u l v w = rounds-exact k h u l (sub_rounds binary64 (pow_pos k) v w)

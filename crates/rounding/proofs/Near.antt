@@ -12,9 +12,9 @@ use lib.Ieee.Exact.{HasValue, units_val}
 use lib.Ieee.Order.{drop, kept}
 use lib.Ieee.Scale.{grid, overflow}
 use Rattle.rounding.specs.Value.{Signed, Val, Rounds, L}
-use Rattle.rounding.proofs.Value.{add_rounds, sub-rounds, L-pos}
+use Rattle.rounding.proofs.Value.{add_rounds, sub_rounds, L-pos}
 use Rattle.rounding.proofs.Signed.{signed_lt, signed-scale}
-use Rattle.rounding.proofs.Grid.{Half, grid-error, grid-bound}
+use Rattle.rounding.proofs.Grid.{Half, grid_error, grid_bound}
 
 -- z is (p - n) / L, and differs from (P - N) / D by at most 2 ^ j / 2 units: 2 * |p * D - n * D - (P * L - N * L)| ≤ D * 2 ^ j
 pub record Near (z : Float) (P N D j : ℕ) : Type 0 where
@@ -25,15 +25,15 @@ pub record Near (z : Float) (P N D j : ℕ) : Type 0 where
   pub under : 2 * (n * D + P * L) ≤ 2 * (p * D + N * L) + D * 2 ^ j
 
 -- a rounded fraction is `grid` units, where that is no overflow
-pub round-has : (f : Format) (s : Bool) (a c : ℕ) → grid f a c < overflow f → HasValue (round f s a c) s (grid f a c) (2 ^ low f)
-round-has f s a c h = subst (λ (z : Float). HasValue z s (grid f a c) (2 ^ low f)) (sym (round_is f s a c))
+pub round_has : (f : Format) (s : Bool) (a c : ℕ) → grid f a c < overflow f → HasValue (round f s a c) s (grid f a c) (2 ^ low f)
+round_has f s a c h = subst (λ (z : Float). HasValue z s (grid f a c) (2 ^ low f)) (sym (round_is f s a c))
     (units_val f s (kept (prec f) (a * 2 ^ low f) c) (drop (prec f) (a * 2 ^ low f) c) h)
 
 pub rounds-has : {z : Float} {P N D : ℕ} (r : Rounds binary64 z P N D) → grid binary64 r.size D < 2 ^ 2098
     → HasValue z r.sign (grid binary64 r.size D) L
 unfolding L
 rounds-has {z} {D = D} r h = subst (λ (x : Float). HasValue x r.sign (grid binary64 r.size D) L) (sym r.eq)
-    (round-has binary64 r.sign r.size D h)
+    (round_has binary64 r.sign r.size D h)
 
 near_of : (s : Bool) (z : Float) (a P N D j g : ℕ) → HasValue z s g L → Signed s a P N → Half (g * D) (a * L) (D * 2 ^ j) → Near z P N D j
 near_of false z a P N D j g h i e =
@@ -43,9 +43,9 @@ near_of true z a P N D j g h i e =
     let k : a * L + P * L ≡ N * L = signed-scale true a P N L i in
     record { p = 0; n = g; val = record { sign = true; size = g; has = h; is = omega arith }; over = omega arith; under = omega arith }
 
-round-error : (a D j : ℕ) → 0 < D → j ≤ 2044 → a * L < 2 ^ (53 + j) * D → (grid binary64 a D < 2 ^ 2098) × Half (grid binary64 a D * D) (a * L) (D * 2 ^ j)
+round_error : (a D j : ℕ) → 0 < D → j ≤ 2044 → a * L < 2 ^ (53 + j) * D → (grid binary64 a D < 2 ^ 2098) × Half (grid binary64 a D * D) (a * L) (D * 2 ^ j)
 unfolding L
-round-error a D j E b h = (lt_of_le_of_lt (grid-bound binary64 a D j E h) (pow-lt (small b)), grid-error binary64 a D j E h)
+round_error a D j E b h = (lt_of_le_of_lt (grid_bound binary64 a D j E h) (pow-lt (small b)), grid_error binary64 a D j E h)
   where
     small : j ≤ 2044 → 53 + j < 2098
     small l = omega arith
@@ -54,7 +54,7 @@ round-error a D j E b h = (lt_of_le_of_lt (grid-bound binary64 a D j E h) (pow-l
 pub rounds-near : (j : ℕ) {z : Float} {P N D : ℕ} → 0 < D → j ≤ 2044 → P * L < N * L + 2 ^ (53 + j) * D → N * L < P * L + 2 ^ (53 + j) * D
     → Rounds binary64 z P N D → Near z P N D j
 rounds-near j {z} {P} {N} {D} E b u l r =
-    let k = round-error r.size D j E b
+    let k = round_error r.size D j E b
     (signed_lt r.sign (r.size * L) (P * L) (N * L) (2 ^ (53 + j) * D) (signed-scale r.sign r.size P N L r.is) u l) in
     near_of r.sign z r.size P N D j (grid binary64 r.size D) (rounds-has r k.0) r.is k.1
 
@@ -84,11 +84,11 @@ sum_near j {z} {P} {N} b u l r =
     wide x y h = lt_of_lt_of_le (mul-lt-mul_of_pos_right h L-pos) (le_of_eq (add-mul y (2 ^ (53 + j)) L))
 
 -- x + y
-pub add-near : (j : ℕ) {x y : Float} {p n q m : ℕ} → j ≤ 2044 → p + q < n + m + 2 ^ (53 + j) → n + m < p + q + 2 ^ (53 + j) → Val x p n L → Val y q m L
+pub add_near : (j : ℕ) {x y : Float} {p n q m : ℕ} → j ≤ 2044 → p + q < n + m + 2 ^ (53 + j) → n + m < p + q + 2 ^ (53 + j) → Val x p n L → Val y q m L
     → NearSum (add binary64 x y) (p + q) (n + m) j
-add-near j b u l v w = sum_near j b u l (add_rounds binary64 L-pos v w)
+add_near j b u l v w = sum_near j b u l (add_rounds binary64 L-pos v w)
 
 -- x - y
-pub sub-near : (j : ℕ) {x y : Float} {p n q m : ℕ} → j ≤ 2044 → p + m < n + q + 2 ^ (53 + j) → n + q < p + m + 2 ^ (53 + j) → Val x p n L → Val y q m L
+pub sub_near : (j : ℕ) {x y : Float} {p n q m : ℕ} → j ≤ 2044 → p + m < n + q + 2 ^ (53 + j) → n + q < p + m + 2 ^ (53 + j) → Val x p n L → Val y q m L
     → NearSum (sub binary64 x y) (p + m) (n + q) j
-sub-near j b u l v w = sum_near j b u l (sub-rounds binary64 L-pos v w)
+sub_near j b u l v w = sum_near j b u l (sub_rounds binary64 L-pos v w)

@@ -16,7 +16,7 @@ use lib.Ieee.Exact.{HasValue}
 use lib.Ieee.Scale.{finite}
 use Rattle.rounding.specs.Value.{Val, L}
 use Rattle.rounding.proofs.Value.{L-is, L-pos, has-unique, val-finite, val-size}
-use Rattle.rounding.proofs.Signed.{dist, dist-flip}
+use Rattle.rounding.proofs.Signed.{dist, dist_flip}
 pub use Rattle.rounding.proofs.Signed.{plus-of, minus-of, signed_of}
 
 -- a is a whole number of units that the format can hold: q * 2 ^ j, with q below 2 ^ 53
@@ -36,8 +36,8 @@ pub record Own (x : Float) : Type 0 where
 pub rep_zero : Rep 0
 rep_zero = record { q = 0; j = 0; is = refl; small = lit< tt }
 
-pub rep-flip : (p n : ℕ) → Rep (dist p n) → Rep (dist n p)
-rep-flip p n r = subst Rep (dist-flip p n) r
+pub rep_flip : (p n : ℕ) → Rep (dist p n) → Rep (dist n p)
+rep_flip p n r = subst Rep (dist_flip p n) r
 
 -- q * 2 ^ j as a multiple of a smaller power
 pub lift : (q i j : ℕ) → i ≤ j → q * 2 ^ j ≡ q * 2 ^ (j - i) * 2 ^ i
@@ -49,8 +49,8 @@ abbrev place : ℤ → ℕ
 place (pos k) = k + 1074
 place (negsuc k) = 1074 - suc k
 
-pow-back : (a b : ℕ) → 2 ^ a ≤ 2 ^ b → a ≤ b
-pow-back a b h = le_of_suc-le-suc (lt_of_not-le (λ (g : suc b ≤ a). not-le_of_lt (pow-lt g) h))
+pow_back : (a b : ℕ) → 2 ^ a ≤ 2 ^ b → a ≤ b
+pow_back a b h = le_of_suc-le-suc (lt_of_not-le (λ (g : suc b ≤ a). not-le_of_lt (pow-lt g) h))
 
 has-pos : (s : Bool) (m k : ℕ) → HasValue (fin s m (pos k)) s (m * 2 ^ place (pos k)) L
 has-pos s m k = (
@@ -105,7 +105,7 @@ own (fin s (suc m) (pos k)) f t =
 own (fin s (suc m) (negsuc k)) f t = record {
   sign = s;
   size = suc m * 2 ^ place (negsuc k);
-  has = has-neg s (suc m) k (pow-back (suc k) 1074 (deep m (negsuc k) f));
+  has = has-neg s (suc m) k (pow_back (suc k) 1074 (deep m (negsuc k) f));
   rep = record { q = suc m; j = place (negsuc k); is = refl; small = few m (negsuc k) f };
 }
 

@@ -13,9 +13,9 @@ use lib.Ieee.Scale.{finite}
 use Rattle.floats.specs.Whole.{abs}
 use Rattle.rounding.specs.Value.{Val, L}
 use Rattle.rounding.proofs.Value.{L-pos, abs-val}
-use Rattle.rounding.proofs.Signed.{dist, dist-up}
+use Rattle.rounding.proofs.Signed.{dist, dist_up}
 use Rattle.rounding.proofs.Own.{Own, own, own_val, plus-of, minus-of}
-use Rattle.rounding.proofs.Compare.{lt-says, le-says}
+use Rattle.rounding.proofs.Compare.{lt_says, le_says}
 use Rattle.rounding.proofs.Bound.{SizeWithin}
 
 -- ±2 ^ k, in units of 1 / D
@@ -52,43 +52,43 @@ between x k f a b = go (plus-of o.sign o.size) (minus-of o.sign o.size) (own_val
 
     go : (p n : ℕ) → Val x p n L → Between x k
     go p n v =
-        let h : p + 0 < 2 ^ k * L + n = lt-says L-pos v (power-val k L) b in
-        let l : 0 + n < p + 2 ^ k * L = lt-says L-pos (minus-power-val k L) v a in
+        let h : p + 0 < 2 ^ k * L + n = lt_says L-pos v (power-val k L) b in
+        let l : 0 + n < p + 2 ^ k * L = lt_says L-pos (minus-power-val k L) v a in
         record { p = p; n = n; val = v; high = omega arith; low = omega arith }
 
 -- ---- |x| ≤ c and |x| < c, for a float c = W / L
-pub le-finite : (x c : Float) (s : Bool) (a : ℕ) → HasValue c s a L → T (le (abs x) c) → T (finite x)
+pub le_finite : (x c : Float) (s : Bool) (a : ℕ) → HasValue c s a L → T (le (abs x) c) → T (finite x)
 unfolding abs le
-le-finite nan c s a v h = absurd h
-le-finite (inf t) nan s a v h = absurd v
-le-finite (inf t) (inf u) s a v h = absurd v
-le-finite (inf t) (fin u m e) s a v h = absurd h
-le-finite (fin t m e) c s a v h = tt
+le_finite nan c s a v h = absurd h
+le_finite (inf t) nan s a v h = absurd v
+le_finite (inf t) (inf u) s a v h = absurd v
+le_finite (inf t) (fin u m e) s a v h = absurd h
+le_finite (fin t m e) c s a v h = tt
 
-lt-finite : (x c : Float) (s : Bool) (a : ℕ) → HasValue c s a L → T (lt (abs x) c) → T (finite x)
+lt_finite : (x c : Float) (s : Bool) (a : ℕ) → HasValue c s a L → T (lt (abs x) c) → T (finite x)
 unfolding abs lt
-lt-finite nan c s a v h = absurd h
-lt-finite (inf t) nan s a v h = absurd v
-lt-finite (inf t) (inf u) s a v h = absurd v
-lt-finite (inf t) (fin u m e) s a v h = absurd h
-lt-finite (fin t m e) c s a v h = tt
+lt_finite nan c s a v h = absurd h
+lt_finite (inf t) nan s a v h = absurd v
+lt_finite (inf t) (inf u) s a v h = absurd v
+lt_finite (inf t) (fin u m e) s a v h = absurd h
+lt_finite (fin t m e) c s a v h = tt
 
 within-dist : {x : Float} {p n W : ℕ} → Val x p n L → dist p n ≤ W → SizeWithin x W
-within-dist {x} {p} {n} {W} v h = record { p = p; n = n; val = v; high = wide p n (dist p n) (dist-up p n).0 h; low = wide n p (dist p n) (dist-up p n).1 h }
+within-dist {x} {p} {n} {W} v h = record { p = p; n = n; val = v; high = wide p n (dist p n) (dist_up p n).0 h; low = wide n p (dist p n) (dist_up p n).1 h }
   where
     wide : (p n d : ℕ) → p ≤ n + d → d ≤ W → p ≤ n + W
     wide p n d e g = omega arith
 
 pub size-at-most : {x c : Float} {W : ℕ} → T (fits binary64 x) → Val c W 0 L → T (le (abs x) c) → SizeWithin x W
 size-at-most {x} {c} {W} f w h =
-    let v = own_val x (own x f (le-finite x c w.sign w.size w.has h)) in within-dist v (plain _ W (le-says L-pos (abs-val v) w h))
+    let v = own_val x (own x f (le_finite x c w.sign w.size w.has h)) in within-dist v (plain _ W (le_says L-pos (abs-val v) w h))
   where
     plain : (d W : ℕ) → d + 0 ≤ W + 0 → d ≤ W
     plain d W e = omega arith
 
 pub below : {x c : Float} {W : ℕ} → T (fits binary64 x) → Val c W 0 L → T (lt (abs x) c) → SizeWithin x W
 below {x} {c} {W} f w h =
-    let v = own_val x (own x f (lt-finite x c w.sign w.size w.has h)) in within-dist v (plain _ W (lt-says L-pos (abs-val v) w h))
+    let v = own_val x (own x f (lt_finite x c w.sign w.size w.has h)) in within-dist v (plain _ W (lt_says L-pos (abs-val v) w h))
   where
     plain : (d W : ℕ) → d + 0 < W + 0 → d ≤ W
     plain d W e = omega arith

@@ -7,7 +7,7 @@ use native.Mathlib.Nat.{le_of_mul-le-mul_right, mul-lt-mul_of_pos_right}
 use lib.Dec.{lit<}
 use lib.Ieee.{Float, binary64, mul, div}
 use Rattle.rounding.specs.Value.{Val, Rounds, L}
-use Rattle.rounding.proofs.Value.{mul-rounds, div-rounds, L-pos}
+use Rattle.rounding.proofs.Value.{mul_rounds, div_rounds, L-pos}
 use Rattle.rounding.proofs.Near.{rounds-near}
 
 -- z is (p - n) / L, and differs from (P - N) * B / (L * E) by at most 2 ^ j / 2 units
@@ -33,9 +33,9 @@ cancel a b c d e B E h = le_of_mul-le-mul_right {k = L} (le_trans (le_of_eq left
         ∙ ap (λ (z : ℕ). 2 * (c * (L * E) + d * B * L) + z) (mul_comm (E * e) L ∙ sym (mul_assoc L E e))
 
 -- |P - N| * B / E is below 2 ^ (53 + j)
-pub scaled-near : (j : ℕ) {z : Float} {P N B E : ℕ} → 0 < E → j ≤ 2044 → P * B < N * B + 2 ^ (53 + j) * E → N * B < P * B + 2 ^ (53 + j) * E
+pub scaled_near : (j : ℕ) {z : Float} {P N B E : ℕ} → 0 < E → j ≤ 2044 → P * B < N * B + 2 ^ (53 + j) * E → N * B < P * B + 2 ^ (53 + j) * E
     → Rounds binary64 z (P * B) (N * B) (L * E) → Scaled z P N B E j
-scaled-near j {z} {P} {N} {B} {E} F b u l r =
+scaled_near j {z} {P} {N} {B} {E} F b u l r =
     let k = rounds-near j (mul-pos L-pos F) b (wide (P * B) (N * B) u) (wide (N * B) (P * B) l) r in
     record { p = k.p; n = k.n; val = k.val; over = cancel k.p N k.n P (2 ^ j) B E k.over; under = cancel k.n P k.p N (2 ^ j) B E k.under }
   where
@@ -45,16 +45,16 @@ scaled-near j {z} {P} {N} {B} {E} F b u l r =
         (le_of_eq (add-mul y (2 ^ (53 + j) * E) L ∙ ap (λ (z : ℕ). y * L + z) (mul_assoc (2 ^ (53 + j)) E L ∙ ap (λ (z : ℕ). 2 ^ (53 + j) * z) (mul_comm E L))))
 
 -- x * (B / E)
-pub mul-near : (j : ℕ) {x y : Float} {P N B E : ℕ} → 0 < E → j ≤ 2044 → P * B < N * B + 2 ^ (53 + j) * E → N * B < P * B + 2 ^ (53 + j) * E → Val x P N L
+pub mul_near : (j : ℕ) {x y : Float} {P N B E : ℕ} → 0 < E → j ≤ 2044 → P * B < N * B + 2 ^ (53 + j) * E → N * B < P * B + 2 ^ (53 + j) * E → Val x P N L
     → Val y B 0 E → Scaled (mul binary64 x y) P N B E j
-mul-near j {x} {y} {P} {N} {B} {E} F b u l v w = scaled-near j F b u l
+mul_near j {x} {y} {P} {N} {B} {E} F b u l v w = scaled_near j F b u l
     (subst₂ (λ (s t : ℕ). Rounds binary64 (mul binary64 x y) s t (L * E)) (ap (λ (z : ℕ). P * B + z) (mul-zero N) ∙ add-zero (P * B))
-    (ap (λ (z : ℕ). z + N * B) (mul-zero P) ∙ zero-add (N * B)) (mul-rounds binary64 L-pos F v w))
+    (ap (λ (z : ℕ). z + N * B) (mul-zero P) ∙ zero-add (N * B)) (mul_rounds binary64 L-pos F v w))
 
 -- x / c
-pub div-near : (j : ℕ) {x y : Float} {P N : ℕ} (c : ℕ) → 0 < c → j ≤ 2044 → P < N + 2 ^ (53 + j) * c → N < P + 2 ^ (53 + j) * c → Val x P N L → Val y c 0 1
+pub div_near : (j : ℕ) {x y : Float} {P N : ℕ} (c : ℕ) → 0 < c → j ≤ 2044 → P < N + 2 ^ (53 + j) * c → N < P + 2 ^ (53 + j) * c → Val x P N L → Val y c 0 1
     → Scaled (div binary64 x y) P N 1 c j
-div-near j {x} {y} {P} {N} c F b u l v w =
-    scaled-near j F b (subst₂ (λ (s t : ℕ). s < t + 2 ^ (53 + j) * c) (sym (mul-one P)) (sym (mul-one N)) u)
+div_near j {x} {y} {P} {N} c F b u l v w =
+    scaled_near j F b (subst₂ (λ (s t : ℕ). s < t + 2 ^ (53 + j) * c) (sym (mul-one P)) (sym (mul-one N)) u)
     (subst₂ (λ (s t : ℕ). s < t + 2 ^ (53 + j) * c) (sym (mul-one N)) (sym (mul-one P)) l)
-    (div-rounds binary64 L-pos (lit< tt) F v w)
+    (div_rounds binary64 L-pos (lit< tt) F v w)

@@ -58,26 +58,26 @@ pub signed-dist : (s : Bool) (a p n : ℕ) → Signed s a p n → dist p n ≡ a
 signed-dist false a p n h = omega arith
 signed-dist true a p n h = omega arith
 
-pub dist-shift : (p n x y : ℕ) → p + y ≡ n + x → dist p n ≡ dist x y
-dist-shift p n x y h = omega arith
+pub dist_shift : (p n x y : ℕ) → p + y ≡ n + x → dist p n ≡ dist x y
+dist_shift p n x y h = omega arith
 
-pub dist-hi : (p n : ℕ) → n ≤ p → dist p n + n ≡ p
-dist-hi p n h = omega arith
+pub dist_hi : (p n : ℕ) → n ≤ p → dist p n + n ≡ p
+dist_hi p n h = omega arith
 
-pub dist-lo : (p n : ℕ) → p ≤ n → dist p n + p ≡ n
-dist-lo p n h = omega arith
+pub dist_lo : (p n : ℕ) → p ≤ n → dist p n + p ≡ n
+dist_lo p n h = omega arith
 
-pub dist-up : (p n : ℕ) → (p ≤ n + dist p n) × (n ≤ p + dist p n)
-dist-up p n = omega arith
+pub dist_up : (p n : ℕ) → (p ≤ n + dist p n) × (n ≤ p + dist p n)
+dist_up p n = omega arith
 
-pub dist-le : (p n K : ℕ) → p ≤ n + K → n ≤ p + K → dist p n ≤ K
-dist-le p n K h k = omega arith
+pub dist_le : (p n K : ℕ) → p ≤ n + K → n ≤ p + K → dist p n ≤ K
+dist_le p n K h k = omega arith
 
-pub dist-flip : (p n : ℕ) → dist p n ≡ dist n p
-dist-flip p n = omega arith
+pub dist_flip : (p n : ℕ) → dist p n ≡ dist n p
+dist_flip p n = omega arith
 
-pub dist-zero : (p : ℕ) → dist p 0 ≡ p
-dist-zero p = omega arith
+pub dist_zero : (p : ℕ) → dist p 0 ≡ p
+dist_zero p = omega arith
 
 -- ---- |p - n| ≤ A and |q - m| ≤ B make |(p - n) * (q - m)| ≤ A * B, without the absolute values
 up : (a q m A B : ℕ) → a ≤ A → q ≤ m + B → a * q ≤ a * m + A * B

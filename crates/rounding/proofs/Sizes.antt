@@ -12,10 +12,10 @@ use lib.IntN.{ℤ, pos}
 use lib.Ieee.{Float, fin, binary64, round, add, sub, mul, div, lt, fits, of_int}
 use Rattle.floats.specs.Whole.{abs}
 use Rattle.rounding.specs.Value.{Val, Rounds, L}
-use Rattle.rounding.proofs.Casts.{plusZ, minusZ, ofInt-val}
+use Rattle.rounding.proofs.Casts.{plus_z, minus_z, of_int_val}
 use Rattle.rounding.proofs.Range.{power-val, below}
 use Rattle.rounding.proofs.Signed.{product_le}
-use Rattle.rounding.proofs.Value.{val-finite-true, add_rounds, sub-rounds, mul-rounds, div-rounds, val-scale, L-is, L-pos}
+use Rattle.rounding.proofs.Value.{val-finite-true, add_rounds, sub_rounds, mul_rounds, div_rounds, val-scale, L-is, L-pos}
 use Rattle.rounding.proofs.Own.{Rep}
 use Rattle.rounding.proofs.Bound.{SizeWithin, rounds-within, within_more}
 use lib.Ieee.Scale.{finite}
@@ -59,7 +59,7 @@ size-add j k m h b v w =
 pub size-sub : (j k m : ℕ) {x y : Float} → 2 ^ j + 2 ^ k ≤ 2 ^ m → 2 ^ m ≤ 2 ^ 1000 → Size x j → Size y k → Size (sub binary64 x y) m
 size-sub j k m h b v w =
     let s = sums j k m h in
-    sum-size m b (omega (arith, v.high, w.low)) (omega (arith, v.low, w.high)) (sub-rounds binary64 L-pos v.val w.val)
+    sum-size m b (omega (arith, v.high, w.low)) (omega (arith, v.low, w.high)) (sub_rounds binary64 L-pos v.val w.val)
 
 -- a larger bound
 pub size-more : (j k : ℕ) {x : Float} → 2 ^ j ≤ 2 ^ k → Size x j → Size x k
@@ -72,7 +72,7 @@ size-mul j k b v w =
     rounds-within (sq_pos) (power-rep (j + k)) (power_small (j + k) b)
     (shape _ _ (product_le v.p v.n w.p w.n (2 ^ j * L) (2 ^ k * L) v.high v.low w.high w.low))
     (shape _ _ (product_le v.p v.n w.n w.p (2 ^ j * L) (2 ^ k * L) v.high v.low w.low w.high))
-    (mul-rounds binary64 L-pos L-pos v.val w.val)
+    (mul_rounds binary64 L-pos L-pos v.val w.val)
   where
     sq_pos : 0 < L * L
     sq_pos = mul-pos L-pos L-pos
@@ -93,7 +93,7 @@ pub record Above (y : Float) : Type 0 where
 pub size-div : (j : ℕ) {x y : Float} → 2 ^ j ≤ 2 ^ 1000 → Size x j → Above y → Size (div binary64 x y) j
 size-div j {x} {y} b v a =
     rounds-within (mul-pos L-pos some) (power-rep j) (power_small j b) (shape v.p v.n v.high) (shape v.n v.p v.low)
-    (div-rounds binary64 L-pos L-pos some v.val a.val)
+    (div_rounds binary64 L-pos L-pos some v.val a.val)
   where
     some : 0 < a.size
     some = le_trans L-pos a.least
@@ -134,11 +134,11 @@ pub whole_val : {x : Float} {p n : ℕ} → Val x p n 1 → Val x (p * L) (n * L
 whole_val {x} {p} {n} v = subst (λ (d : ℕ). Val x (p * L) (n * L) d) (one-mul L) (val-scale L v)
 
 -- an integer of at most 2 ^ k, as a float
-pub int-size : (k : ℕ) (z : ℤ) → 2 ^ k ≤ 2 ^ 53 → plusZ z ≤ 2 ^ k → minusZ z ≤ 2 ^ k → Size (of_int binary64 z) k
-int-size k z b h l =
-    let s : plusZ z * L ≤ 2 ^ k * L = mul-le-mul_right L h in
-    let t : minusZ z * L ≤ 2 ^ k * L = mul-le-mul_right L l in
-    record { p = plusZ z * L; n = minusZ z * L; val = whole_val (ofInt-val z (le_trans h b) (le_trans l b)); high = omega arith; low = omega arith }
+pub int_size : (k : ℕ) (z : ℤ) → 2 ^ k ≤ 2 ^ 53 → plus_z z ≤ 2 ^ k → minus_z z ≤ 2 ^ k → Size (of_int binary64 z) k
+int_size k z b h l =
+    let s : plus_z z * L ≤ 2 ^ k * L = mul-le-mul_right L h in
+    let t : minus_z z * L ≤ 2 ^ k * L = mul-le-mul_right L l in
+    record { p = plus_z z * L; n = minus_z z * L; val = whole_val (of_int_val z (le_trans h b) (le_trans l b)); high = omega arith; low = omega arith }
 
 -- ---- by the test |x| < 2 ^ k
 pub under-size : (x : Float) (k : ℕ) → T (fits binary64 x) → T (lt (abs x) (fin false 1 (pos k))) → Size x k
@@ -150,7 +150,7 @@ mul_small i s B e b v w =
     rounds-within (mul-pos L-pos L-pos) (power-rep i) (power_small i b)
     (shape _ _ (product_le v.p v.n w.p w.n (2 ^ (i + s) * L) B v.high v.low w.high w.low))
     (shape _ _ (product_le v.p v.n w.n w.p (2 ^ (i + s) * L) B v.high v.low w.low w.high))
-    (mul-rounds binary64 L-pos L-pos v.val w.val)
+    (mul_rounds binary64 L-pos L-pos v.val w.val)
   where
     turned : 2 ^ (i + s) * L * B ≡ 2 ^ i * L * L
     turned = ap (λ (z : ℕ). z * L * B) (pow-add 2 i s) ∙ simp (mul_assoc, mul_comm, mul_left_comm) (refl) ∙ ap (λ (z : ℕ). 2 ^ i * L * z) e

@@ -12,7 +12,7 @@ use lib.Ieee.{Float, binary64, round}
 use lib.Ieee.Exact.{HasValue, round_exact}
 use Rattle.rounding.specs.Value.{Val, Rounds, L, Signed}
 use Rattle.rounding.proofs.Value.{L-pos, L-is}
-use Rattle.rounding.proofs.Fractions.{sub-mul}
+use Rattle.rounding.proofs.Fractions.{sub_mul}
 use Rattle.rounding.proofs.Own.{Rep, lift}
 
 rep_has : (s : Bool) (a : ℕ) → Rep a → a < 2 ^ 2098 → HasValue (round binary64 s a L) s a L
@@ -32,8 +32,8 @@ rounds-rep {z} r k h = record {
 
 -- ---- the difference of two values that are close
 -- x - y units, for x at most twice y
-pub rep-diff : (x y : ℕ) → Rep x → Rep y → x ≤ 2 * y → Rep (x - y)
-rep-diff x y r s h = go (leb r.j s.j) (leb→le r.j s.j) (nleb→lt r.j s.j)
+pub rep_diff : (x y : ℕ) → Rep x → Rep y → x ≤ 2 * y → Rep (x - y)
+rep_diff x y r s h = go (leb r.j s.j) (leb→le r.j s.j) (nleb→lt r.j s.j)
   where
     go : (b : Bool) → (T b → r.j ≤ s.j) → (T (not b) → s.j < r.j) → Rep (x - y)
     go true f g =
@@ -42,7 +42,7 @@ rep-diff x y r s h = go (leb r.j s.j) (leb→le r.j s.j) (nleb→lt r.j s.j)
         record {
           q = r.q - Y;
           j = r.j;
-          is = ap (λ (z : ℕ). z - y) r.is ∙ ap (λ (z : ℕ). r.q * 2 ^ r.j - z) e ∙ sym (sub-mul r.q Y (2 ^ r.j));
+          is = ap (λ (z : ℕ). z - y) r.is ∙ ap (λ (z : ℕ). r.q * 2 ^ r.j - z) e ∙ sym (sub_mul r.q Y (2 ^ r.j));
           small = less r.q Y r.small;
         }
       where
@@ -51,7 +51,7 @@ rep-diff x y r s h = go (leb r.j s.j) (leb→le r.j s.j) (nleb→lt r.j s.j)
     go false f g =
         let X = r.q * 2 ^ (r.j - s.j) in
         let e : x ≡ X * 2 ^ s.j = r.is ∙ lift r.q s.j r.j (weak s.j r.j (g tt)) in
-        let d : x - y ≡ (X - s.q) * 2 ^ s.j = ap (λ (z : ℕ). z - y) e ∙ ap (λ (z : ℕ). X * 2 ^ s.j - z) s.is ∙ sym (sub-mul X s.q (2 ^ s.j)) in
+        let d : x - y ≡ (X - s.q) * 2 ^ s.j = ap (λ (z : ℕ). z - y) e ∙ ap (λ (z : ℕ). X * 2 ^ s.j - z) s.is ∙ sym (sub_mul X s.q (2 ^ s.j)) in
         let l : X - s.q ≤ s.q = le_of_mul-le-mul_right {k = 2 ^ s.j} (le_trans (le_of_eq (sym d)) (le_trans (half x y h) (le_of_eq s.is)))
         (pow_pos s.j) in
         record { q = X - s.q; j = s.j; is = d; small = lt_of_le_of_lt l s.small }

@@ -8,17 +8,17 @@ use native.Mathlib.Omega.{arith}
 use mathlib.Core.Bool.{Bool, true, false, not}
 use lib.Dec.{T, leb, leb→le, nleb→lt}
 use lib.Pow.{pow-add}
-use Rattle.rounding.proofs.Signed.{dist-zero, signed-dist, dist-shift, dist-lo, dist-up, dist-le, dist-flip}
-pub use Rattle.rounding.proofs.Signed.{dist, dist-hi}
-use Rattle.rounding.proofs.Own.{Rep, rep-flip}
+use Rattle.rounding.proofs.Signed.{dist_zero, signed-dist, dist_shift, dist_lo, dist_up, dist_le, dist_flip}
+pub use Rattle.rounding.proofs.Signed.{dist, dist_hi}
+use Rattle.rounding.proofs.Own.{Rep, rep_flip}
 pub use Rattle.rounding.proofs.Own.{rep_zero}
 use Rattle.rounding.proofs.Optimal.{step, step-fix, step-le}
 use Rattle.rounding.proofs.Relative.{step-relative}
-use Rattle.rounding.proofs.Nearest.{RN, rn-rep, rn-exact, error-size, rn-opt, sum-rep, error-rep, rn-le, rn-neg, rn-ge}
+use Rattle.rounding.proofs.Nearest.{RN, rn_rep, rn_exact, error-size, rn_opt, sum-rep, error-rep, rn_le, rn_neg, rn_ge}
 
 -- ---- Dekker
-rep-double : (x : ℕ) → Rep x → Rep (2 * x)
-rep-double x r = record {
+rep_double : (x : ℕ) → Rep x → Rep (2 * x)
+rep_double x r = record {
   q = r.q;
   j = 1 + r.j;
   is = ap (λ (z : ℕ). 2 * z) r.is ∙ two r.q (2 ^ r.j)
@@ -41,21 +41,21 @@ halves x r = go r.j refl
       record { q = r.q; j = j; is = refl; small = r.small },
     )
 
-rep-small : (x : ℕ) → x < 2 ^ 53 → Rep x
-rep-small x h = record { q = x; j = 0; is = sym (mul-one x); small = h }
+rep_small : (x : ℕ) → x < 2 ^ 53 → Rep x
+rep_small x h = record { q = x; j = 0; is = sym (mul-one x); small = h }
 
 module _ (ap' an bp bn sp sn : ℕ) (ra : Rep (dist ap' an)) (rb : Rep (dist bp bn)) (r : RN (ap' + bp) (an + bn) sp sn) (A B : ℕ) (eA : A ≡ dist ap' an)
     (eB : B ≡ dist bp bn) (small : B ≤ A) (a0 : A + an ≡ ap') where
   -- both signs alike
   alike : B + bn ≡ bp → Rep (dist (sp + an) (sn + ap'))
   alike b0 =
-      let g : ap' + sn ≤ sp + an = rn-ge ap' an ra r (omega arith) in
+      let g : ap' + sn ≤ sp + an = rn_ge ap' an ra r (omega arith) in
       let two : Rep (dist (ap' + ap') (an + an)) =
-      subst Rep (sym (dist-shift (ap' + ap') (an + an) (2 * A) 0 (omega arith) ∙ dist-zero (2 * A))) (rep-double A (subst Rep (sym eA) ra)) in
-      let l : sp + (an + an) ≤ ap' + ap' + sn = rn-le (ap' + ap') (an + an) two r (omega arith) in
-      sum-rep sp sn an ap' (rn-rep r) (rep-flip ap' an ra)
-      (dist-le (sp + an) (sn + ap') (dist sp sn) (one (dist sp sn) (dist-up sp sn).0) (two' (dist sp sn) g))
-      (dist-le (sp + an) (sn + ap') (dist an ap') (three (dist an ap') l (dist-up an ap').1) (two' (dist an ap') g))
+      subst Rep (sym (dist_shift (ap' + ap') (an + an) (2 * A) 0 (omega arith) ∙ dist_zero (2 * A))) (rep_double A (subst Rep (sym eA) ra)) in
+      let l : sp + (an + an) ≤ ap' + ap' + sn = rn_le (ap' + ap') (an + an) two r (omega arith) in
+      sum-rep sp sn an ap' (rn_rep r) (rep_flip ap' an ra)
+      (dist_le (sp + an) (sn + ap') (dist sp sn) (one (dist sp sn) (dist_up sp sn).0) (two' (dist sp sn) g))
+      (dist_le (sp + an) (sn + ap') (dist an ap') (three (dist an ap') l (dist_up an ap').1) (two' (dist an ap') g))
     where
       one : (S : ℕ) → sp ≤ sn + S → sp + an ≤ sn + ap' + S
       one S h = omega arith
@@ -72,26 +72,26 @@ module _ (ap' an bp bn sp sn : ℕ) (ra : Rep (dist ap' an)) (rb : Rep (dist bp 
       S : ℕ
       S = dist sp sn
 
-      zero-le' : 0 + sn ≤ sp + 0
-      zero-le' = rn-ge 0 0 rep_zero r (omega arith)
+      zero_le' : 0 + sn ≤ sp + 0
+      zero_le' = rn_ge 0 0 rep_zero r (omega arith)
 
       under : sp + an ≤ ap' + sn
-      under = rn-le ap' an ra r (omega arith)
+      under = rn_le ap' an ra r (omega arith)
 
       s0 : S + sn ≡ sp
-      s0 = dist-hi sp sn (down sn sp zero-le')
+      s0 = dist_hi sp sn (down sn sp zero_le')
         where
           down : (x y : ℕ) → 0 + x ≤ y + 0 → x ≤ y
           down x y h = omega arith
 
       exact : Rep (dist (ap' + bp) (an + bn)) → Rep (dist (sp + an) (sn + ap'))
-      exact f = let e : ap' + bp + sn ≡ sp + (an + bn) = rn-exact f r in subst Rep (sym (dist-shift (sp + an) (sn + ap') bp bn (turn e))) rb
+      exact f = let e : ap' + bp + sn ≡ sp + (an + bn) = rn_exact f r in subst Rep (sym (dist_shift (sp + an) (sn + ap') bp bn (turn e))) rb
         where
           turn : ap' + bp + sn ≡ sp + (an + bn) → sp + an + bn ≡ sn + ap' + bp
           turn e = omega arith
 
       size_is : dist (ap' + bp) (an + bn) + B ≡ A
-      size_is = plus (dist (ap' + bp) (an + bn)) (dist-hi (ap' + bp) (an + bn) (omega arith))
+      size_is = plus (dist (ap' + bp) (an + bn)) (dist_hi (ap' + bp) (an + bn) (omega arith))
         where
           plus : (d : ℕ) → d + (an + bn) ≡ ap' + bp → d + B ≡ A
           plus d h = omega arith
@@ -108,8 +108,8 @@ module _ (ap' an bp bn sp sn : ℕ) (ra : Rep (dist ap' an)) (rb : Rep (dist bp 
 
       close : 2 * B < A → 2 * S < A → Rep (dist (sp + an) (sn + ap'))
       close h k = elim (halves A (subst Rep (sym eA) ra)) [
-        | inl l ↦ exact (rep-small (dist (ap' + bp) (an + bn)) (tiny (dist (ap' + bp) (an + bn)) size_is l))
-        | inr w ↦ absurd (no w.0 w.1 (rn-ge w.0 0 (subst Rep (sym (dist-zero w.0)) w.2) r (low w.0 w.1)))
+        | inl l ↦ exact (rep_small (dist (ap' + bp) (an + bn)) (tiny (dist (ap' + bp) (an + bn)) size_is l))
+        | inr w ↦ absurd (no w.0 w.1 (rn_ge w.0 0 (subst Rep (sym (dist_zero w.0)) w.2) r (low w.0 w.1)))
       ]
         where
           tiny : (d : ℕ) → d + B ≡ A → A < 2 ^ 53 → d < 2 ^ 53
@@ -122,8 +122,8 @@ module _ (ap' an bp bn sp sn : ℕ) (ra : Rep (dist ap' an)) (rb : Rep (dist bp 
           no x e l = omega (arith, s0)
 
       go : (b : Bool) → (T b → A ≤ 2 * S) → (T (not b) → 2 * S < A) → Rep (dist (sp + an) (sn + ap'))
-      go true f g = sum-rep sp sn an ap' (rn-rep r) (rep-flip ap' an ra) (dist-le (sp + an) (sn + ap') S (up S under) (one S s0 (f tt)))
-          (dist-le (sp + an) (sn + ap') (dist an ap') (up (dist an ap') under) (two (dist an ap') (dist-up an ap').1))
+      go true f g = sum-rep sp sn an ap' (rn_rep r) (rep_flip ap' an ra) (dist_le (sp + an) (sn + ap') S (up S under) (one S s0 (f tt)))
+          (dist_le (sp + an) (sn + ap') (dist an ap') (up (dist an ap') under) (two (dist an ap') (dist_up an ap').1))
         where
           up : (K : ℕ) → sp + an ≤ ap' + sn → sp + an ≤ sn + ap' + K
           up K h = omega arith
@@ -132,23 +132,23 @@ module _ (ap' an bp bn sp sn : ℕ) (ra : Rep (dist ap' an)) (rb : Rep (dist bp 
           one K h l = omega arith
 
           two : (K : ℕ) → ap' ≤ an + K → sn + ap' ≤ sp + an + K
-          two K h = omega (arith, zero-le')
-      go false f g = elim (lt-or-ge (2 * B) A) [ inl h ↦ close h (g tt) | inr h ↦ far h ]
+          two K h = omega (arith, zero_le')
+      go false f g = elim (lt_or_ge (2 * B) A) [ inl h ↦ close h (g tt) | inr h ↦ far h ]
         where
-          lt-or-ge : (x y : ℕ) → (x < y) ⊎ (y < x + 1)
-          lt-or-ge x y = pick (leb y x) (leb→le y x) (nleb→lt y x)
+          lt_or_ge : (x y : ℕ) → (x < y) ⊎ (y < x + 1)
+          lt_or_ge x y = pick (leb y x) (leb→le y x) (nleb→lt y x)
             where
               pick : (b : Bool) → (T b → y ≤ x) → (T (not b) → x < y) → (x < y) ⊎ (y < x + 1)
               pick true f g = inr (let h : y ≤ x = f tt in omega arith)
               pick false f g = inl (g tt)
 
-dekker-up : (ap' an bp bn sp sn : ℕ) → Rep (dist ap' an) → Rep (dist bp bn) → RN (ap' + bp) (an + bn) sp sn → dist bp bn ≤ dist ap' an → an ≤ ap'
+dekker_up : (ap' an bp bn sp sn : ℕ) → Rep (dist ap' an) → Rep (dist bp bn) → RN (ap' + bp) (an + bn) sp sn → dist bp bn ≤ dist ap' an → an ≤ ap'
     → Rep (dist (sp + an) (sn + ap'))
-dekker-up ap' an bp bn sp sn ra rb r h l = go (leb bn bp) (leb→le bn bp) (nleb→lt bn bp)
+dekker_up ap' an bp bn sp sn ra rb r h l = go (leb bn bp) (leb→le bn bp) (nleb→lt bn bp)
   where
     go : (b : Bool) → (T b → bn ≤ bp) → (T (not b) → bp < bn) → Rep (dist (sp + an) (sn + ap'))
-    go true f g = alike ap' an bp bn sp sn ra rb r (dist ap' an) (dist bp bn) refl refl h (dist-hi ap' an l) (dist-hi bp bn (f tt))
-    go false f g = unlike ap' an bp bn sp sn ra rb r (dist ap' an) (dist bp bn) refl refl h (dist-hi ap' an l) (dist-lo bp bn (le_of_lt (g tt)))
+    go true f g = alike ap' an bp bn sp sn ra rb r (dist ap' an) (dist bp bn) refl refl h (dist_hi ap' an l) (dist_hi bp bn (f tt))
+    go false f g = unlike ap' an bp bn sp sn ra rb r (dist ap' an) (dist bp bn) refl refl h (dist_hi ap' an l) (dist_lo bp bn (le_of_lt (g tt)))
 
 -- |b| ≤ |a|: the rounded sum less a is a value
 pub dekker : (ap' an bp bn sp sn : ℕ) → Rep (dist ap' an) → Rep (dist bp bn) → RN (ap' + bp) (an + bn) sp sn → dist bp bn ≤ dist ap' an
@@ -156,15 +156,15 @@ pub dekker : (ap' an bp bn sp sn : ℕ) → Rep (dist ap' an) → Rep (dist bp b
 dekker ap' an bp bn sp sn ra rb r h = go (leb an ap') (leb→le an ap') (nleb→lt an ap')
   where
     go : (b : Bool) → (T b → an ≤ ap') → (T (not b) → ap' < an) → Rep (dist (sp + an) (sn + ap'))
-    go true f g = dekker-up ap' an bp bn sp sn ra rb r h (f tt)
+    go true f g = dekker_up ap' an bp bn sp sn ra rb r h (f tt)
     go false f g =
-        rep-flip (sn + ap') (sp + an)
-        (dekker-up an ap' bn bp sn sp (rep-flip ap' an ra) (rep-flip bp bn rb) (rn-neg r)
-        (le_trans (le_of_eq (dist-flip bn bp)) (le_trans h (le_of_eq (dist-flip ap' an)))) (le_of_lt (g tt)))
+        rep_flip (sn + ap') (sp + an)
+        (dekker_up an ap' bn bp sn sp (rep_flip ap' an ra) (rep_flip bp bn rb) (rn_neg r)
+        (le_trans (le_of_eq (dist_flip bn bp)) (le_trans h (le_of_eq (dist_flip ap' an)))) (le_of_lt (g tt)))
 
 -- the size of what is rounded: no less than a value that is no more
-rn-size : {P N p n : ℕ} (x : ℕ) → Rep x → RN P N p n → x ≤ dist P N → x ≤ dist p n
-rn-size {P} {N} {p} {n} x f r h =
+rn_size : {P N p n : ℕ} (x : ℕ) → Rep x → RN P N p n → x ≤ dist P N → x ≤ dist p n
+rn_size {P} {N} {p} {n} x f r h =
     le_trans (le_of_eq (sym (step-fix x f)))
     (le_trans (step-le x r.size (le_trans h (le_of_eq (signed-dist r.sign r.size P N r.is))))
     (le_of_eq (sym (signed-dist r.sign (step r.size) p n r.to))))
@@ -179,27 +179,27 @@ module _ (ap' an bp bn sp sn vp vn wp wn cp cn dp dn ep en : ℕ) (ra : Rep (dis
   -- where s - a is exact
   from-exact : Rep (dist (sp + an) (sn + ap')) → sp + ep + (an + bn) ≡ sn + en + (ap' + bp)
   from-exact f =
-      let e1 : sp + an + vn ≡ vp + (sn + ap') = rn-exact f rv in
-      let e2 : sp + vn + wn ≡ wp + (sn + vp) = rn-exact (subst Rep (sym (dist-shift (sp + vn) (sn + vp) ap' an (omega arith))) ra) rw' in
-      let e3 : ap' + wn + cn ≡ cp + (an + wp) = rn-exact (subst Rep (sym (dist-shift (ap' + wn) (an + wp) 0 0 (omega arith))) rep_zero) rc in
+      let e1 : sp + an + vn ≡ vp + (sn + ap') = rn_exact f rv in
+      let e2 : sp + vn + wn ≡ wp + (sn + vp) = rn_exact (subst Rep (sym (dist_shift (sp + vn) (sn + vp) ap' an (omega arith))) ra) rw' in
+      let e3 : ap' + wn + cn ≡ cp + (an + wp) = rn_exact (subst Rep (sym (dist_shift (ap' + wn) (an + wp) 0 0 (omega arith))) rep_zero) rc in
       let e4 : bp + vn + dn ≡ dp + (bn + vp) =
-      rn-exact (subst Rep (sym (dist-shift (bp + vn) (bn + vp) (ap' + bp + sn) (an + bn + sp) (omega arith))) error) rd in
+      rn_exact (subst Rep (sym (dist_shift (bp + vn) (bn + vp) (ap' + bp + sn) (an + bn + sp) (omega arith))) error) rd in
       let e5 : cp + dp + en ≡ ep + (cn + dn) =
-      rn-exact (subst Rep (sym (dist-shift (cp + dp) (cn + dn) (ap' + bp + sn) (an + bn + sp) (omega arith))) error) re in
+      rn_exact (subst Rep (sym (dist_shift (cp + dp) (cn + dn) (ap' + bp + sn) (an + bn + sp) (omega arith))) error) re in
       omega arith
 
   -- |a| ≤ |s|, |a| ≤ |b|
   from-large : dist ap' an ≤ dist sp sn → dist ap' an ≤ dist bp bn → sp + ep + (an + bn) ≡ sn + en + (ap' + bp)
   from-large h k =
       let e2 : sp + vn + wn ≡ wp + (sn + vp) =
-      rn-exact (subst Rep (sym (dist-shift (sp + vn) (sn + vp) (vn + sp) (vp + sn) (omega arith)))
-      (rep-flip (vp + sn) (vn + sp) (dekker sp sn an ap' vp vn (rn-rep rs) (rep-flip ap' an ra) rv (le_trans (le_of_eq (dist-flip an ap')) h)))) rw' in
+      rn_exact (subst Rep (sym (dist_shift (sp + vn) (sn + vp) (vn + sp) (vp + sn) (omega arith)))
+      (rep_flip (vp + sn) (vn + sp) (dekker sp sn an ap' vp vn (rn_rep rs) (rep_flip ap' an ra) rv (le_trans (le_of_eq (dist_flip an ap')) h)))) rw' in
       let e3 : ap' + wn + cn ≡ cp + (an + wp) =
-      rn-exact (subst Rep (sym (dist-shift (ap' + wn) (an + wp) (sn + ap' + vp) (sp + an + vn) (omega arith)))
-      (rep-flip (sp + an + vn) (sn + ap' + vp) (error-rep sp sn an ap' vp vn (rn-rep rs) (rep-flip ap' an ra) rv))) rc in
-      let e4 : bp + vn + dn ≡ dp + (bn + vp) = rn-exact (sum-rep bp bn vn vp rb (rep-flip vp vn (rn-rep rv)) near.0 near.1) rd in
+      rn_exact (subst Rep (sym (dist_shift (ap' + wn) (an + wp) (sn + ap' + vp) (sp + an + vn) (omega arith)))
+      (rep_flip (sp + an + vn) (sn + ap' + vp) (error-rep sp sn an ap' vp vn (rn_rep rs) (rep_flip ap' an ra) rv))) rc in
+      let e4 : bp + vn + dn ≡ dp + (bn + vp) = rn_exact (sum-rep bp bn vn vp rb (rep_flip vp vn (rn_rep rv)) near.0 near.1) rd in
       let e5 : cp + dp + en ≡ ep + (cn + dn) =
-      rn-exact (subst Rep (sym (dist-shift (cp + dp) (cn + dn) (ap' + bp + sn) (an + bn + sp) (omega arith))) error) re in
+      rn_exact (subst Rep (sym (dist_shift (cp + dp) (cn + dn) (ap' + bp + sn) (an + bn + sp) (omega arith))) error) re in
       omega arith
     where
       D : ℕ
@@ -207,8 +207,8 @@ module _ (ap' an bp bn sp sn vp vn wp wn cp cn dp dn ep en : ℕ) (ra : Rep (dis
 
       -- the error of s - a is no more than that of s, since b is a value
       first : dist (sp + an + vn) (sn + ap' + vp) ≤ D
-      first = le_trans (rn-opt bp bn rb rv)
-          (le_of_eq (dist-shift (sp + an + bn) (sn + ap' + bp) (an + bn + sp) (ap' + bp + sn) (omega arith) ∙ dist-flip (an + bn + sp) (ap' + bp + sn)))
+      first = le_trans (rn_opt bp bn rb rv)
+          (le_of_eq (dist_shift (sp + an + bn) (sn + ap' + bp) (an + bn + sp) (ap' + bp + sn) (omega arith) ∙ dist_flip (an + bn + sp) (ap' + bp + sn)))
 
       -- and that is at most 2 ^ -53 of |a + b|
       second : 2 ^ 53 * D ≤ dist (ap' + bp) (an + bn)
@@ -221,16 +221,16 @@ module _ (ap' an bp bn sp sn vp vn wp wn cp cn dp dn ep en : ℕ) (ra : Rep (dis
           part a g x y = omega arith
 
       third : dist (ap' + bp) (an + bn) ≤ dist ap' an + dist bp bn
-      third = dist-le (ap' + bp) (an + bn) (dist ap' an + dist bp bn) (plus ap' an bp bn (dist ap' an) (dist bp bn) (dist-up ap' an).0 (dist-up bp bn).0)
-          (plus an ap' bn bp (dist ap' an) (dist bp bn) (dist-up ap' an).1 (dist-up bp bn).1)
+      third = dist_le (ap' + bp) (an + bn) (dist ap' an + dist bp bn) (plus ap' an bp bn (dist ap' an) (dist bp bn) (dist_up ap' an).0 (dist_up bp bn).0)
+          (plus an ap' bn bp (dist ap' an) (dist bp bn) (dist_up ap' an).1 (dist_up bp bn).1)
         where
           plus : (p n q m x y : ℕ) → p ≤ n + x → q ≤ m + y → p + q ≤ n + m + (x + y)
           plus p n q m x y u v = omega arith
 
       fourth : dist (bp + vn) (bn + vp) ≤ 2 * D
-      fourth = dist-le (bp + vn) (bn + vp) (2 * D)
-          (one (dist (sp + an + vn) (sn + ap' + vp)) D first (dist-up (sp + an + vn) (sn + ap' + vp)).0 (dist-up (ap' + bp + sn) (an + bn + sp)).0)
-          (two (dist (sp + an + vn) (sn + ap' + vp)) D first (dist-up (sp + an + vn) (sn + ap' + vp)).1 (dist-up (ap' + bp + sn) (an + bn + sp)).1)
+      fourth = dist_le (bp + vn) (bn + vp) (2 * D)
+          (one (dist (sp + an + vn) (sn + ap' + vp)) D first (dist_up (sp + an + vn) (sn + ap' + vp)).0 (dist_up (ap' + bp + sn) (an + bn + sp)).0)
+          (two (dist (sp + an + vn) (sn + ap' + vp)) D first (dist_up (sp + an + vn) (sn + ap' + vp)).1 (dist_up (ap' + bp + sn) (an + bn + sp)).1)
         where
           one : (x y : ℕ) → x ≤ y → sp + an + vn ≤ sn + ap' + vp + x → ap' + bp + sn ≤ an + bn + sp + y → bp + vn ≤ bn + vp + 2 * y
           one x y l u v = omega arith
@@ -239,9 +239,9 @@ module _ (ap' an bp bn sp sn vp vn wp wn cp cn dp dn ep en : ℕ) (ra : Rep (dis
           two x y l u v = omega arith
 
       fifth : dist bp bn ≤ dist vn vp + dist (bp + vn) (bn + vp)
-      fifth = dist-le bp bn (dist vn vp + dist (bp + vn) (bn + vp))
-          (one (dist vn vp) (dist (bp + vn) (bn + vp)) (dist-up vn vp).1 (dist-up (bp + vn) (bn + vp)).0)
-          (two (dist vn vp) (dist (bp + vn) (bn + vp)) (dist-up vn vp).0 (dist-up (bp + vn) (bn + vp)).1)
+      fifth = dist_le bp bn (dist vn vp + dist (bp + vn) (bn + vp))
+          (one (dist vn vp) (dist (bp + vn) (bn + vp)) (dist_up vn vp).1 (dist_up (bp + vn) (bn + vp)).0)
+          (two (dist vn vp) (dist (bp + vn) (bn + vp)) (dist_up vn vp).0 (dist_up (bp + vn) (bn + vp)).1)
         where
           one : (x y : ℕ) → vp ≤ vn + x → bp + vn ≤ bn + vp + y → bp ≤ bn + (x + y)
           one x y u v = omega arith
@@ -268,9 +268,9 @@ module _ (ap' an bp bn sp sn vp vn wp wn cp cn dp dn ep en : ℕ) (ra : Rep (dis
           (under (leb (dist (ap' + bp) (an + bn)) (dist ap' an)) (leb→le (dist (ap' + bp) (an + bn)) (dist ap' an))
           (nleb→lt (dist (ap' + bp) (an + bn)) (dist ap' an))) [
             | inl l ↦
-                let e : ap' + bp + sn ≡ sp + (an + bn) = rn-exact (sum-rep ap' an bp bn ra rb l (le_trans l (le_of_lt (g tt)))) rs in
-                from-exact (subst Rep (sym (dist-shift (sp + an) (sn + ap') bp bn (turn e))) rb)
-            | inr l ↦ absurd (not-le_of_lt (g' tt) (rn-size (dist ap' an) ra rs (le_of_lt l)))
+                let e : ap' + bp + sn ≡ sp + (an + bn) = rn_exact (sum-rep ap' an bp bn ra rb l (le_trans l (le_of_lt (g tt)))) rs in
+                from-exact (subst Rep (sym (dist_shift (sp + an) (sn + ap') bp bn (turn e))) rb)
+            | inr l ↦ absurd (not-le_of_lt (g' tt) (rn_size (dist ap' an) ra rs (le_of_lt l)))
           ]
         where
           under : (b : Bool) → (T b → dist (ap' + bp) (an + bn) ≤ dist ap' an) → (T (not b) → dist ap' an < dist (ap' + bp) (an + bn))

@@ -12,43 +12,43 @@ use lib.Ieee.Fits.{round_is}
 use lib.Ieee.Order.{drop, kept}
 use lib.Ieee.Scale.{overflow, finite}
 use Rattle.rounding.specs.Value.{Signed, Val, Rounds, L}
-use Rattle.rounding.proofs.Value.{add_rounds, sub-rounds, L-pos}
+use Rattle.rounding.proofs.Value.{add_rounds, sub_rounds, L-pos}
 use Rattle.rounding.proofs.Own.{Rep}
 use Rattle.rounding.proofs.Optimal.{step}
-use Rattle.rounding.proofs.Relative.{grid-step, step-has}
+use Rattle.rounding.proofs.Relative.{grid_step, step-has}
 use Rattle.rounding.proofs.Nearest.{RN}
 use Rattle.rounding.proofs.TwoSum.{dist, two-sum}
 use Rattle.rounding.proofs.TwoSumFloat.{Exact, two-sum-error}
 
 -- ---- what a finite result says of its operands
-pub add-finite-parts : (x y : Float) → T (finite (add binary64 x y)) → T (finite x) × T (finite y)
+pub add_finite_parts : (x y : Float) → T (finite (add binary64 x y)) → T (finite x) × T (finite y)
 unfolding add
-add-finite-parts nan y h = absurd h
-add-finite-parts (inf s) nan h = absurd h
-add-finite-parts (inf s) (inf t) h = go (beq s t) h
+add_finite_parts nan y h = absurd h
+add_finite_parts (inf s) nan h = absurd h
+add_finite_parts (inf s) (inf t) h = go (beq s t) h
   where
     go : (b : Bool) → T (finite (cond b (inf s) nan)) → ⊥ × ⊥
     go true h = absurd h
     go false h = absurd h
-add-finite-parts (inf s) (fin t n d) h = absurd h
-add-finite-parts (fin s m e) nan h = absurd h
-add-finite-parts (fin s m e) (inf t) h = absurd h
-add-finite-parts (fin s m e) (fin t n d) h = (tt, tt)
+add_finite_parts (inf s) (fin t n d) h = absurd h
+add_finite_parts (fin s m e) nan h = absurd h
+add_finite_parts (fin s m e) (inf t) h = absurd h
+add_finite_parts (fin s m e) (fin t n d) h = (tt, tt)
 
-neg-finite : (x : Float) → T (finite (neg x)) → T (finite x)
+neg_finite : (x : Float) → T (finite (neg x)) → T (finite x)
 unfolding neg
-neg-finite nan h = h
-neg-finite (inf s) h = h
-neg-finite (fin s m e) h = tt
+neg_finite nan h = h
+neg_finite (inf s) h = h
+neg_finite (fin s m e) h = tt
 
-pub sub-finite-parts : (x y : Float) → T (finite (sub binary64 x y)) → T (finite x) × T (finite y)
+pub sub_finite_parts : (x y : Float) → T (finite (sub binary64 x y)) → T (finite x) × T (finite y)
 unfolding sub
-sub-finite-parts x y h = let p = add-finite-parts x (neg y) h in (p.0, neg-finite y p.1)
+sub_finite_parts x y h = let p = add_finite_parts x (neg y) h in (p.0, neg_finite y p.1)
 
 -- ---- a result that is finite has not overflowed
-not-over : (s : Bool) (q k : ℕ) → T (finite (units binary64 s q k)) → q * 2 ^ k < overflow binary64
+not_over : (s : Bool) (q k : ℕ) → T (finite (units binary64 s q k)) → q * 2 ^ k < overflow binary64
 unfolding units
-not-over s q k = go (ltb (q * 2 ^ k) (overflow binary64)) (ltb→lt (q * 2 ^ k) (overflow binary64))
+not_over s q k = go (ltb (q * 2 ^ k) (overflow binary64)) (ltb→lt (q * 2 ^ k) (overflow binary64))
   where
     go : (b : Bool) → (T b → q * 2 ^ k < overflow binary64) → T (finite (cond b (odd 54 s q k 1074) (inf s))) → q * 2 ^ k < overflow binary64
     go true h t = h tt
@@ -56,8 +56,8 @@ not-over s q k = go (ltb (q * 2 ^ k) (overflow binary64)) (ltb→lt (q * 2 ^ k) 
 
 finite-step : (s : Bool) (a : ℕ) → T (finite (round binary64 s a L)) → step a < 2 ^ 2098
 finite-step s a h =
-    lt_of_le_of_lt (le_of_eq (sym (grid-step a)))
-    (not-over s (kept 53 (a * 2 ^ 1074) L) (drop 53 (a * 2 ^ 1074) L) (subst (λ (z : Float). T (finite z)) (round_is binary64 s a L) h))
+    lt_of_le_of_lt (le_of_eq (sym (grid_step a)))
+    (not_over s (kept 53 (a * 2 ^ 1074) L) (drop 53 (a * 2 ^ 1074) L) (subst (λ (z : Float). T (finite z)) (round_is binary64 s a L) h))
 
 -- z is (p - n) / L, which is (P - N) / L rounded
 record RoundedTo (z : Float) (P N : ℕ) : Type 0 where
@@ -66,8 +66,8 @@ record RoundedTo (z : Float) (P N : ℕ) : Type 0 where
   val : Val z p n L
   rn : RN P N p n
 
-rounded-to : {z : Float} {P N : ℕ} → T (finite z) → Rounds binary64 z P N L → RoundedTo z P N
-rounded-to {z} {P} {N} f r =
+rounded_to : {z : Float} {P N : ℕ} → T (finite z) → Rounds binary64 z P N L → RoundedTo z P N
+rounded_to {z} {P} {N} f r =
     go r.sign
     (subst (λ (x : Float). HasValue x r.sign (step r.size) L) (sym r.eq)
     (step-has r.sign r.size (finite-step r.sign r.size (subst (λ (x : Float). T (finite x)) r.eq f))))
@@ -95,15 +95,15 @@ pub two-sum-finite : (a b : Float) (p n q m : ℕ) → Val a p n L → Val b q m
 two-sum-finite a b p n q m va vb ra rb fs fe =
     let sum = add binary64 a b in
     let bb = sub binary64 sum a in
-    let cd = add-finite-parts (sub binary64 a (sub binary64 sum bb)) (sub binary64 b bb) fe in
-    let w = sub-finite-parts a (sub binary64 sum bb) cd.0 in
-    let v = sub-finite-parts sum bb w.1 in
-    let xs = rounded-to {z = sum} fs (add_rounds binary64 L-pos va vb) in
-    let xv = rounded-to {z = bb} v.1 (sub-rounds binary64 L-pos xs.val va) in
-    let xw = rounded-to {z = sub binary64 sum bb} w.1 (sub-rounds binary64 L-pos xs.val xv.val) in
-    let xc = rounded-to {z = sub binary64 a (sub binary64 sum bb)} cd.0 (sub-rounds binary64 L-pos va xw.val) in
-    let xd = rounded-to {z = sub binary64 b bb} cd.1 (sub-rounds binary64 L-pos vb xv.val) in
-    let xe = rounded-to {z = two-sum-error a b} fe (add_rounds binary64 L-pos xc.val xd.val) in
+    let cd = add_finite_parts (sub binary64 a (sub binary64 sum bb)) (sub binary64 b bb) fe in
+    let w = sub_finite_parts a (sub binary64 sum bb) cd.0 in
+    let v = sub_finite_parts sum bb w.1 in
+    let xs = rounded_to {z = sum} fs (add_rounds binary64 L-pos va vb) in
+    let xv = rounded_to {z = bb} v.1 (sub_rounds binary64 L-pos xs.val va) in
+    let xw = rounded_to {z = sub binary64 sum bb} w.1 (sub_rounds binary64 L-pos xs.val xv.val) in
+    let xc = rounded_to {z = sub binary64 a (sub binary64 sum bb)} cd.0 (sub_rounds binary64 L-pos va xw.val) in
+    let xd = rounded_to {z = sub binary64 b bb} cd.1 (sub_rounds binary64 L-pos vb xv.val) in
+    let xe = rounded_to {z = two-sum-error a b} fe (add_rounds binary64 L-pos xc.val xd.val) in
     record {
       sp = xs.p;
       sn = xs.n;

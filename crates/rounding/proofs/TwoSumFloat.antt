@@ -9,12 +9,12 @@ use mathlib.Core.Bool.{Bool, true, false}
 use lib.Ieee.{Float, binary64, add, sub}
 use lib.Ieee.Exact.{HasValue}
 use Rattle.rounding.specs.Value.{Signed, Val, Rounds, Under52, L}
-use Rattle.rounding.proofs.Value.{add_rounds, sub-rounds, abs-val, L-pos}
-use Rattle.rounding.proofs.Signed.{dist-up, signed_le}
+use Rattle.rounding.proofs.Value.{add_rounds, sub_rounds, abs-val, L-pos}
+use Rattle.rounding.proofs.Signed.{dist_up, signed_le}
 use Rattle.rounding.proofs.Own.{Rep}
 pub use Rattle.rounding.proofs.Own.{val-rep}
 pub use Rattle.rounding.proofs.Value.{has-finite, has-unique, val-unique}
-use Rattle.rounding.proofs.Compare.{lt-says}
+use Rattle.rounding.proofs.Compare.{lt_says}
 use Rattle.rounding.proofs.Range.{power-val}
 use Rattle.rounding.proofs.Optimal.{step}
 use Rattle.rounding.proofs.Relative.{step-relative}
@@ -99,28 +99,28 @@ module _ (a b : Float) (p n q m M : ℕ) (va : Val a p n L) (vb : Val b q m L) (
 
   xv : At (sub binary64 (add binary64 a b) a) (xs.p + n) (xs.n + p) (5 * M)
   xv = rounds-at (room M 5 (2 ^ 2098) (lit≤ tt) big) (grow xs.p xs.n n p (2 * (2 * M)) M (5 * M) xs.high h2 (e M))
-      (grow xs.n xs.p p n (2 * (2 * M)) M (5 * M) xs.low h1 (e M)) (sub-rounds binary64 L-pos xs.val va)
+      (grow xs.n xs.p p n (2 * (2 * M)) M (5 * M) xs.low h1 (e M)) (sub_rounds binary64 L-pos xs.val va)
     where
       e : (x : ℕ) → 2 * (2 * x) + x ≤ 5 * x
       e x = omega arith
 
   xw : At (sub binary64 (add binary64 a b) (sub binary64 (add binary64 a b) a)) (xs.p + xv.n) (xs.n + xv.p) (14 * M)
   xw = rounds-at (room M 14 (2 ^ 2098) (lit≤ tt) big) (grow xs.p xs.n xv.n xv.p (2 * (2 * M)) (2 * (5 * M)) (14 * M) xs.high xv.low (e M))
-      (grow xs.n xs.p xv.p xv.n (2 * (2 * M)) (2 * (5 * M)) (14 * M) xs.low xv.high (e M)) (sub-rounds binary64 L-pos xs.val xv.val)
+      (grow xs.n xs.p xv.p xv.n (2 * (2 * M)) (2 * (5 * M)) (14 * M) xs.low xv.high (e M)) (sub_rounds binary64 L-pos xs.val xv.val)
     where
       e : (x : ℕ) → 2 * (2 * x) + 2 * (5 * x) ≤ 14 * x
       e x = omega arith
 
   xc : At (sub binary64 a (sub binary64 (add binary64 a b) (sub binary64 (add binary64 a b) a))) (p + xw.n) (n + xw.p) (29 * M)
   xc = rounds-at (room M 29 (2 ^ 2098) (lit≤ tt) big) (grow p n xw.n xw.p M (2 * (14 * M)) (29 * M) h1 xw.low (e M))
-      (grow n p xw.p xw.n M (2 * (14 * M)) (29 * M) h2 xw.high (e M)) (sub-rounds binary64 L-pos va xw.val)
+      (grow n p xw.p xw.n M (2 * (14 * M)) (29 * M) h2 xw.high (e M)) (sub_rounds binary64 L-pos va xw.val)
     where
       e : (x : ℕ) → x + 2 * (14 * x) ≤ 29 * x
       e x = omega arith
 
   xd : At (sub binary64 b (sub binary64 (add binary64 a b) a)) (q + xv.n) (m + xv.p) (11 * M)
   xd = rounds-at (room M 11 (2 ^ 2098) (lit≤ tt) big) (grow q m xv.n xv.p M (2 * (5 * M)) (11 * M) h3 xv.low (e M))
-      (grow m q xv.p xv.n M (2 * (5 * M)) (11 * M) h4 xv.high (e M)) (sub-rounds binary64 L-pos vb xv.val)
+      (grow m q xv.p xv.n M (2 * (5 * M)) (11 * M) h4 xv.high (e M)) (sub_rounds binary64 L-pos vb xv.val)
     where
       e : (x : ℕ) → x + 2 * (5 * x) ≤ 11 * x
       e x = omega arith
@@ -156,11 +156,11 @@ enough = lit< tt
 pub two-sum-under : {a b : Float} {p n q m : ℕ} → Under52 a → Under52 b → Val a p n L → Val b q m L
     → Exact (add binary64 a b) (two-sum-error a b) (p + q) (n + m)
 two-sum-under {a} {b} {p} {n} {q} {m} ua ub va vb =
-    let x = lt-says L-pos (abs-val va) (power-val 52 L) ua.small in
-    let y = lt-says L-pos (abs-val vb) (power-val 52 L) ub.small in two-sum-exact a b p n q m (2 ^ 52 * L) va vb (val-rep ua.held va)
+    let x = lt_says L-pos (abs-val va) (power-val 52 L) ua.small in
+    let y = lt_says L-pos (abs-val vb) (power-val 52 L) ub.small in two-sum-exact a b p n q m (2 ^ 52 * L) va vb (val-rep ua.held va)
     (val-rep ub.held vb) enough
-    (near p n (dist p n) (2 ^ 52 * L) x (dist-up p n).0) (near n p (dist p n) (2 ^ 52 * L) x (dist-up p n).1)
-    (near q m (dist q m) (2 ^ 52 * L) y (dist-up q m).0) (near m q (dist q m) (2 ^ 52 * L) y (dist-up q m).1)
+    (near p n (dist p n) (2 ^ 52 * L) x (dist_up p n).0) (near n p (dist p n) (2 ^ 52 * L) x (dist_up p n).1)
+    (near q m (dist q m) (2 ^ 52 * L) y (dist_up q m).0) (near m q (dist q m) (2 ^ 52 * L) y (dist_up q m).1)
   where
     near : (p n d K : ℕ) → d + 0 < K + 0 → p ≤ n + d → p ≤ n + K
     near p n d K h k = omega arith

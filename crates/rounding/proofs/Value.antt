@@ -16,7 +16,7 @@ use lib.Ieee.Scale.{round_same, finite}
 use Rattle.floats.specs.Whole.{abs}
 use Rattle.rounding.specs.Value.{Signed, Val, Rounds, L}
 use Rattle.rounding.proofs.Fractions.{order, plus, less, times, quotient-same}
-pub use Rattle.rounding.proofs.Fractions.{cross-l, cross-r}
+pub use Rattle.rounding.proofs.Fractions.{cross_l, cross_r}
 use Rattle.rounding.proofs.Signed.{dist, signed-dist, signed-not, signed-move, signed-scale, signed-times}
 
 -- ---- the unit 1 / L
@@ -126,17 +126,17 @@ pub val-finite-true : {x : Float} {p n d : ℕ} → Val x p n d → finite x ≡
 val-finite-true {x} {d = d} v = has-true x v.sign v.size d v.has
 
 -- ---- -x and |x| are exact
-neg-has : (x : Float) (s : Bool) (a d : ℕ) → HasValue x s a d → HasValue (neg x) (not s) a d
+neg_has : (x : Float) (s : Bool) (a d : ℕ) → HasValue x s a d → HasValue (neg x) (not s) a d
 unfolding neg
-neg-has nan s a d h = h
-neg-has (inf u) s a d h = h
-neg-has (fin u m e) s a d h = (ap not h.0, h.1)
+neg_has nan s a d h = h
+neg_has (inf u) s a d h = h
+neg_has (fin u m e) s a d h = (ap not h.0, h.1)
 
-pub neg-val : {x : Float} {p n d : ℕ} → Val x p n d → Val (neg x) n p d
-neg-val {x} {p} {n} {d} v = record {
+pub neg_val : {x : Float} {p n d : ℕ} → Val x p n d → Val (neg x) n p d
+neg_val {x} {p} {n} {d} v = record {
   sign = not v.sign;
   size = v.size;
-  has = neg-has x v.sign v.size d v.has;
+  has = neg_has x v.sign v.size d v.has;
   is =
       signed-not v.sign v.size p n v.is;
 }
@@ -182,35 +182,35 @@ sum-rounds f true false a b c A B D p n q m C E e g h k = go (ltb a b) (ltb→lt
         record { sign = false; size = B - A; eq = round_same f false (b - a) c (B - A) D C E (less b a c B A D g e); is = omega arith }
     go false x y = eq-case (ltb b a) (order b a c B A D C g e (y tt)) (nltb→le b a)
 
-add-has : (f : Format) (x y : Float) (s t : Bool) (A B D p n q m : ℕ) → 0 < D → HasValue x s A D → HasValue y t B D → Signed s A p n → Signed t B q m
+add_has : (f : Format) (x y : Float) (s t : Bool) (A B D p n q m : ℕ) → 0 < D → HasValue x s A D → HasValue y t B D → Signed s A p n → Signed t B q m
     → Rounds f (add f x y) (p + q) (n + m) D
 unfolding add
-add-has f nan y s t A B D p n q m E h k i j = absurd h
-add-has f (inf u) y s t A B D p n q m E h k i j = absurd h
-add-has f (fin u a e) nan s t A B D p n q m E h k i j = absurd k
-add-has f (fin u a e) (inf v) s t A B D p n q m E h k i j = absurd k
-add-has f (fin u a e) (fin v b d) s t A B D p n q m E h k i j =
+add_has f nan y s t A B D p n q m E h k i j = absurd h
+add_has f (inf u) y s t A B D p n q m E h k i j = absurd h
+add_has f (fin u a e) nan s t A B D p n q m E h k i j = absurd k
+add_has f (fin u a e) (inf v) s t A B D p n q m E h k i j = absurd k
+add_has f (fin u a e) (fin v b d) s t A B D p n q m E h k i j =
     sum-rounds f u v (a * up e * down d) (b * up d * down e) (down e * down d) A B D p n q m (mul-pos (down_pos e) (down_pos d)) E
-    (cross-l (a * up e) (down e) (down d) A D h.1) (cross-r (b * up d) (down e) (down d) B D k.1)
+    (cross_l (a * up e) (down e) (down d) A D h.1) (cross_r (b * up d) (down e) (down d) B D k.1)
     (subst (λ (z : Bool). Signed z A p n) (sym h.0) i) (subst (λ (z : Bool). Signed z B q m) (sym k.0) j)
 
 pub add_rounds : (f : Format) {x y : Float} {p n q m D : ℕ} → 0 < D → Val x p n D → Val y q m D → Rounds f (add f x y) (p + q) (n + m) D
-add_rounds f {x} {y} {p} {n} {q} {m} {D} E v w = add-has f x y v.sign w.sign v.size w.size D p n q m E v.has w.has v.is w.is
+add_rounds f {x} {y} {p} {n} {q} {m} {D} E v w = add_has f x y v.sign w.sign v.size w.size D p n q m E v.has w.has v.is w.is
 
 -- ---- a difference is (p + m - (n + q)) / D, rounded
-pub sub-rounds : (f : Format) {x y : Float} {p n q m D : ℕ} → 0 < D → Val x p n D → Val y q m D → Rounds f (sub f x y) (p + m) (n + q) D
+pub sub_rounds : (f : Format) {x y : Float} {p n q m D : ℕ} → 0 < D → Val x p n D → Val y q m D → Rounds f (sub f x y) (p + m) (n + q) D
 unfolding sub
-sub-rounds f E v w = add_rounds f E v (neg-val w)
+sub_rounds f E v w = add_rounds f E v (neg_val w)
 
 -- ---- a product is (p - n) * (q - m) / (D * E), rounded
-mul-has : (f : Format) (x y : Float) (s t : Bool) (A B D E p n q m : ℕ) → 0 < D → 0 < E → HasValue x s A D → HasValue y t B E → Signed s A p n → Signed t B q m
+mul_has : (f : Format) (x y : Float) (s t : Bool) (A B D E p n q m : ℕ) → 0 < D → 0 < E → HasValue x s A D → HasValue y t B E → Signed s A p n → Signed t B q m
     → Rounds f (mul f x y) (p * q + n * m) (p * m + n * q) (D * E)
 unfolding mul
-mul-has f nan y s t A B D E p n q m F G h k i j = absurd h
-mul-has f (inf u) y s t A B D E p n q m F G h k i j = absurd h
-mul-has f (fin u a e) nan s t A B D E p n q m F G h k i j = absurd k
-mul-has f (fin u a e) (inf v) s t A B D E p n q m F G h k i j = absurd k
-mul-has f (fin u a e) (fin v b d) s t A B D E p n q m F G h k i j =
+mul_has f nan y s t A B D E p n q m F G h k i j = absurd h
+mul_has f (inf u) y s t A B D E p n q m F G h k i j = absurd h
+mul_has f (fin u a e) nan s t A B D E p n q m F G h k i j = absurd k
+mul_has f (fin u a e) (inf v) s t A B D E p n q m F G h k i j = absurd k
+mul_has f (fin u a e) (fin v b d) s t A B D E p n q m F G h k i j =
     record {
       sign = unlike u v;
       size = A * B;
@@ -219,26 +219,26 @@ mul-has f (fin u a e) (fin v b d) s t A B D E p n q m F G h k i j =
       is = signed-times u v A B p n q m (subst (λ (z : Bool). Signed z A p n) (sym h.0) i) (subst (λ (z : Bool). Signed z B q m) (sym k.0) j);
     }
 
-pub mul-rounds : (f : Format) {x y : Float} {p n q m D E : ℕ} → 0 < D → 0 < E → Val x p n D → Val y q m E
+pub mul_rounds : (f : Format) {x y : Float} {p n q m D E : ℕ} → 0 < D → 0 < E → Val x p n D → Val y q m E
     → Rounds f (mul f x y) (p * q + n * m) (p * m + n * q) (D * E)
-mul-rounds f {x} {y} {p} {n} {q} {m} {D} {E} F G v w = mul-has f x y v.sign w.sign v.size w.size D E p n q m F G v.has w.has v.is w.is
+mul_rounds f {x} {y} {p} {n} {q} {m} {D} {E} F G v w = mul_has f x y v.sign w.sign v.size w.size D E p n q m F G v.has w.has v.is w.is
 
 -- ---- a quotient by B / E above zero is (p - n) * E / (D * B), rounded; by -B / E below zero it is (n - p) * E / (D * B)
 -- the sign of the quotient, and its pair
-unlike-side : (u v : Bool) (a p n : ℕ) → Signed u a p n → Signed (unlike u v) a (cond v n p) (cond v p n)
-unlike-side true false a p n h = h
-unlike-side false false a p n h = h
-unlike-side true true a p n h = h
-unlike-side false true a p n h = h
+unlike_side : (u v : Bool) (a p n : ℕ) → Signed u a p n → Signed (unlike u v) a (cond v n p) (cond v p n)
+unlike_side true false a p n h = h
+unlike_side false false a p n h = h
+unlike_side true true a p n h = h
+unlike_side false true a p n h = h
 
-div-has : (f : Format) (v : Bool) (x y : Float) (s : Bool) (A B D E p n : ℕ) → 0 < D → 0 < E → 0 < B → HasValue x s A D → HasValue y v B E → Signed s A p n
+div_has : (f : Format) (v : Bool) (x y : Float) (s : Bool) (A B D E p n : ℕ) → 0 < D → 0 < E → 0 < B → HasValue x s A D → HasValue y v B E → Signed s A p n
     → Rounds f (div f x y) (cond v (n * E) (p * E)) (cond v (p * E) (n * E)) (D * B)
 unfolding div
-div-has f v nan y s A B D E p n F G H h k i = absurd h
-div-has f v (inf u) y s A B D E p n F G H h k i = absurd h
-div-has f v (fin u a e) nan s A B D E p n F G H h k i = absurd k
-div-has f v (fin u a e) (inf w) s A B D E p n F G H h k i = absurd k
-div-has f v (fin u a e) (fin w b d) s A B D E p n F G H h k i = go (eqb b 0) (eqb→eq b 0)
+div_has f v nan y s A B D E p n F G H h k i = absurd h
+div_has f v (inf u) y s A B D E p n F G H h k i = absurd h
+div_has f v (fin u a e) nan s A B D E p n F G H h k i = absurd k
+div_has f v (fin u a e) (inf w) s A B D E p n F G H h k i = absurd k
+div_has f v (fin u a e) (fin w b d) s A B D E p n F G H h k i = go (eqb b 0) (eqb→eq b 0)
   where
     some : 0 < b
     some = first_pos b (up d) (first_pos (b * up d) E (subst (λ (z : ℕ). 0 < z) (sym k.1) (mul-pos H (down_pos d))))
@@ -253,7 +253,7 @@ div-has f v (fin u a e) (fin w b d) s A B D E p n F G H h k i = go (eqb b 0) (eq
       eq = round_same f (unlike u w) (a * up e * down d) (b * up d * down e) (A * E) (D * B) (mul-pos (mul-pos some (up_pos d)) (down_pos e)) (mul-pos F H)
           (quotient-same (a * up e) (b * up d) (down e) (down d) A B D E h.1 k.1);
       is = subst (λ (z : Bool). Signed (unlike u w) (A * E) (cond z (n * E) (p * E)) (cond z (p * E) (n * E))) k.0
-          (unlike-side u w (A * E) (p * E) (n * E) (subst (λ (z : Bool). Signed z (A * E) (p * E) (n * E)) (sym h.0) (signed-scale s A p n E i)));
+          (unlike_side u w (A * E) (p * E) (n * E) (subst (λ (z : Bool). Signed z (A * E) (p * E) (n * E)) (sym h.0) (signed-scale s A p n E i)));
     }
 
 -- the sign of a value that is not zero
@@ -263,6 +263,6 @@ sided false y true a B E h k i = let w : ⊥ = omega arith in absurd w
 sided true y true a B E h k i = subst (λ (z : ℕ). HasValue y true z E) (sym (add-zero a) ∙ i) k
 sided true y false a B E h k i = let w : ⊥ = omega arith in absurd w
 
-pub div-rounds : (f : Format) {x y : Float} {p n B D E : ℕ} → 0 < D → 0 < E → 0 < B → Val x p n D → Val y B 0 E → Rounds f (div f x y) (p * E) (n * E) (D * B)
-div-rounds f {x} {y} {p} {n} {B} {D} {E} F G H v w =
-    div-has f false x y v.sign v.size B D E p n F G H v.has (sided false y w.sign w.size B E H w.has w.is) v.is
+pub div_rounds : (f : Format) {x y : Float} {p n B D E : ℕ} → 0 < D → 0 < E → 0 < B → Val x p n D → Val y B 0 E → Rounds f (div f x y) (p * E) (n * E) (D * B)
+div_rounds f {x} {y} {p} {n} {B} {D} {E} F G H v w =
+    div_has f false x y v.sign v.size B D E p n F G H v.has (sided false y w.sign w.size B E H w.has w.is) v.is

@@ -36,14 +36,14 @@ pub record InUnit (x : Float) : Type 0 where
   pub low : T (le nought x)
   pub high : T (lt x one)
 
--- an integer z as the pair of plusZ z and minusZ z, of which one is 0: z = plusZ z - minusZ z
-abbrev pub plusZ : ℤ → ℕ
-plusZ (pos a) = a
-plusZ (negsuc a) = 0
+-- an integer z as the pair of plus_z z and minus_z z, of which one is 0: z = plus_z z - minus_z z
+abbrev pub plus_z : ℤ → ℕ
+plus_z (pos a) = a
+plus_z (negsuc a) = 0
 
-abbrev pub minusZ : ℤ → ℕ
-minusZ (pos a) = 0
-minusZ (negsuc a) = suc a
+abbrev pub minus_z : ℤ → ℕ
+minus_z (pos a) = 0
+minus_z (negsuc a) = suc a
 
 -- 2 ^ 1074: the smallest f64 above zero is 1 / L, and every finite f64 is a whole number of 1 / L. Shut, so that proofs do not compute it
 unfoldable pub L : ℕ

@@ -3,8 +3,8 @@
 ghost use Rattle.std.specs.Prelude.{◌≡◌, ◌≤◌, pos, nat_abs, ◌-ℤ◌};
 ghost use Rattle.std.specs.Float.{binary64};
 ghost use Rattle.std.specs.Float.Ieee.{of_int};
-ghost use Rattle.julian.specs.JulianDate.{julian, julianOutcome};
-ghost use Rattle.leap_table.specs.rows.Announced.{rowsIn};
+ghost use Rattle.julian.specs.JulianDate.{julian, julian_outcome};
+ghost use Rattle.leap_table.specs.rows.Announced.{rows_in};
 ghost use Rattle.runs.specs.ways.Ways.{way_of};
 ghost use Rattle.runs.specs.by_day.Hand as D;
 
@@ -53,7 +53,7 @@ const DJMAX: f64 = 1e9;
 
 // A midnight whose day serves no stamp.
 fn serves_none(midnight: f64, top: f64) -> DayInHand
-    ensures { result ≡ D.servesNone midnight top }
+    ensures { result ≡ D.serves_none midnight top }
 {
     DayInHand {
         midnight,
@@ -67,14 +67,14 @@ fn serves_none(midnight: f64, top: f64) -> DayInHand
 
 // No day.
 pub(crate) fn no_day() -> DayInHand
-    ensures { result ≡ D.servesNone D.minusOne D.minusOne }
+    ensures { result ≡ D.serves_none D.minus_one D.minus_one }
 {
     serves_none(-1.0, -1.0)
 }
 
 // What is kept of a day by its offsets.
 fn hand_of(midnight: f64, mjd: f64, o: DayOffsets) -> DayInHand
-    ensures { result ≡ D.handOf midnight mjd o }
+    ensures { result ≡ D.hand_of midnight mjd o }
 {
     let drift_rate = 2.0 * (o.at_12h - o.at_0h);
     let leap_amount = o.at_24h - (o.at_0h + drift_rate);
@@ -102,7 +102,7 @@ fn look_up<'a>(
     months: &'a [i32; 16],
     seconds: &'a [i32; 16],
 ) -> DayInHand
-    ensures { D.RightHand (rowsIn size months.now seconds.now) result }
+    ensures { D.RightHand (rows_in size months.now seconds.now) result }
 {
     let w = floats::nearest_whole(midnight);
     if midnight - w.value == -0.5 {
@@ -126,8 +126,8 @@ pub(crate) fn next_day<'a>(
     months: &'a [i32; 16],
     seconds: &'a [i32; 16],
 ) -> DayInHand
-    requires { D.RightHand (rowsIn size months.now seconds.now) hand }
-    ensures { D.RightHand (rowsIn size months.now seconds.now) result }
+    requires { D.RightHand (rows_in size months.now seconds.now) hand }
+    ensures { D.RightHand (rows_in size months.now seconds.now) result }
 {
     if jd1 == hand.midnight {
         if hand.top < 0.0 {
@@ -170,7 +170,7 @@ fn fraction_in_day(small: f64) -> InDay
 
 // The smaller part in TAI.
 fn tai_part(fraction: f64, h: DayInHand) -> f64
-    ensures { result ≡ D.taiPart h fraction }
+    ensures { result ≡ D.tai_part h fraction }
 {
     h.zero + (fraction * h.leap * h.drift + h.start)
 }
@@ -277,8 +277,8 @@ pub(crate) fn next_hand<'a>(
     months: &'a [i32; 16],
     seconds: &'a [i32; 16],
 ) -> DayInHand
-    requires { D.RightHand (rowsIn size months.now seconds.now) hand }
-    ensures { D.RightHand (rowsIn size months.now seconds.now) result }
+    requires { D.RightHand (rows_in size months.now seconds.now) hand }
+    ensures { D.RightHand (rows_in size months.now seconds.now) result }
 {
     if keeps_day(from, to) {
         return next_day(jd1, hand, size, months, seconds);
@@ -296,8 +296,8 @@ pub(crate) fn convert_with<'a>(
     months: &'a [i32; 16],
     seconds: &'a [i32; 16],
 ) -> JulianAnswer
-    requires { D.RightHand (rowsIn size months.now seconds.now) hand }
-    ensures { julianOutcome result ≡ way_of (rowsIn size months.now seconds.now) from to jd }
+    requires { D.RightHand (rows_in size months.now seconds.now) hand }
+    ensures { julian_outcome result ≡ way_of (rows_in size months.now seconds.now) from to jd }
 {
     match quick_way(from, to, jd, hand) {
         ByHand::Date(d) => JulianAnswer::Date(d),

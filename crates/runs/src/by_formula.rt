@@ -9,10 +9,10 @@ ghost use Rattle.std.specs.Float.{binary64};
 ghost use Rattle.std.specs.Float.Ieee.{of_bits};
 ghost use Rattle.std.specs.Float.Ieee.Scale.{finite};
 ghost use Rattle.std.proofs.lemmas.List.Edits.{sets};
-ghost use Rattle.numerals.specs.little_endian.LittleEndian.{u64At, eightBytes};
-ghost use Rattle.runs.specs.by_formula.Run.{runOutcome, runCall};
-ghost use Rattle.runs.specs.by_formula.Formula.{formulaRun};
-ghost use Rattle.runs.specs.by_formula.Asked.{kindRefusal};
+ghost use Rattle.numerals.specs.little_endian.LittleEndian.{u64_at, eight_bytes};
+ghost use Rattle.runs.specs.by_formula.Run.{run_outcome, run_call};
+ghost use Rattle.runs.specs.by_formula.Formula.{formula_run};
+ghost use Rattle.runs.specs.by_formula.Asked.{kind_refusal};
 
 // How many stamps are refused, or the number of the refusal of the whole run.
 #[derive(Drop)]
@@ -24,7 +24,7 @@ pub enum RunAnswer {
 // Number i of a list that has it. Read from a part of eight bytes, it needs no test of the length.
 pub(crate) fn pattern_at(s: &[u8], i: usize) -> u64
     requires { 8 * i + 8 ≤ length s.now }
-    ensures { result ≡ u64At s.now (8 * i) }
+    ensures { result ≡ u64_at s.now (8 * i) }
 {
     let at = 8 * i;
     let end = at + 8;
@@ -34,7 +34,7 @@ pub(crate) fn pattern_at(s: &[u8], i: usize) -> u64
 // The eight bytes of a pattern at a place of the lent list.
 pub(crate) fn put_pattern(out: &mut [u8], at: usize, n: u64)
     requires { at + 8 ≤ length out.old }
-    ensures { out.new ≡ sets out.old at (eightBytes n) }
+    ensures { out.new ≡ sets out.old at (eight_bytes n) }
 {
     let end = at + 8;
     numerals::little_endian::put_u64(&mut out[at..end], n);
@@ -63,7 +63,7 @@ fn formula_refusal(
     room2: usize,
     room: usize,
 ) -> u32
-    ensures { result ≡ kindRefusal kind size1 size2 size3 room1 room2 room }
+    ensures { result ≡ kind_refusal kind size1 size2 size3 room1 room2 room }
 {
     if kind == pairs::NONE {
         return refusals::OUT_OF_LIMIT;
@@ -110,7 +110,7 @@ pub fn formula_run(
     out2: &mut [u8],
     numbers: &mut [u8],
 ) -> RunAnswer
-    ensures { runCall (runOutcome result) out1.new out2.new numbers.new ≡ formulaRun from to jd1s.now
+    ensures { run_call (run_outcome result) out1.new out2.new numbers.new ≡ formula_run from to jd1s.now
         jd2s.now offsets.now out1.old out2.old numbers.old }
 {
     let found = pairs::formula_of(from, to);

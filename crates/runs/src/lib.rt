@@ -1,13 +1,13 @@
 // A run of stamps from one scale to another in one call, where refused stamps are numbered and counted. The parts of the stamps and of the dates are bytes,
 // eight each, the lowest first.
 ghost use Rattle.std.specs.Prelude.{◌≡◌, ◌+◌, ◌*◌, ◌≤◌, length};
-ghost use Rattle.julian.specs.JulianDate.{julianOutcome};
-ghost use Rattle.leap_table.specs.rows.Announced.{rowsIn, table_of};
-ghost use Rattle.runs.specs.ways.Ways.{isRunScale};
-ghost use Rattle.runs.specs.by_formula.Run.{runOutcome, runCall};
+ghost use Rattle.julian.specs.JulianDate.{julian_outcome};
+ghost use Rattle.leap_table.specs.rows.Announced.{rows_in, table_of};
+ghost use Rattle.runs.specs.ways.Ways.{is_run_scale};
+ghost use Rattle.runs.specs.by_formula.Run.{run_outcome, run_call};
 ghost use Rattle.runs.specs.by_formula.Asked.{Roomy, HasPlace, StampPut, RunPut};
-ghost use Rattle.runs.specs.Run.{stampAnswer, runRefusal, run_by, convertedRun};
-ghost use Rattle.runs.specs.Asked.{isShort};
+ghost use Rattle.runs.specs.Run.{stamp_answer, run_refusal, run_by, converted_run};
+ghost use Rattle.runs.specs.Asked.{is_short};
 ghost use Rattle.runs.specs.by_day.Hand.{RightHand};
 
 use crate::by_day::DayInHand;
@@ -23,7 +23,7 @@ pub mod ways;
 // Both parts of an answer in the places of stamp i, and its number: 0, or that of the refusal, of which the places stay.
 fn put_answer(found: JulianAnswer, i: usize, out1: &mut [u8], out2: &mut [u8]) -> u8
     requires { HasPlace i out1.old out2.old }
-    ensures { StampPut (julianOutcome found) i out1.old out2.old result out1.new out2.new }
+    ensures { StampPut (julian_outcome found) i out1.old out2.old result out1.new out2.new }
 {
     match found {
         JulianAnswer::Refused(number) => (number % 256) as u8,
@@ -56,10 +56,10 @@ fn convert_stamp<'a>(
     out1: &mut [u8],
     out2: &mut [u8],
 ) -> AfterStamp
-    requires { HasPlace i out1.old out2.old × RightHand (rowsIn size months.now seconds.now) hand }
-    ensures { StampPut (stampAnswer (rowsIn size months.now seconds.now) from to jd1s.now jd2s.now i) i
+    requires { HasPlace i out1.old out2.old × RightHand (rows_in size months.now seconds.now) hand }
+    ensures { StampPut (stamp_answer (rows_in size months.now seconds.now) from to jd1s.now jd2s.now i) i
         out1.old out2.old result.number out1.new out2.new
-        × RightHand (rowsIn size months.now seconds.now) result.hand }
+        × RightHand (rows_in size months.now seconds.now) result.hand }
 {
     let jd = julian::stamp_lists::stamp_of(jd1s, jd2s, i);
     let next = crate::by_day::next_hand(from, to, jd.jd1, hand, size, months, seconds);
@@ -83,7 +83,7 @@ fn convert_all<'a>(
     numbers: &mut [u8],
 ) -> usize
     requires { Roomy n jd1s.now jd2s.now out1.old out2.old numbers.old }
-    ensures { RunPut (stampAnswer (rowsIn size months.now seconds.now) from to jd1s.now jd2s.now) n
+    ensures { RunPut (stamp_answer (rows_in size months.now seconds.now) from to jd1s.now jd2s.now) n
         out1.old out2.old numbers.old result out1.new out2.new numbers.new }
 {
     let mut refused = 0;
@@ -104,7 +104,7 @@ fn convert_all<'a>(
 }
 
 fn is_run_scale(n: u32) -> bool
-    ensures { result ≡ isRunScale n }
+    ensures { result ≡ is_run_scale n }
 {
     if n == constants::scale_numbers::UTC {
         return true;
@@ -123,7 +123,7 @@ fn is_run_scale(n: u32) -> bool
 
 // Whether the way is one formula, by which a run is quicker.
 fn is_short(from: u32, to: u32) -> bool
-    ensures { result ≡ isShort from to }
+    ensures { result ≡ is_short from to }
 {
     if are(from, to, GPS, TAI) {
         return true;
@@ -153,7 +153,7 @@ fn run_refusal(
     room2: usize,
     room: usize,
 ) -> u32
-    ensures { result ≡ runRefusal from to size1 size2 room1 room2 room }
+    ensures { result ≡ run_refusal from to size1 size2 room1 room2 room }
 {
     if !is_run_scale(from) {
         return refusals::OUT_OF_LIMIT;
@@ -195,8 +195,8 @@ pub fn convert_run_by_arrays<'a>(
     out2: &mut [u8],
     numbers: &mut [u8],
 ) -> RunAnswer
-    ensures { runCall (runOutcome result) out1.new out2.new numbers.new ≡ run_by
-        (rowsIn size months.now seconds.now) from to jd1s.now jd2s.now out1.old out2.old
+    ensures { run_call (run_outcome result) out1.new out2.new numbers.new ≡ run_by
+        (rows_in size months.now seconds.now) from to jd1s.now jd2s.now out1.old out2.old
         numbers.old }
 {
     let number = run_refusal(
@@ -235,7 +235,7 @@ pub fn convert_run(
     out2: &mut [u8],
     numbers: &mut [u8],
 ) -> RunAnswer
-    ensures { runCall (runOutcome result) out1.new out2.new numbers.new ≡ convertedRun (table_of table) from to
+    ensures { run_call (run_outcome result) out1.new out2.new numbers.new ≡ converted_run (table_of table) from to
         jd1s.now jd2s.now out1.old out2.old numbers.old }
 {
     let number = leap_table::rows::table_refusal(table);

@@ -1,11 +1,11 @@
 // The way of a date from one scale to another, through TAI. A scale is its number. The rows of a table are a size and two arrays that are lent on.
 ghost use Rattle.std.specs.Prelude.{◌≡◌};
 ghost use Rattle.refusals.specs.Outcome.{onward};
-ghost use Rattle.julian.specs.JulianDate.{julianOutcome};
-ghost use Rattle.leap_table.specs.rows.Announced.{rowsIn};
-ghost use Rattle.scales.specs.Scales.{taiOutcome, ttOutcome, gpsOutcome, tcgOutcome, utcOutcome};
-ghost use Rattle.utc_scales.specs.UtcTai.{utcToTai, taiToUtc};
-ghost use Rattle.runs.specs.ways.Ways.{intoTai, outOfTai, between, way_of};
+ghost use Rattle.julian.specs.JulianDate.{julian_outcome};
+ghost use Rattle.leap_table.specs.rows.Announced.{rows_in};
+ghost use Rattle.scales.specs.Scales.{tai_outcome, tt_outcome, gps_outcome, tcg_outcome, utc_outcome};
+ghost use Rattle.utc_scales.specs.UtcTai.{utc_to_tai, tai_to_utc};
+ghost use Rattle.runs.specs.ways.Ways.{into_tai, out_of_tai, between, way_of};
 
 use constants::scale_numbers::{GPS, TCG, TT, UTC, are};
 use julian::{JulianAnswer, JulianDate};
@@ -14,7 +14,7 @@ use utc_scales::utc_tai::TaiByRule;
 
 // An answer as a date that names no scale.
 fn of_tai(a: TaiAnswer) -> JulianAnswer
-    ensures { julianOutcome result ≡ taiOutcome a }
+    ensures { julian_outcome result ≡ tai_outcome a }
 {
     match a {
         TaiAnswer::Date(tai) => {
@@ -26,7 +26,7 @@ fn of_tai(a: TaiAnswer) -> JulianAnswer
 }
 
 fn of_tt(a: TtAnswer) -> JulianAnswer
-    ensures { julianOutcome result ≡ ttOutcome a }
+    ensures { julian_outcome result ≡ tt_outcome a }
 {
     match a {
         TtAnswer::Date(tt) => {
@@ -38,7 +38,7 @@ fn of_tt(a: TtAnswer) -> JulianAnswer
 }
 
 fn of_gps(a: GpsAnswer) -> JulianAnswer
-    ensures { julianOutcome result ≡ gpsOutcome a }
+    ensures { julian_outcome result ≡ gps_outcome a }
 {
     match a {
         GpsAnswer::Date(gps) => {
@@ -50,7 +50,7 @@ fn of_gps(a: GpsAnswer) -> JulianAnswer
 }
 
 fn of_tcg(a: TcgAnswer) -> JulianAnswer
-    ensures { julianOutcome result ≡ tcgOutcome a }
+    ensures { julian_outcome result ≡ tcg_outcome a }
 {
     match a {
         TcgAnswer::Date(tcg) => {
@@ -62,7 +62,7 @@ fn of_tcg(a: TcgAnswer) -> JulianAnswer
 }
 
 fn of_utc(a: UtcAnswer) -> JulianAnswer
-    ensures { julianOutcome result ≡ utcOutcome a }
+    ensures { julian_outcome result ≡ utc_outcome a }
 {
     match a {
         UtcAnswer::Date(utc) => {
@@ -80,7 +80,7 @@ fn utc_into_tai<'a>(
     months: &'a [i32; 16],
     seconds: &'a [i32; 16],
 ) -> JulianAnswer
-    ensures { julianOutcome result ≡ utcToTai (rowsIn size months.now seconds.now) jd }
+    ensures { julian_outcome result ≡ utc_to_tai (rows_in size months.now seconds.now) jd }
 {
     match utc_scales::utc_tai::utc_to_tai_by_arrays(scales::UTC(jd), size, months, seconds) {
         TaiByRule::Refused(n) => JulianAnswer::Refused(n),
@@ -98,7 +98,7 @@ fn into_tai<'a>(
     months: &'a [i32; 16],
     seconds: &'a [i32; 16],
 ) -> JulianAnswer
-    ensures { julianOutcome result ≡ intoTai (rowsIn size months.now seconds.now) from jd }
+    ensures { julian_outcome result ≡ into_tai (rows_in size months.now seconds.now) from jd }
 {
     if from == UTC {
         return utc_into_tai(jd, size, months, seconds);
@@ -122,7 +122,7 @@ fn out_of_tai<'a>(
     months: &'a [i32; 16],
     seconds: &'a [i32; 16],
 ) -> JulianAnswer
-    ensures { julianOutcome result ≡ outOfTai (rowsIn size months.now seconds.now) to jd }
+    ensures { julian_outcome result ≡ out_of_tai (rows_in size months.now seconds.now) to jd }
 {
     if to == UTC {
         return of_utc(utc_scales::utc_tai::tai_to_utc_by_arrays(
@@ -152,8 +152,8 @@ fn through_tai<'a>(
     months: &'a [i32; 16],
     seconds: &'a [i32; 16],
 ) -> JulianAnswer
-    ensures { julianOutcome result ≡ onward (intoTai (rowsIn size months.now seconds.now) from jd)
-        (outOfTai (rowsIn size months.now seconds.now) to) }
+    ensures { julian_outcome result ≡ onward (into_tai (rows_in size months.now seconds.now) from jd)
+        (out_of_tai (rows_in size months.now seconds.now) to) }
 {
     match into_tai(from, jd, size, months, seconds) {
         JulianAnswer::Refused(n) => JulianAnswer::Refused(n),
@@ -169,7 +169,7 @@ fn between<'a>(
     months: &'a [i32; 16],
     seconds: &'a [i32; 16],
 ) -> JulianAnswer
-    ensures { julianOutcome result ≡ between (rowsIn size months.now seconds.now) from to jd }
+    ensures { julian_outcome result ≡ between (rows_in size months.now seconds.now) from to jd }
 {
     if are(from, to, TT, TCG) {
         return of_tcg(scales::tt_tcg::tt_to_tcg(scales::TT(jd)));
@@ -189,7 +189,7 @@ pub(crate) fn convert_by_arrays<'a>(
     months: &'a [i32; 16],
     seconds: &'a [i32; 16],
 ) -> JulianAnswer
-    ensures { julianOutcome result ≡ way_of (rowsIn size months.now seconds.now) from to jd }
+    ensures { julian_outcome result ≡ way_of (rows_in size months.now seconds.now) from to jd }
 {
     if from == to {
         return julian::finite_jd(jd);

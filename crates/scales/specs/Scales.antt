@@ -19,34 +19,34 @@ use Rattle.scales.specs.declared.TcbAnswer.TheVariants as Tcb
 use Rattle.scales.specs.declared.TdbAnswer.{TdbAnswer}
 use Rattle.scales.specs.declared.TdbAnswer.TheVariants as Tdb
 
-unfoldable pub utcOutcome : UtcAnswer → Outcome JulianDate
-utcOutcome (Utc.Date utc) = answer utc.0
-utcOutcome (Utc.Refused n) = refusal n
+unfoldable pub utc_outcome : UtcAnswer → Outcome JulianDate
+utc_outcome (Utc.Date utc) = answer utc.0
+utc_outcome (Utc.Refused n) = refusal n
 
-unfoldable pub taiOutcome : TaiAnswer → Outcome JulianDate
-taiOutcome (Tai.Date tai) = answer tai.0
-taiOutcome (Tai.Refused n) = refusal n
+unfoldable pub tai_outcome : TaiAnswer → Outcome JulianDate
+tai_outcome (Tai.Date tai) = answer tai.0
+tai_outcome (Tai.Refused n) = refusal n
 
-unfoldable pub ut1Outcome : Ut1Answer → Outcome JulianDate
-ut1Outcome (Ut1.Date ut1) = answer ut1.0
-ut1Outcome (Ut1.Refused n) = refusal n
+unfoldable pub ut1_outcome : Ut1Answer → Outcome JulianDate
+ut1_outcome (Ut1.Date ut1) = answer ut1.0
+ut1_outcome (Ut1.Refused n) = refusal n
 
-unfoldable pub ttOutcome : TtAnswer → Outcome JulianDate
-ttOutcome (Tt.Date tt) = answer tt.0
-ttOutcome (Tt.Refused n) = refusal n
+unfoldable pub tt_outcome : TtAnswer → Outcome JulianDate
+tt_outcome (Tt.Date tt) = answer tt.0
+tt_outcome (Tt.Refused n) = refusal n
 
-unfoldable pub gpsOutcome : GpsAnswer → Outcome JulianDate
-gpsOutcome (Gps.Date gps) = answer gps.0
-gpsOutcome (Gps.Refused n) = refusal n
+unfoldable pub gps_outcome : GpsAnswer → Outcome JulianDate
+gps_outcome (Gps.Date gps) = answer gps.0
+gps_outcome (Gps.Refused n) = refusal n
 
-unfoldable pub tcgOutcome : TcgAnswer → Outcome JulianDate
-tcgOutcome (Tcg.Date tcg) = answer tcg.0
-tcgOutcome (Tcg.Refused n) = refusal n
+unfoldable pub tcg_outcome : TcgAnswer → Outcome JulianDate
+tcg_outcome (Tcg.Date tcg) = answer tcg.0
+tcg_outcome (Tcg.Refused n) = refusal n
 
-unfoldable pub tcbOutcome : TcbAnswer → Outcome JulianDate
-tcbOutcome (Tcb.Date tcb) = answer tcb.0
-tcbOutcome (Tcb.Refused n) = refusal n
+unfoldable pub tcb_outcome : TcbAnswer → Outcome JulianDate
+tcb_outcome (Tcb.Date tcb) = answer tcb.0
+tcb_outcome (Tcb.Refused n) = refusal n
 
-unfoldable pub tdbOutcome : TdbAnswer → Outcome JulianDate
-tdbOutcome (Tdb.Date tdb) = answer tdb.0
-tdbOutcome (Tdb.Refused n) = refusal n
+unfoldable pub tdb_outcome : TdbAnswer → Outcome JulianDate
+tdb_outcome (Tdb.Date tdb) = answer tdb.0
+tdb_outcome (Tdb.Refused n) = refusal n

@@ -1,11 +1,11 @@
 // GPS weeks and milliseconds of the week, to dates and back.
 ghost use Rattle.std.specs.Prelude.{◌≡◌, ◌<◌, ◌≤◌};
 ghost use Rattle.refusals.specs.Outcome.{onward};
-ghost use Rattle.julian.specs.day_number.Answer.{dayNumberAndFraction};
-ghost use Rattle.scales.specs.Scales.{gpsOutcome};
-ghost use Rattle.scales.specs.gps_weeks.WeekDate.{weekMidnight, partOfDay, weekDate};
-ghost use Rattle.scales.specs.gps_weeks.WeekOf.{weekOutcome, productOf, dayMillis, weekAt, weekOfDay, weekOf};
-ghost use Rattle.scales.specs.gps_weeks.FullWeek.{fullOutcome, byDistance, fullWeek};
+ghost use Rattle.julian.specs.day_number.Answer.{day_number_and_fraction};
+ghost use Rattle.scales.specs.Scales.{gps_outcome};
+ghost use Rattle.scales.specs.gps_weeks.WeekDate.{week_midnight, part_of_day, week_date};
+ghost use Rattle.scales.specs.gps_weeks.WeekOf.{week_outcome, product_of, day_millis, week_at, week_of_day, week_of};
+ghost use Rattle.scales.specs.gps_weeks.FullWeek.{full_outcome, by_distance, full_week};
 
 use crate::{GPS, GpsAnswer};
 use julian::{JulianAnswer, JulianDate};
@@ -56,21 +56,21 @@ const LAST_REFERENCE: u32 = 99_000;
 // The Julian date of the midnight that begins a day from 1 on.
 fn midnight_of(day: u32) -> f64
     requires { 0 < day }
-    ensures { result ≡ weekMidnight day }
+    ensures { result ≡ week_midnight day }
 {
     day as f64 - 0.5
 }
 
 // Milliseconds as a part of a day of 86,400 s.
 fn part_of_day(millis: u32) -> f64
-    ensures { result ≡ partOfDay millis }
+    ensures { result ≡ part_of_day millis }
 {
     millis as f64 / 86400000.0
 }
 
 // The GPS date: midnight of its day in jd1, the milliseconds of the day in jd2. 18 for a week above 100,000 or 604,800,000 milliseconds or more.
 pub fn from_week(week: u32, millis: u32) -> GpsAnswer
-    ensures { gpsOutcome result ≡ weekDate week millis }
+    ensures { gps_outcome result ≡ week_date week millis }
 {
     if week > LAST_WEEK {
         return GpsAnswer::Refused(refusals::OUT_OF_LIMIT);
@@ -85,7 +85,7 @@ pub fn from_week(week: u32, millis: u32) -> GpsAnswer
 
 // The milliseconds of a fraction of a day, a half going up. Nearly every count is from 1 to 2^52, where one cast does.
 fn millis_of(fraction: f64) -> u64
-    ensures { (result ≡ dayMillis fraction) × (result ≤ 9223372036854775807) }
+    ensures { (result ≡ day_millis fraction) × (result ≤ 9223372036854775807) }
 {
     let rounded = floats::round(fraction * 86400000.0);
     if rounded >= 1.0 && rounded < TWO_52 {
@@ -96,7 +96,7 @@ fn millis_of(fraction: f64) -> u64
 
 // The week of so many milliseconds since midnight of day 0.
 fn week_at(count: u64) -> WeekAnswer
-    ensures { weekOutcome result ≡ weekAt count }
+    ensures { week_outcome result ≡ week_at count }
 {
     if count < FIRST_MILLI {
         return WeekAnswer::Refused(refusals::OUT_OF_LIMIT);
@@ -115,7 +115,7 @@ fn week_at(count: u64) -> WeekAnswer
 
 // The limits are judged by the rounded count, so that a day's last half millisecond is in the next.
 fn week_of_day(day: i64, fraction: f64) -> WeekAnswer
-    ensures { weekOutcome result ≡ weekOfDay day (dayMillis fraction) }
+    ensures { week_outcome result ≡ week_of_day day (day_millis fraction) }
 {
     if day < 0 {
         return WeekAnswer::Refused(refusals::OUT_OF_LIMIT);
@@ -128,7 +128,7 @@ fn week_of_day(day: i64, fraction: f64) -> WeekAnswer
 }
 
 fn week_of_parts(jd1: f64, jd2: f64) -> WeekAnswer
-    ensures { weekOutcome result ≡ onward (dayNumberAndFraction jd1 jd2) (λ n. weekOfDay n.day (dayMillis n.fraction)) }
+    ensures { week_outcome result ≡ onward (day_number_and_fraction jd1 jd2) (λ n. week_of_day n.day (day_millis n.fraction)) }
 {
     match julian::day_number::day_number_and_fraction(jd1, jd2) {
         julian::day_number::DayAnswer::Refused(number) => WeekAnswer::Refused(number),
@@ -138,7 +138,7 @@ fn week_of_parts(jd1: f64, jd2: f64) -> WeekAnswer
 
 // The week of a GPS date, and the milliseconds of it, to the nearest. Refusals in order: 9, 6, and 18 for a rounded date outside weeks 0 to 100,000.
 pub fn to_week(gps: GPS) -> WeekAnswer
-    ensures { weekOutcome result ≡ weekOf gps.0 }
+    ensures { week_outcome result ≡ week_of gps.0 }
 {
     match julian::finite_jd(gps.0) {
         JulianAnswer::Refused(number) => WeekAnswer::Refused(number),
@@ -149,7 +149,7 @@ pub fn to_week(gps: GPS) -> WeekAnswer
 // Of the weeks with those ten bits, the one at most `back` weeks before the reference or the next; 19 where both are 512 away.
 fn by_distance(reference: u32, back: u32) -> FullWeekAnswer
     requires { (back ≤ reference) × (reference ≤ 99000) }
-    ensures { fullOutcome result ≡ byDistance reference back }
+    ensures { full_outcome result ≡ by_distance reference back }
 {
     if back == TEN_BITS / 2 {
         return FullWeekAnswer::Refused(refusals::WEEK_NOT_DECIDED);
@@ -164,7 +164,7 @@ fn by_distance(reference: u32, back: u32) -> FullWeekAnswer
 // The week with those ten lowest bits that lies nearest the reference and is not below 0. Refusals in order: 18 for ten bits above 1,023 or a reference above
 // 99,000; 19 where two weeks are equally near.
 pub fn full_week(bits: u32, reference: u32) -> FullWeekAnswer
-    ensures { fullOutcome result ≡ fullWeek bits reference }
+    ensures { full_outcome result ≡ full_week bits reference }
 {
     if bits >= TEN_BITS {
         return FullWeekAnswer::Refused(refusals::OUT_OF_LIMIT);

@@ -1,8 +1,8 @@
 // Eight time scales, and the sixteen conversions between them that read no table. Each scale is a type of its own around a Julian date, so that a date
 // counted in one can't be given where another is due.
 ghost use Rattle.std.specs.Prelude.{◌≡◌};
-ghost use Rattle.julian.specs.JulianDate.{julianOutcome};
-ghost use Rattle.scales.specs.Scales.{taiOutcome, ut1Outcome, ttOutcome, gpsOutcome, tcgOutcome, tcbOutcome, tdbOutcome};
+ghost use Rattle.julian.specs.JulianDate.{julian_outcome};
+ghost use Rattle.scales.specs.Scales.{tai_outcome, ut1_outcome, tt_outcome, gps_outcome, tcg_outcome, tcb_outcome, tdb_outcome};
 
 use julian::{JulianAnswer, JulianDate};
 
@@ -209,7 +209,7 @@ pub enum TdbAnswer {
 
 // An answer that is counted in the scale: the date and the number stay. UTC has none, since no conversion of this crate answers in it.
 pub(crate) fn tai_answer(a: JulianAnswer) -> TaiAnswer
-    ensures { taiOutcome result ≡ julianOutcome a }
+    ensures { tai_outcome result ≡ julian_outcome a }
 {
     match a {
         JulianAnswer::Date(jd) => TaiAnswer::Date(TAI(jd)),
@@ -218,7 +218,7 @@ pub(crate) fn tai_answer(a: JulianAnswer) -> TaiAnswer
 }
 
 pub(crate) fn ut1_answer(a: JulianAnswer) -> Ut1Answer
-    ensures { ut1Outcome result ≡ julianOutcome a }
+    ensures { ut1_outcome result ≡ julian_outcome a }
 {
     match a {
         JulianAnswer::Date(jd) => Ut1Answer::Date(UT1(jd)),
@@ -227,7 +227,7 @@ pub(crate) fn ut1_answer(a: JulianAnswer) -> Ut1Answer
 }
 
 pub(crate) fn tt_answer(a: JulianAnswer) -> TtAnswer
-    ensures { ttOutcome result ≡ julianOutcome a }
+    ensures { tt_outcome result ≡ julian_outcome a }
 {
     match a {
         JulianAnswer::Date(jd) => TtAnswer::Date(TT(jd)),
@@ -236,7 +236,7 @@ pub(crate) fn tt_answer(a: JulianAnswer) -> TtAnswer
 }
 
 pub(crate) fn gps_answer(a: JulianAnswer) -> GpsAnswer
-    ensures { gpsOutcome result ≡ julianOutcome a }
+    ensures { gps_outcome result ≡ julian_outcome a }
 {
     match a {
         JulianAnswer::Date(jd) => GpsAnswer::Date(GPS(jd)),
@@ -245,7 +245,7 @@ pub(crate) fn gps_answer(a: JulianAnswer) -> GpsAnswer
 }
 
 pub(crate) fn tcg_answer(a: JulianAnswer) -> TcgAnswer
-    ensures { tcgOutcome result ≡ julianOutcome a }
+    ensures { tcg_outcome result ≡ julian_outcome a }
 {
     match a {
         JulianAnswer::Date(jd) => TcgAnswer::Date(TCG(jd)),
@@ -254,7 +254,7 @@ pub(crate) fn tcg_answer(a: JulianAnswer) -> TcgAnswer
 }
 
 pub(crate) fn tcb_answer(a: JulianAnswer) -> TcbAnswer
-    ensures { tcbOutcome result ≡ julianOutcome a }
+    ensures { tcb_outcome result ≡ julian_outcome a }
 {
     match a {
         JulianAnswer::Date(jd) => TcbAnswer::Date(TCB(jd)),
@@ -263,7 +263,7 @@ pub(crate) fn tcb_answer(a: JulianAnswer) -> TcbAnswer
 }
 
 pub(crate) fn tdb_answer(a: JulianAnswer) -> TdbAnswer
-    ensures { tdbOutcome result ≡ julianOutcome a }
+    ensures { tdb_outcome result ≡ julian_outcome a }
 {
     match a {
         JulianAnswer::Date(jd) => TdbAnswer::Date(TDB(jd)),

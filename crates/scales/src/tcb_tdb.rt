@@ -1,8 +1,8 @@
 // TDB = TCB - L_B (TCB - T0) + TDB_0, T0 being 1977 January 1, 32.184 s after midnight.
 ghost use Rattle.std.specs.Prelude.{◌≡◌};
-ghost use Rattle.julian.specs.shifts.SmallerPart.{mapSmallerPart};
-ghost use Rattle.scales.specs.Scales.{tcbOutcome, tdbOutcome};
-ghost use Rattle.scales.specs.Formulas.{tcbToTdb, tdbToTcb};
+ghost use Rattle.julian.specs.shifts.SmallerPart.{map_smaller_part};
+ghost use Rattle.scales.specs.Scales.{tcb_outcome, tdb_outcome};
+ghost use Rattle.scales.specs.Formulas.{tcb_to_tdb, tdb_to_tcb};
 ghost use Rattle.scales.specs.Conversions.{answer_of, tcb-tdb, tdb-tcb};
 
 use super::{TCB, TDB, TcbAnswer, TdbAnswer};
@@ -21,34 +21,34 @@ const T77TF: f64 = TT_TAI_OFFSET / SECONDS_PER_DAY_F64;
 const TDB0: f64 = TDB_OFFSET_1977 / SECONDS_PER_DAY_F64;
 
 pub fn tcb_to_tdb_part(larger: f64, smaller: f64) -> f64
-    ensures { result ≡ tcbToTdb larger smaller }
+    ensures { result ≡ tcb_to_tdb larger smaller }
 {
     smaller + TDB0 - ((larger - T77TD) + (smaller - T77TF)) * TCB_RATE_LB
 }
 
 pub fn tdb_to_tcb_part(larger: f64, smaller: f64) -> f64
-    ensures { result ≡ tdbToTcb larger smaller }
+    ensures { result ≡ tdb_to_tcb larger smaller }
 {
     let f = smaller - TDB0;
     f - ((T77TD - larger) - (f - T77TF)) * TCB_RATE_RATIO
 }
 
 fn as_tdb(jd: JulianDate) -> JulianDate
-    ensures { result ≡ mapSmallerPart tcbToTdb jd }
+    ensures { result ≡ map_smaller_part tcb_to_tdb jd }
 {
     let p = split(jd);
     put_back(jd, tcb_to_tdb_part(p.larger, p.smaller))
 }
 
 fn as_tcb(jd: JulianDate) -> JulianDate
-    ensures { result ≡ mapSmallerPart tdbToTcb jd }
+    ensures { result ≡ map_smaller_part tdb_to_tcb jd }
 {
     let p = split(jd);
     put_back(jd, tdb_to_tcb_part(p.larger, p.smaller))
 }
 
 pub fn tcb_to_tdb(tcb: TCB) -> TdbAnswer
-    ensures { tdbOutcome result ≡ answer_of tcb-tdb tcb.0 }
+    ensures { tdb_outcome result ≡ answer_of tcb-tdb tcb.0 }
 {
     match julian::finite_jd(tcb.0) {
         JulianAnswer::Date(jd) => TdbAnswer::Date(TDB(as_tdb(jd))),
@@ -57,7 +57,7 @@ pub fn tcb_to_tdb(tcb: TCB) -> TdbAnswer
 }
 
 pub fn tdb_to_tcb(tdb: TDB) -> TcbAnswer
-    ensures { tcbOutcome result ≡ answer_of tdb-tcb tdb.0 }
+    ensures { tcb_outcome result ≡ answer_of tdb-tcb tdb.0 }
 {
     match julian::finite_jd(tdb.0) {
         JulianAnswer::Date(jd) => TcbAnswer::Date(TCB(as_tcb(jd))),

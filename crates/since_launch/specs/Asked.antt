@@ -4,7 +4,7 @@ use Rattle.refusals.specs.Outcome.{Outcome}
 use Rattle.since_launch.specs.declared.Place.{Place}
 use Rattle.since_launch.specs.declared.PlaceAnswer.{PlaceAnswer}
 use Rattle.since_launch.specs.declared.PlaceAnswer.TheVariants.{At, Refused}
-use Rattle.since_launch.specs.Run.{millisNumberByte, withMillis, withAll, withMillisNumbers, millisRefused}
+use Rattle.since_launch.specs.Run.{millis_number_byte, with_millis, with_all, with_millis_numbers, millis_refused}
 
 -- a place that a date can have: day 1000000000 is the last, and no fraction has more units than a day
 pub record PlaceWithin (p : Place) : Type 0 where
@@ -23,11 +23,11 @@ pub record RoomForRun (n : ℕ) (js out numbers : List ℕ) : Type 0 where
 
 -- the milliseconds o of stamp i are put: r is its number
 pub record MillisPut (o : Outcome ℕ) (i : ℕ) (out : List ℕ) (r : ℕ) (out' : List ℕ) : Type 0 where
-  pub number : r ≡ millisNumberByte o
-  pub bytes : out' ≡ withMillis o i out
+  pub number : r ≡ millis_number_byte o
+  pub bytes : out' ≡ with_millis o i out
 
 -- the milliseconds f 0, f 1, .. of n stamps are put, r of them refused
 pub record MillisRunPut (f : ℕ → Outcome ℕ) (n : ℕ) (out numbers : List ℕ) (r : ℕ) (out' numbers' : List ℕ) : Type 0 where
-  pub count : r ≡ millisRefused f n
-  pub first : out' ≡ withAll f n out
-  pub second : numbers' ≡ withMillisNumbers f n numbers
+  pub count : r ≡ millis_refused f n
+  pub first : out' ≡ with_all f n out
+  pub second : numbers' ≡ with_millis_numbers f n numbers

@@ -3,50 +3,50 @@
 -- document 01's, where a date has no day. A day of a uniform scale has 86,400,000 ms, and a unit of 2 ^ -52 day 84375 / 2 ^ 42 ms. Assumes nothing.
 use Rattle.std.specs.Prelude.{ℕ, ◌+◌, ◌-◌, ◌*◌, ◌/◌, ◌^◌, cond, ◌&&◌, leb, ltb, ℤ, pos, ◌+ℤ◌}
 use Rattle.refusals.specs.Outcome.{Outcome, answer, refusal, onward}
-use Rattle.time_of_day.specs.TimeShown.{fromZero}
-use Rattle.time_of_day.specs.HalfEven.{gridUnits}
+use Rattle.time_of_day.specs.TimeShown.{from_zero}
+use Rattle.time_of_day.specs.HalfEven.{grid_units}
 use Rattle.julian.specs.declared.JulianDate.{JulianDate}
 use Rattle.julian.specs.declared.day_number.DayNumber.{DayNumber}
-use Rattle.julian.specs.day_number.Answer.{dayNumberAndFraction}
-use Rattle.julian.specs.Finite.{finiteParts, finiteJd}
+use Rattle.julian.specs.day_number.Answer.{day_number_and_fraction}
+use Rattle.julian.specs.Finite.{finite_parts, finite_jd}
 use Rattle.since_launch.specs.declared.Place.{Place}
 use Rattle.since_launch.specs.declared.PlaceAnswer.{PlaceAnswer}
 use Rattle.since_launch.specs.declared.PlaceAnswer.TheVariants as P
 use Rattle.since_launch.specs.declared.MillisAnswer.{MillisAnswer}
 use Rattle.since_launch.specs.declared.MillisAnswer.TheVariants as M
 
-unfoldable pub placeOutcome : PlaceAnswer → Outcome Place
-placeOutcome (P.At p) = answer p
-placeOutcome (P.Refused number) = refusal number
+unfoldable pub place_outcome : PlaceAnswer → Outcome Place
+place_outcome (P.At p) = answer p
+place_outcome (P.Refused number) = refusal number
 
-unfoldable pub millisOutcome : MillisAnswer → Outcome ℕ
-millisOutcome (M.Millis m) = answer m
-millisOutcome (M.Refused number) = refusal number
+unfoldable pub millis_outcome : MillisAnswer → Outcome ℕ
+millis_outcome (M.Millis m) = answer m
+millis_outcome (M.Refused number) = refusal number
 
 -- ---- a date's place
 
 -- the days since day -68570, the first that an answered date can lie on (`day-range` of julian::day_number), and the units of the fraction, cut down where it lies
 -- between two: on the grid they are all of it
 unfoldable pub place_of : DayNumber → Place
-place_of n = record { days = fromZero (n.day +ℤ pos 68570); units = gridUnits n.fraction }
+place_of n = record { days = from_zero (n.day +ℤ pos 68570); units = grid_units n.fraction }
 
 -- 6 where the date has no day
 unfoldable pub place_in : JulianDate → Outcome Place
-place_in d = onward (dayNumberAndFraction d.jd1 d.jd2) (λ n. answer (place_of n))
+place_in d = onward (day_number_and_fraction d.jd1 d.jd2) (λ n. answer (place_of n))
 
 -- 9 where a part is not finite, before it
-unfoldable pub placeAt : JulianDate → Outcome Place
-placeAt d = onward (finiteJd d) place_in
+unfoldable pub place_at : JulianDate → Outcome Place
+place_at d = onward (finite_jd d) place_in
 
 -- in units of 2 ^ -52 day
-abbrev pub unitsOf : Place → ℕ
-unitsOf p = p.days * 4503599627370496 + p.units
+abbrev pub units_of : Place → ℕ
+units_of p = p.days * 4503599627370496 + p.units
 
 -- ---- the milliseconds between two places
 
 -- so many units in milliseconds, to the nearest, a half going up
-unfoldable pub nearestCount : ℕ → ℕ
-nearestCount units = (84375 * units + 2199023255552) / 4398046511104
+unfoldable pub nearest_count : ℕ → ℕ
+nearest_count units = (84375 * units + 2199023255552) / 4398046511104
 
 -- 18 from 2 ^ 40 on
 unfoldable pub in_range : ℕ → Outcome ℕ
@@ -57,12 +57,12 @@ unfoldable pub count_of : ℕ → ℕ → Outcome ℕ
 count_of p q = cond (leb (84375 * p) (84375 * q + 2199023255552)) (in_range ((84375 * q + 2199023255552 - 84375 * p) / 4398046511104)) (refusal 18)
 
 -- from a place to a date
-unfoldable pub sinceLaunch : Place → JulianDate → Outcome ℕ
-sinceLaunch p d = onward (placeAt d) (λ q. count_of (unitsOf p) (unitsOf q))
+unfoldable pub since_launch : Place → JulianDate → Outcome ℕ
+since_launch p d = onward (place_at d) (λ q. count_of (units_of p) (units_of q))
 
 -- from one date to another: 9 for either, then 6 for either, then 18
-unfoldable pub millisFromTo : JulianDate → JulianDate → Outcome ℕ
-millisFromTo from to =
-    cond (finiteParts from && finiteParts to)
-    (onward (place_in from) (λ p. onward (place_in to) (λ q. count_of (unitsOf p) (unitsOf q))))
+unfoldable pub millis_from_to : JulianDate → JulianDate → Outcome ℕ
+millis_from_to from to =
+    cond (finite_parts from && finite_parts to)
+    (onward (place_in from) (λ p. onward (place_in to) (λ q. count_of (units_of p) (units_of q))))
     (refusal 9)

@@ -1,11 +1,11 @@
 // Whole milliseconds from the launch to a stamp of the same uniform scale, and to each stamp of a run.
 ghost use Rattle.std.specs.Prelude.{◌≡◌, ◌+◌, ◌*◌, ◌≤◌, cond, eqb, length};
-ghost use Rattle.time_of_day.specs.HalfEven.{gridUnits};
+ghost use Rattle.time_of_day.specs.HalfEven.{grid_units};
 ghost use Rattle.julian.specs.JulianDate.{julian};
 ghost use Rattle.julian.specs.day_number.Ranges.{InDays};
-ghost use Rattle.since_launch.specs.Millis.{placeOutcome, millisOutcome, place_of, place_in, placeAt, unitsOf, nearestCount, count_of};
-ghost use Rattle.since_launch.specs.Millis.{sinceLaunch, millisFromTo};
-ghost use Rattle.since_launch.specs.Run.{runMillisOutcome, millisCall, runLengthsRefusal, stampMillis, millisBy, millisOfRun};
+ghost use Rattle.since_launch.specs.Millis.{place_outcome, millis_outcome, place_of, place_in, place_at, units_of, nearest_count, count_of};
+ghost use Rattle.since_launch.specs.Millis.{since_launch, millis_from_to};
+ghost use Rattle.since_launch.specs.Run.{run_millis_outcome, millis_call, run_lengths_refusal, stamp_millis, millis_by, millis_of_run};
 ghost use Rattle.since_launch.specs.Asked.{PlaceWithin, AllPlaced, RoomForRun, MillisPut, MillisRunPut};
 
 use julian::{JulianAnswer, JulianDate};
@@ -68,7 +68,7 @@ const TOO_MANY: u64 = 1099511627776;
 
 // The units in a fraction, cut down where the fraction lies between two.
 fn grid_units(fraction: f64) -> u64
-    ensures { result ≡ gridUnits fraction }
+    ensures { result ≡ grid_units fraction }
 {
     time_of_day::from_zero(floats::saturating_i64(fraction * TWO_52))
 }
@@ -85,7 +85,7 @@ fn place_of(found: julian::day_number::DayNumber) -> Place
 
 // 6 for a rounded sum out of the range.
 fn place_in(jd1: f64, jd2: f64) -> PlaceAnswer
-    ensures { (placeOutcome result ≡ place_in (julian jd1 jd2)) × AllPlaced result }
+    ensures { (place_outcome result ≡ place_in (julian jd1 jd2)) × AllPlaced result }
 {
     match julian::day_number::day_number_and_fraction(jd1, jd2) {
         julian::day_number::DayAnswer::Refused(number) => PlaceAnswer::Refused(number),
@@ -95,7 +95,7 @@ fn place_in(jd1: f64, jd2: f64) -> PlaceAnswer
 
 // 9 for a part that is not finite, before it.
 fn place_at(date: JulianDate) -> PlaceAnswer
-    ensures { (placeOutcome result ≡ placeAt date) × AllPlaced result }
+    ensures { (place_outcome result ≡ place_at date) × AllPlaced result }
 {
     match julian::finite_jd(date) {
         JulianAnswer::Refused(number) => PlaceAnswer::Refused(number),
@@ -106,7 +106,7 @@ fn place_at(date: JulianDate) -> PlaceAnswer
 // The nearest millisecond to so many units, up to two days, a half going up: the product has up to 70 bits, and is made in two parts.
 fn nearest_count(units: u64) -> u64
     requires { units ≤ 9007199254740992 }
-    ensures { (result ≡ nearestCount units) × (result ≤ 172800000) }
+    ensures { (result ≡ nearest_count units) × (result ≤ 172800000) }
 {
     let low = units % LOW_BITS * UNIT_NUMERATOR + HALF;
     let high = units / LOW_BITS * UNIT_NUMERATOR + low / LOW_BITS;
@@ -116,7 +116,7 @@ fn nearest_count(units: u64) -> u64
 // The milliseconds from one place to another. Two days are added, so that no number is below 0, and taken off again.
 fn count_of(from: Place, to: Place) -> MillisAnswer
     requires { PlaceWithin from × PlaceWithin to }
-    ensures { millisOutcome result ≡ count_of (unitsOf from) (unitsOf to) }
+    ensures { millis_outcome result ≡ count_of (units_of from) (units_of to) }
 {
     if to.days + 1 < from.days {
         return MillisAnswer::Refused(refusals::OUT_OF_LIMIT);
@@ -139,7 +139,7 @@ fn count_of(from: Place, to: Place) -> MillisAnswer
 // The milliseconds from a launch whose place is known.
 fn since(launch: Place, to: JulianDate) -> MillisAnswer
     requires { PlaceWithin launch }
-    ensures { millisOutcome result ≡ sinceLaunch launch to }
+    ensures { millis_outcome result ≡ since_launch launch to }
 {
     match place_at(to) {
         PlaceAnswer::Refused(number) => MillisAnswer::Refused(number),
@@ -150,7 +150,7 @@ fn since(launch: Place, to: JulianDate) -> MillisAnswer
 // The whole milliseconds from one date to another of the same uniform scale, to the nearest, a half going up. Refusals in order: 9 a part of either that is not
 // finite, 6 a rounded sum of either out of the range, 18 a result that is not 0 to 2^40 - 1.
 pub fn milliseconds(from: JulianDate, to: JulianDate) -> MillisAnswer
-    ensures { millisOutcome result ≡ millisFromTo from to }
+    ensures { millis_outcome result ≡ millis_from_to from to }
 {
     match julian::finite_jd(to) {
         JulianAnswer::Refused(number) => MillisAnswer::Refused(number),
@@ -164,7 +164,7 @@ pub fn milliseconds(from: JulianDate, to: JulianDate) -> MillisAnswer
 // Writes the milliseconds of the stamp at place i, and says its number.
 fn put_stamp(launch: Place, jd1s: &[u8], jd2s: &[u8], i: usize, out: &mut [u8]) -> u8
     requires { PlaceWithin launch × (8 * i + 8 ≤ length out.old) }
-    ensures { MillisPut (stampMillis launch jd1s.now jd2s.now i) i out.old result out.new }
+    ensures { MillisPut (stamp_millis launch jd1s.now jd2s.now i) i out.old result out.new }
 {
     match since(launch, julian::stamp_lists::stamp_of(jd1s, jd2s, i)) {
         MillisAnswer::Millis(millis) => {
@@ -191,7 +191,7 @@ fn put_all(
     numbers: &mut [u8],
 ) -> usize
     requires { PlaceWithin launch × RoomForRun n jd1s.now out.old numbers.old }
-    ensures { MillisRunPut (stampMillis launch jd1s.now jd2s.now) n out.old numbers.old result out.new
+    ensures { MillisRunPut (stamp_millis launch jd1s.now jd2s.now) n out.old numbers.old result out.new
         numbers.new }
 {
     let mut refused = 0;
@@ -207,7 +207,7 @@ fn put_all(
 
 // The refusal of the lengths, or 0.
 fn lengths_refusal(size1: usize, size2: usize, room1: usize, room2: usize) -> u32
-    ensures { result ≡ runLengthsRefusal size1 size2 room1 room2 }
+    ensures { result ≡ run_lengths_refusal size1 size2 room1 room2 }
 {
     if size1 % 8 != 0 {
         return refusals::LENGTH_WRONG;
@@ -236,7 +236,7 @@ fn run_from(
     numbers: &mut [u8],
 ) -> RunMillis
     requires { PlaceWithin launch }
-    ensures { millisCall (runMillisOutcome result) out.new numbers.new ≡ millisBy launch jd1s.now jd2s.now
+    ensures { millis_call (run_millis_outcome result) out.new numbers.new ≡ millis_by launch jd1s.now jd2s.now
         out.old numbers.old }
 {
     let number = lengths_refusal(jd1s.len(), jd2s.len(), out.len(), numbers.len());
@@ -258,7 +258,7 @@ pub fn milliseconds_of_run(
     out: &mut [u8],
     numbers: &mut [u8],
 ) -> RunMillis
-    ensures { millisCall (runMillisOutcome result) out.new numbers.new ≡ millisOfRun from jd1s.now jd2s.now
+    ensures { millis_call (run_millis_outcome result) out.new numbers.new ≡ millis_of_run from jd1s.now jd2s.now
         out.old numbers.old }
 {
     match place_at(from) {

@@ -10,7 +10,7 @@ use borrow.Author.Tests.{lt-ltb, le-ltb, le-leb, lt-leb, eq-eqb, ne_eqb, leb-tru
 use Rattle.refusals.specs.Outcome.{Outcome, answer, refusal}
 use Rattle.numerals.specs.little_endian.LittleEndian.{u32_at}
 use Rattle.stamps.specs.Block.{block_of}
-use Rattle.stamps.specs.Parts.{linesIn}
+use Rattle.stamps.specs.Parts.{lines_in}
 
 pub short : (s : List ℕ) → length s < 8 → refusal 14 ≡ block_of s
 unfolding block_of
@@ -63,11 +63,11 @@ pub block-number : (s : List ℕ) (k : ℕ) → refusal k ≡ block_of s → (1 
 unfolding block_of
 block-number s k e = number_by (u32_at s 0) k (ltb (length s) 8) (eqb (u32_at s 0) (u32_at s 4)) (leb (u32_at s 0) 4000) (eqb (length s) (8 + 16 * u32_at s 0)) e
 
-few-by : (s : List ℕ) (o : Outcome ℕ) → o ≡ block_of s → linesIn o ≤ 4001
-unfolding linesIn
+few-by : (s : List ℕ) (o : Outcome ℕ) → o ≡ block_of s → lines_in o ≤ 4001
+unfolding lines_in
 few-by s (answer n) e = let a = block-accepted s n e in omega (arith, a.0)
 few-by s (refusal k) e = omega arith
 
 -- a listing has at most 4,001 lines
-pub few-lines : (s : List ℕ) → linesIn (block_of s) ≤ 4001
+pub few-lines : (s : List ℕ) → lines_in (block_of s) ≤ 4001
 few-lines s = few-by s (block_of s) refl

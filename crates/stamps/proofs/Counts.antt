@@ -9,42 +9,42 @@ use mir.Syntax.{w64}
 use mir.Val.{SFits, to_z, of_z}
 use mir.Facts.{to_z-of_z}
 use Rattle.refusals.specs.Outcome.{answer, refusal, onward}
-use Rattle.calendar.specs.Gregorian.{gregorianDate}
-use Rattle.calendar.proofs.Years.{valid_of, gregorian-valid}
+use Rattle.calendar.specs.Gregorian.{gregorian_date}
+use Rattle.calendar.proofs.Years.{valid_of, gregorian_valid}
 use Rattle.julian.specs.declared.day_number.DayNumber.{DayNumber}
 use Rattle.julian.specs.declared.day_number.DayAnswer.{DayAnswer}
 use Rattle.julian.specs.declared.day_number.DayAnswer.TheVariants.{Day, Refused}
-use Rattle.julian.specs.day_number.Answer.{dayOutcome, dayNumberAndFraction}
+use Rattle.julian.specs.day_number.Answer.{day_outcome, day_number_and_fraction}
 use Rattle.julian.specs.declared.JulianDate.{JulianDate}
-use Rattle.julian.specs.Calendar.{fields, julianToCalendar}
+use Rattle.julian.specs.Calendar.{fields, julian_to_calendar}
 use Rattle.leap_table.specs.rows.Table.{Row}
-use Rattle.utc.specs.iso_texts.Expanded.{expandedForm, isoTextExpanded}
+use Rattle.utc.specs.iso_texts.Expanded.{expanded_form, iso_text_expanded}
 use Rattle.julian.proofs.Dates.{date-in-range}
 use Rattle.utc.proofs.iso_texts.TextCalls.{fields-refused-by, fields-given-by}
 use Rattle.utc.proofs.laws.DayTexts.{text-refused-by, has-text-by}
-use Rattle.stamps.specs.Listing.{oneIfRefused}
+use Rattle.stamps.specs.Listing.{one_if_refused}
 
-module _ (rows : List Row) (jd : JulianDate) (res : DayAnswer) (e : dayOutcome res ≡ dayNumberAndFraction jd.jd1 jd.jd2) where
-  pub day-refused : (k : ℕ) → res ≡ Refused k → 1 ≡ oneIfRefused (isoTextExpanded rows jd)
-  unfolding dayOutcome julianToCalendar onward oneIfRefused
+module _ (rows : List Row) (jd : JulianDate) (res : DayAnswer) (e : day_outcome res ≡ day_number_and_fraction jd.jd1 jd.jd2) where
+  pub day-refused : (k : ℕ) → res ≡ Refused k → 1 ≡ one_if_refused (iso_text_expanded rows jd)
+  unfolding day_outcome julian_to_calendar onward one_if_refused
   day-refused k is =
-      let d : dayNumberAndFraction jd.jd1 jd.jd2 ≡ refusal k = sym e ∙ ap dayOutcome is in
-      sym (ap oneIfRefused (fields-refused-by expandedForm rows jd k (rw d refl)))
+      let d : day_number_and_fraction jd.jd1 jd.jd2 ≡ refusal k = sym e ∙ ap day_outcome is in
+      sym (ap one_if_refused (fields-refused-by expanded_form rows jd k (rw d refl)))
 
-  pub day-given : (n : DayNumber) → res ≡ Day n → cond (lt_z n.day (negsuc 31737)) 1 0 ≡ oneIfRefused (isoTextExpanded rows jd)
-  unfolding dayOutcome julianToCalendar onward oneIfRefused
-  day-given n is = by (lt_z n.day (negsuc 31737)) (gregorian-valid n.day)
+  pub day-given : (n : DayNumber) → res ≡ Day n → cond (lt_z n.day (negsuc 31737)) 1 0 ≡ one_if_refused (iso_text_expanded rows jd)
+  unfolding day_outcome julian_to_calendar onward one_if_refused
+  day-given n is = by (lt_z n.day (negsuc 31737)) (gregorian_valid n.day)
     where
-      given : julianToCalendar jd.jd1 jd.jd2 ≡ answer (fields (gregorianDate n.day) n.fraction)
-      given = let d : dayNumberAndFraction jd.jd1 jd.jd2 ≡ answer n = sym e ∙ ap dayOutcome is in rw d refl
+      given : julian_to_calendar jd.jd1 jd.jd2 ≡ answer (fields (gregorian_date n.day) n.fraction)
+      given = let d : day_number_and_fraction jd.jd1 jd.jd2 ≡ answer n = sym e ∙ ap day_outcome is in rw d refl
 
-      by : (b : Bool) → valid_of (gregorianDate n.day) ≡ cond b (refusal 1) (answer tt) → cond b 1 0 ≡ oneIfRefused (isoTextExpanded rows jd)
-      by true v = sym (ap oneIfRefused
-          (fields-given-by expandedForm rows jd _ given ∙ text-refused-by rows (gregorianDate n.day) expandedForm n.fraction 1 v))
+      by : (b : Bool) → valid_of (gregorian_date n.day) ≡ cond b (refusal 1) (answer tt) → cond b 1 0 ≡ one_if_refused (iso_text_expanded rows jd)
+      by true v = sym (ap one_if_refused
+          (fields-given-by expanded_form rows jd _ given ∙ text-refused-by rows (gregorian_date n.day) expanded_form n.fraction 1 v))
       by false v =
           sym
-          (ap oneIfRefused (fields-given-by expandedForm rows jd _ given
-          ∙ has-text-by rows (gregorianDate n.day) v (date-in-range jd.jd1 jd.jd2 _ given).year-high expandedForm n.fraction))
+          (ap one_if_refused (fields-given-by expanded_form rows jd _ given
+          ∙ has-text-by rows (gregorian_date n.day) v (date-in-range jd.jd1 jd.jd2 _ given).year_high expanded_form n.fraction))
 
 -- a day as the machine reads it back from its bits
 pub day-test : (n : ℤ) (b : Bool) → SFits w64 n → lt_z (to_z w64 (of_z w64 n)) (negsuc 31737) ≡ b → ◌≡◌ {A = ℕ} (cond b 1 0) (cond (lt_z n (negsuc 31737)) 1 0)

@@ -10,12 +10,12 @@ use lib.Dec.{leb, eqb}
 use borrow.Author.Tests.{leb-true}
 use Rattle.refusals.specs.Outcome.{Outcome, answer, refusal}
 use Rattle.leap_table.specs.rows.Table.{Row}
-use Rattle.utc.specs.iso_texts.Expanded.{isoTextExpanded}
+use Rattle.utc.specs.iso_texts.Expanded.{iso_text_expanded}
 use Rattle.stamps.specs.declared.Reporting.{Reporting}
-use Rattle.stamps.specs.Block.{block_of, stampAt}
-use Rattle.stamps.specs.Listing.{lineRoom, blockValues, textAt, stampLine, refusedIn, header, blockRefused}
+use Rattle.stamps.specs.Block.{block_of, stamp_at}
+use Rattle.stamps.specs.Listing.{line_room, block_values, text_at, stamp_line, refused_in, header, block_refused}
 use Rattle.stamps.specs.Widths.{InWidth}
-use Rattle.stamps.specs.Parts.{line_of, linesIn, lines_from, heldLines, partLines, partText}
+use Rattle.stamps.specs.Parts.{line_of, lines_in, lines_from, held_lines, part_lines, part_text}
 use Rattle.stamps.proofs.Blocks.{few-lines}
 use Rattle.stamps.proofs.Places.{digits-most}
 use Rattle.stamps.proofs.Texts.{room-low, room-high, reported-most, brief, shown-most}
@@ -25,9 +25,9 @@ header-most : (n k : ℕ) → length (header n k) ≤ 33
 unfolding header
 header-most n k = simp length-append (omega (arith, digits-most 4 n, digits-most 4 k))
 
-refused-most : (how : Reporting) (s : List ℕ) (k : ℕ) → InWidth how s → length (blockRefused how s k) ≤ lineRoom how
-unfolding blockRefused
-refused-most how s k w = simp length-append (omega (arith, reported-most how k (blockValues how s) w))
+refused-most : (how : Reporting) (s : List ℕ) (k : ℕ) → InWidth how s → length (block_refused how s k) ≤ line_room how
+unfolding block_refused
+refused-most how s k w = simp length-append (omega (arith, reported-most how k (block_values how s) w))
 
 module _ (how : Reporting) (rows : List Row) where
   -- a lines from line i and the b after them are a + b lines
@@ -40,18 +40,18 @@ module _ (how : Reporting) (rows : List Row) where
       ∙ ap (λ (k : ℕ). lines_from how rows s i (a + b) ++ line_of how rows (block_of s) s k) (add_assoc i a b)
       ∙ ap (lines_from how rows s i) (sym (add-suc a b))
 
-  stamp-most : (s : List ℕ) (n i : ℕ) → length (stampLine how rows s n i) ≤ lineRoom how
-  unfolding stampLine textAt
+  stamp-most : (s : List ℕ) (n i : ℕ) → length (stamp_line how rows s n i) ≤ line_room how
+  unfolding stamp_line text_at
   stamp-most s n i = simp length-append
-      (omega (arith, digits-most 4 i, shown-most how (stampAt s n i) (isoTextExpanded rows (stampAt s n i)) (brief rows (stampAt s n i))))
+      (omega (arith, digits-most 4 i, shown-most how (stamp_at s n i) (iso_text_expanded rows (stamp_at s n i)) (brief rows (stamp_at s n i))))
 
-  pub line-most : (o : Outcome ℕ) (s : List ℕ) (line : ℕ) → InWidth how s → length (line_of how rows o s line) ≤ lineRoom how
+  pub line-most : (o : Outcome ℕ) (s : List ℕ) (line : ℕ) → InWidth how s → length (line_of how rows o s line) ≤ line_room how
   unfolding line_of
   line-most (refusal k) s line w = refused-most how s k w
   line-most (answer n) s line w = go (eqb line 0)
     where
-      go : (b : Bool) → length (cond b (header n (refusedIn rows s n n)) (stampLine how rows s n (line - 1))) ≤ lineRoom how
-      go true = omega (arith, header-most n (refusedIn rows s n n), room-low how)
+      go : (b : Bool) → length (cond b (header n (refused_in rows s n n)) (stamp_line how rows s n (line - 1))) ≤ line_room how
+      go true = omega (arith, header-most n (refused_in rows s n n), room-low how)
       go false = stamp-most s n (line - 1)
 
   lines-most : (s : List ℕ) (line k : ℕ) → InWidth how s → length (lines_from how rows s line k) ≤ 64 * k
@@ -60,10 +60,10 @@ module _ (how : Reporting) (rows : List Row) where
   lines-most s line (suc k) w = simp length-append (omega (arith, lines-most s line k w, line-most (block_of s) s (line + k) w, room-high how))
 
   -- 4,001 lines at most, of 64 bytes
-  pub part-most : (s : List ℕ) (line room : ℕ) → InWidth how s → length (partText how rows s line room) ≤ 256064
-  unfolding partText partLines
+  pub part-most : (s : List ℕ) (line room : ℕ) → InWidth how s → length (part_text how rows s line room) ≤ 256064
+  unfolding part_text part_lines
   part-most s line room w = omega
-      (arith, lines-most s line (partLines how rows s line room) w, held-few how rows s line room (linesIn (block_of s) - line), few-lines s)
+      (arith, lines-most s line (part_lines how rows s line room) w, held-few how rows s line room (lines_in (block_of s) - line), few-lines s)
 
   -- the lines that are held go into the room
   first : (s : List ℕ) (line k : ℕ)
@@ -75,19 +75,19 @@ module _ (how : Reporting) (rows : List Row) where
       ∙ length-append (lines_from how rows s line 1) (lines_from how rows s (line + 1) k)
       ∙ ap (λ (i : ℕ). length (line_of how rows (block_of s) s i) + length (lines_from how rows s (line + 1) k)) z
 
-  held_fits : (s : List ℕ) (line room left : ℕ) → InWidth how s → length (lines_from how rows s line (heldLines how rows s line room left)) ≤ room
-  unfolding heldLines lines_from
+  held_fits : (s : List ℕ) (line room left : ℕ) → InWidth how s → length (lines_from how rows s line (held_lines how rows s line room left)) ≤ room
+  unfolding held_lines lines_from
   held_fits s line room zero w = omega arith
-  held_fits s line room (suc left) w = by (leb (lineRoom how) room) refl (held_fits s (line + 1) (room - length (line_of how rows (block_of s) s line)) left w)
+  held_fits s line room (suc left) w = by (leb (line_room how) room) refl (held_fits s (line + 1) (room - length (line_of how rows (block_of s) s line)) left w)
     where
       rest : ℕ
-      rest = heldLines how rows s (line + 1) (room - length (line_of how rows (block_of s) s line)) left
+      rest = held_lines how rows s (line + 1) (room - length (line_of how rows (block_of s) s line)) left
 
-      by : (b : Bool) → leb (lineRoom how) room ≡ b → length (lines_from how rows s (line + 1) rest) ≤ room - length (line_of how rows (block_of s) s line)
+      by : (b : Bool) → leb (line_room how) room ≡ b → length (lines_from how rows s (line + 1) rest) ≤ room - length (line_of how rows (block_of s) s line)
           → length (lines_from how rows s line (cond b (1 + rest) 0)) ≤ room
-      by true e h = omega (arith, first s line rest, line-most (block_of s) s line w, leb-true (lineRoom how) room e)
+      by true e h = omega (arith, first s line rest, line-most (block_of s) s line w, leb-true (line_room how) room e)
       by false e h = omega arith
 
-  pub part-fits : (s : List ℕ) (line room : ℕ) → InWidth how s → length (partText how rows s line room) ≤ room
-  unfolding partText partLines
-  part-fits s line room w = held_fits s line room (linesIn (block_of s) - line) w
+  pub part-fits : (s : List ℕ) (line room : ℕ) → InWidth how s → length (part_text how rows s line room) ≤ room
+  unfolding part_text part_lines
+  part-fits s line room w = held_fits s line room (lines_in (block_of s) - line) w

@@ -9,32 +9,32 @@ use borrow.Author.Tests.{eq-eqb, ne_eqb}
 use Rattle.refusals.specs.Outcome.{Outcome, answer}
 use Rattle.julian.specs.declared.JulianDate.{JulianDate}
 use Rattle.leap_table.specs.rows.Table.{Row}
-use Rattle.utc.specs.iso_texts.Expanded.{isoTextExpanded}
+use Rattle.utc.specs.iso_texts.Expanded.{iso_text_expanded}
 use Rattle.stamps.specs.declared.Reporting.{Reporting}
 use Rattle.stamps.specs.declared.BlockAnswer.{BlockAnswer}
 use Rattle.stamps.specs.declared.BlockAnswer.TheVariants.{Stamps, Refused}
-use Rattle.stamps.specs.Block.{block_of, blockOutcome, stampAt}
+use Rattle.stamps.specs.Block.{block_of, block_outcome, stamp_at}
 use Rattle.numerals.specs.digits.Placed.{Placed}
-use Rattle.stamps.specs.Listing.{numeral, textAt, shown, stampLine, oneIfRefused, refusedIn, header, blockRefused}
-use Rattle.stamps.specs.Parts.{line_of, linesIn, lines_from}
+use Rattle.stamps.specs.Listing.{numeral, text_at, shown, stamp_line, one_if_refused, refused_in, header, block_refused}
+use Rattle.stamps.specs.Parts.{line_of, lines_in, lines_from}
 use Rattle.stamps.proofs.Blocks.{block-accepted, block-number}
 use Rattle.numerals.proofs.digits.Places.{then, placed-as}
 
 module _ {d d1 d2 d3 d4 : List ℕ} {at r1 r2 r3 r4 : ℕ} where
-  pub stamp-put : (how : Reporting) (rows : List Row) (s : List ℕ) (n i : ℕ) (jd : JulianDate) → jd ≡ stampAt s n i
-      → Placed d at (numeral i) r1 d1 → Placed d1 r1 (32 ∷ []) r2 d2 → Placed d2 r2 (shown how jd (isoTextExpanded rows jd)) r3 d3
+  pub stamp-put : (how : Reporting) (rows : List Row) (s : List ℕ) (n i : ℕ) (jd : JulianDate) → jd ≡ stamp_at s n i
+      → Placed d at (numeral i) r1 d1 → Placed d1 r1 (32 ∷ []) r2 d2 → Placed d2 r2 (shown how jd (iso_text_expanded rows jd)) r3 d3
       → Placed d3 r3 (10 ∷ []) r4 d4 → r4 ≤ length d
-      → Placed d at (stampLine how rows s n i) r4 d4
-  unfolding stampLine textAt
+      → Placed d at (stamp_line how rows s n i) r4 d4
+  unfolding stamp_line text_at
   stamp-put how rows s n i jd e p1 p2 p3 p4 le =
-      let n3 : r3 ≡ r2 + length (shown how jd (isoTextExpanded rows jd)) = p3.ends in
+      let n3 : r3 ≡ r2 + length (shown how jd (iso_text_expanded rows jd)) = p3.ends in
       let n4 : r4 ≡ r3 + 1 = p4.ends in
-      then (then (then p1 p2 (omega arith)) (placed-as (ap (λ (j : JulianDate). shown how j (isoTextExpanded rows j)) e) p3) (omega arith)) p4 le
+      then (then (then p1 p2 (omega arith)) (placed-as (ap (λ (j : JulianDate). shown how j (iso_text_expanded rows j)) e) p3) (omega arith)) p4 le
 
 -- one stamp more is counted
-pub refused-more : (rows : List Row) (s : List ℕ) (n k m : ℕ) (jd : JulianDate) (one : ℕ) → m ≡ refusedIn rows s n k → jd ≡ stampAt s n k
-    → one ≡ oneIfRefused (isoTextExpanded rows jd) → m + one ≡ refusedIn rows s n (k + 1)
-unfolding refusedIn textAt
+pub refused-more : (rows : List Row) (s : List ℕ) (n k m : ℕ) (jd : JulianDate) (one : ℕ) → m ≡ refused_in rows s n k → jd ≡ stamp_at s n k
+    → one ≡ one_if_refused (iso_text_expanded rows jd) → m + one ≡ refused_in rows s n (k + 1)
+unfolding refused_in text_at
 refused-more rows s n k m jd one em ej eo = rw add-one (cc)
 
 -- one line more is written
@@ -45,32 +45,32 @@ unfolding lines_from
 lines_more how rows s line k p q le = rw add-one (then p q le)
 
 -- ---- which line it is
-module _ (s : List ℕ) (line : ℕ) (r : BlockAnswer) (e : blockOutcome r ≡ block_of s) where
+module _ (s : List ℕ) (line : ℕ) (r : BlockAnswer) (e : block_outcome r ≡ block_of s) where
   module _ (k : ℕ) (is : r ≡ Refused k) where
     pub refused-number : (1 ≤ k) × (k ≤ 28)
-    unfolding blockOutcome
-    refused-number = block-number s k (sym (ap blockOutcome is) ∙ e)
+    unfolding block_outcome
+    refused-number = block-number s k (sym (ap block_outcome is) ∙ e)
 
-    pub refused-line : (how : Reporting) (rows : List Row) → blockRefused how s k ≡ line_of how rows (block_of s) s line
-    unfolding line_of blockOutcome
-    refused-line how rows = ap (λ (o : Outcome ℕ). line_of how rows o s line) (sym (ap blockOutcome is) ∙ e)
+    pub refused-line : (how : Reporting) (rows : List Row) → block_refused how s k ≡ line_of how rows (block_of s) s line
+    unfolding line_of block_outcome
+    refused-line how rows = ap (λ (o : Outcome ℕ). line_of how rows o s line) (sym (ap block_outcome is) ∙ e)
 
   module _ (n : ℕ) (is : r ≡ Stamps n) where
     block-is : answer n ≡ block_of s
-    unfolding blockOutcome
-    block-is = sym (ap blockOutcome is) ∙ e
+    unfolding block_outcome
+    block-is = sym (ap block_outcome is) ∙ e
 
     pub stamps-few : n ≤ 4000
     stamps-few = (block-accepted s n block-is).0
 
-    pub within : line < linesIn (block_of s) → line < n + 1
-    unfolding linesIn
+    pub within : line < lines_in (block_of s) → line < n + 1
+    unfolding lines_in
     within h = rw (← block-is) at h
 
-    pub header-line : (how : Reporting) (rows : List Row) (m : ℕ) → line ≡ 0 → m ≡ refusedIn rows s n n → header n m ≡ line_of how rows (block_of s) s line
+    pub header-line : (how : Reporting) (rows : List Row) (m : ℕ) → line ≡ 0 → m ≡ refused_in rows s n n → header n m ≡ line_of how rows (block_of s) s line
     unfolding line_of
     header-line how rows m z em = rw (← block-is, eq-eqb line 0 z, em) refl
 
-    pub stamp-line : (how : Reporting) (rows : List Row) → (line ≡ 0 → ⊥) → stampLine how rows s n (line - 1) ≡ line_of how rows (block_of s) s line
+    pub stamp-line : (how : Reporting) (rows : List Row) → (line ≡ 0 → ⊥) → stamp_line how rows s n (line - 1) ≡ line_of how rows (block_of s) s line
     unfolding line_of
     stamp-line how rows z = rw (← block-is, ne_eqb line 0 z) refl

@@ -12,13 +12,13 @@ use mir.Syntax.{w32}
 use mir.Val.{SFits, to_z, of_z}
 use borrow.Author.Tests.{ltb-false}
 use Rattle.refusals.specs.Outcome.{Outcome, answer}
-use Rattle.numerals.specs.little_endian.LittleEndian.{fourAt, u32_at}
+use Rattle.numerals.specs.little_endian.LittleEndian.{four_at, u32_at}
 use Rattle.calendar.proofs.Years.{DateInRange}
 use Rattle.julian.specs.declared.JulianDate.{JulianDate}
 use Rattle.julian.specs.declared.CalendarFields.{CalendarFields}
 use Rattle.julian.specs.declared.CalendarAnswer.{CalendarAnswer}
 use Rattle.julian.specs.declared.CalendarAnswer.TheVariants.{Fields, Refused}
-use Rattle.julian.specs.Calendar.{calendarOutcome, julianToCalendar}
+use Rattle.julian.specs.Calendar.{calendar_outcome, julian_to_calendar}
 use Rattle.utc.specs.declared.text.TextAnswer.{TextAnswer}
 use Rattle.utc.specs.iso_texts.TextCall.{TextCall}
 use Rattle.julian.proofs.Dates.{date-in-range, read-fields}
@@ -31,45 +31,45 @@ use Rattle.reasons.specs.Widths.{OfWidth}
 use Rattle.reasons.proofs.SentenceLengths.{sentence-is}
 use Rattle.stamps.specs.declared.Reporting.{Reporting}
 use Rattle.stamps.specs.declared.Reporting.TheVariants.{Numbers, Sentences}
-use Rattle.stamps.specs.Listing.{numeral, refusedWord, lineRoom, reported, came, valuesBy, refusedValues, blockValues}
+use Rattle.stamps.specs.Listing.{numeral, refused_word, line_room, reported, came, values_by, refused_values, block_values}
 use Rattle.stamps.specs.Widths.{Wide, InWidth}
 
 -- ---- the words, by the way of reporting
 module _ (how : Reporting) (e : how ≡ Numbers) where
-  pub numbers-room : lineRoom how ≡ 33
-  unfolding lineRoom
-  numbers-room = ap lineRoom e
+  pub numbers-room : line_room how ≡ 33
+  unfolding line_room
+  numbers-room = ap line_room e
 
-  pub numbers-reported : (k : ℕ) (v : Values) → refusedWord ++ numeral k ≡ reported how k v
+  pub numbers-reported : (k : ℕ) (v : Values) → refused_word ++ numeral k ≡ reported how k v
   unfolding reported
   numbers-reported k v = sym (ap (λ (h : Reporting). reported h k v) e)
 
 module _ (how : Reporting) (n : ℕ) (e : how ≡ Sentences n) where
-  pub sentences-room : lineRoom how ≡ 64
-  unfolding lineRoom
-  sentences-room = ap lineRoom e
+  pub sentences_room : line_room how ≡ 64
+  unfolding line_room
+  sentences_room = ap line_room e
 
-  pub sentences-reported : (k : ℕ) (v w : Values) → v ≡ w → render (record { number = k; named = offending k v }) ≡ reported how k w
+  pub sentences_reported : (k : ℕ) (v w : Values) → v ≡ w → render (record { number = k; named = offending k v }) ≡ reported how k w
   unfolding reported
-  sentences-reported k v w q = ap (λ (x : Values). reported (Sentences n) k x) q ∙ sym (ap (λ (h : Reporting). reported h k w) e)
+  sentences_reported k v w q = ap (λ (x : Values). reported (Sentences n) k x) q ∙ sym (ap (λ (h : Reporting). reported h k w) e)
 
-  pub block-values : (s : List ℕ) (size second : ℕ) → size ≡ u32_at s 0 → second ≡ u32_at s 4 → Block n size second ≡ blockValues how s
+  pub block-values : (s : List ℕ) (size second : ℕ) → size ≡ u32_at s 0 → second ≡ u32_at s 4 → Block n size second ≡ block_values how s
   unfolding came
   block-values s size second p q = (λ i. Block n (p i) (q i)) ∙ ap (λ (h : Reporting). Block (came h s) (u32_at s 0) (u32_at s 4)) (sym e)
 
 -- a number from 1 to 28 has its sentence
-pub as-given : (k : ℕ) (v : Values) {p ys : List ℕ} {res : TextAnswer} → 1 ≤ k → k ≤ 28 → TextCall (sentence k v) p res ys
+pub as_given : (k : ℕ) (v : Values) {p ys : List ℕ} {res : TextAnswer} → 1 ≤ k → k ≤ 28 → TextCall (sentence k v) p res ys
     → TextCall (answer (render (record { number = k; named = offending k v }))) p res ys
-as-given k v {p} {ys} {res} low high call = subst (λ (o : Outcome (List ℕ)). TextCall o p res ys) (sentence-is k v low high) call
+as_given k v {p} {ys} {res} low high call = subst (λ (o : Outcome (List ℕ)). TextCall o p res ys) (sentence-is k v low high) call
 
 pub block-width : (n size second : ℕ) → n < 18446744073709551616 → size < 4294967296 → second < 4294967296 → OfWidth (Block n size second)
 unfolding OfWidth
 block-width n size second p q r = (p, q, r)
 
 -- the sizes of a block of bytes have 32 bits
-u32-fits : (s : List ℕ) (at : ℕ) → ((k : ℕ) → get_or s k 0 < 256) → u32_at s at < 4294967296
-unfolding u32_at fourAt
-u32-fits s at bytes = by (leb (at + 4) (length s))
+u32_fits : (s : List ℕ) (at : ℕ) → ((k : ℕ) → get_or s k 0 < 256) → u32_at s at < 4294967296
+unfolding u32_at four_at
+u32_fits s at bytes = by (leb (at + 4) (length s))
   where
     by : (b : Bool) → cond b (get_or s at 0 + 256 * get_or s (at + 1) 0 + 65536 * get_or s (at + 2) 0 + 16777216 * get_or s (at + 3) 0) 0 < 4294967296
     by true = omega (arith, bytes at, bytes (at + 1), bytes (at + 2), bytes (at + 3))
@@ -77,34 +77,34 @@ u32-fits s at bytes = by (leb (at + 4) (length s))
 
 pub bytes-width : (n : ℕ) (s : List ℕ) → n < 18446744073709551616 → ((k : ℕ) → get_or s k 0 < 256) → InWidth (Sentences n) s
 unfolding Wide came
-bytes-width n s h bytes = block-width n (u32_at s 0) (u32_at s 4) h (u32-fits s 0 bytes) (u32-fits s 4 bytes)
+bytes-width n s h bytes = block-width n (u32_at s 0) (u32_at s 4) h (u32_fits s 0 bytes) (u32_fits s 4 bytes)
 
 -- ---- the values that the refusal of a date read
-year-fits : (y : ℤ) → lt_z y (negsuc 4899) ≡ false → lt_z (pos 2733194) y ≡ false → mag y < 2147483648
-year-fits (pos n) l h = omega (arith, ltb-false 2733194 n h)
-year-fits (negsuc n) l h = omega (arith, ltb-false 4899 n l)
+year_fits : (y : ℤ) → lt_z y (negsuc 4899) ≡ false → lt_z (pos 2733194) y ≡ false → mag y < 2147483648
+year_fits (pos n) l h = omega (arith, ltb-false 2733194 n h)
+year_fits (negsuc n) l h = omega (arith, ltb-false 4899 n l)
 
-module _ (jd : JulianDate) (res : CalendarAnswer) (e : calendarOutcome res ≡ julianToCalendar jd.jd1 jd.jd2) where
+module _ (jd : JulianDate) (res : CalendarAnswer) (e : calendar_outcome res ≡ julian_to_calendar jd.jd1 jd.jd2) where
   module _ (c : CalendarFields) (is : res ≡ Fields c) where
-    given : julianToCalendar jd.jd1 jd.jd2 ≡ answer c
-    unfolding calendarOutcome
-    given = sym e ∙ ap calendarOutcome is
+    given : julian_to_calendar jd.jd1 jd.jd2 ≡ answer c
+    unfolding calendar_outcome
+    given = sym e ∙ ap calendar_outcome is
 
     range : DateInRange c.date
     range = date-in-range jd.jd1 jd.jd2 c given
 
-    pub month-fits : SFits w32 (pos c.date.month)
-    month-fits = record { sfits = omega (arith, range.month-high) }
+    pub month_fits : SFits w32 (pos c.date.month)
+    month_fits = record { sfits = omega (arith, range.month-high) }
 
-    pub day-fits : SFits w32 (pos c.date.day)
-    day-fits = record { sfits = omega (arith, range.day-high) }
+    pub day_fits : SFits w32 (pos c.date.day)
+    day_fits = record { sfits = omega (arith, range.day-high) }
 
-    pub date-values : Date (to_z w32 (of_z w32 c.date.year)) (to_z w32 c.date.month) (to_z w32 c.date.day) ≡ refusedValues jd
-    unfolding valuesBy
+    pub date-values : Date (to_z w32 (of_z w32 c.date.year)) (to_z w32 c.date.month) (to_z w32 c.date.day) ≡ refused_values jd
+    unfolding values_by
     date-values =
-        read-fields Date c.date (record { sfits = year-fits c.date.year range.year-low range.year-high }) range.month-high range.day-high
-        ∙ ap (valuesBy jd) (sym given)
+        read-fields Date c.date (record { sfits = year_fits c.date.year range.year_low range.year_high }) range.month-high range.day-high
+        ∙ ap (values_by jd) (sym given)
 
-  pub parts-values : (k : ℕ) → res ≡ Refused k → Parts jd.jd1 jd.jd2 ≡ refusedValues jd
-  unfolding valuesBy calendarOutcome
-  parts-values k is = ap (valuesBy jd) (sym (ap calendarOutcome is) ∙ e)
+  pub parts-values : (k : ℕ) → res ≡ Refused k → Parts jd.jd1 jd.jd2 ≡ refused_values jd
+  unfolding values_by calendar_outcome
+  parts-values k is = ap (values_by jd) (sym (ap calendar_outcome is) ∙ e)

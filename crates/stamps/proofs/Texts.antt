@@ -14,18 +14,18 @@ use borrow.Author.Tests.{le-leb, ltb-false}
 use Rattle.refusals.specs.Outcome.{Outcome, answer, refusal, onward}
 use Rattle.julian.specs.declared.JulianDate.{JulianDate}
 use Rattle.julian.specs.declared.CalendarFields.{CalendarFields}
-use Rattle.julian.specs.Calendar.{julianToCalendar}
+use Rattle.julian.specs.Calendar.{julian_to_calendar}
 use Rattle.leap_table.specs.rows.Table.{Row}
 use Rattle.utc.specs.declared.text.TextAnswer.{TextAnswer}
 use Rattle.utc.specs.declared.text.TextAnswer.TheVariants.{Written, Refused}
-use Rattle.utc.specs.text.Answer.{textOutcome, textWritten, bufferAfter}
+use Rattle.utc.specs.text.Answer.{text_outcome, text_written, buffer_after}
 use Rattle.leap_table.specs.declared.offsets.Rule.{Rule}
 use Rattle.leap_table.specs.offsets.Rule.{forget}
 use Rattle.utc.specs.declared.iso_texts.TextByRule.{TextByRule}
 use Rattle.utc.specs.declared.iso_texts.TextByRule.TheVariants as Ruled
-use Rattle.utc.specs.iso_texts.ByRule.{expandedByRule, textByRuleOutcome, TextRuleCall}
-use Rattle.utc.specs.iso_texts.Expanded.{expandedForm, isoTextExpanded}
-use Rattle.utc.specs.iso_texts.TextCall.{written, bufferHolds, TextCall}
+use Rattle.utc.specs.iso_texts.ByRule.{expanded_by_rule, text_by_rule_outcome, TextRuleCall}
+use Rattle.utc.specs.iso_texts.Expanded.{expanded_form, iso_text_expanded}
+use Rattle.utc.specs.iso_texts.TextCall.{written, buffer_holds, TextCall}
 use Rattle.julian.proofs.Dates.{date-in-range}
 use Rattle.utc.proofs.iso_texts.TextCalls.{call-as}
 use Rattle.utc.proofs.iso_texts.TextRules.{rule-call-forgets, expanded-forgets}
@@ -33,52 +33,52 @@ use Rattle.utc.proofs.laws.Numbers.{text-numbers-by}
 use Rattle.utc.proofs.laws.ExpandedTexts.{expanded-text-length}
 use Rattle.reasons.specs.declared.Values.{Values}
 use Rattle.reasons.specs.Widths.{OfWidth}
-use Rattle.reasons.proofs.SentenceLengths.{reason-short}
+use Rattle.reasons.proofs.SentenceLengths.{reason_short}
 use Rattle.stamps.specs.declared.Reporting.{Reporting}
 use Rattle.stamps.specs.declared.Reporting.TheVariants.{Numbers, Sentences}
-use Rattle.stamps.specs.Listing.{lineRoom, reported, valuesBy, refusedValues, shown}
+use Rattle.stamps.specs.Listing.{line_room, reported, values_by, refused_values, shown}
 use Rattle.stamps.specs.Widths.{Wide}
 use Rattle.stamps.proofs.Places.{digits-most}
 
 -- ---- the room of a line
-pub room-low : (how : Reporting) → 33 ≤ lineRoom how
-unfolding lineRoom
+pub room-low : (how : Reporting) → 33 ≤ line_room how
+unfolding line_room
 room-low Numbers = omega arith
 room-low (Sentences n) = omega arith
 
-pub room-high : (how : Reporting) → lineRoom how ≤ 64
-unfolding lineRoom
+pub room-high : (how : Reporting) → line_room how ≤ 64
+unfolding line_room
 room-high Numbers = omega arith
 room-high (Sentences n) = omega arith
 
 -- ---- a refusal
-pub reported-most : (how : Reporting) (k : ℕ) (v : Values) → Wide how v → length (reported how k v) + 7 ≤ lineRoom how
-unfolding reported lineRoom Wide
+pub reported-most : (how : Reporting) (k : ℕ) (v : Values) → Wide how v → length (reported how k v) + 7 ≤ line_room how
+unfolding reported line_room Wide
 reported-most Numbers k v w = omega (arith, digits-most 4 k)
-reported-most (Sentences n) k v w = omega (arith, reason-short k v w)
+reported-most (Sentences n) k v w = omega (arith, reason_short k v w)
 
 year-within : (y : ℤ) → lt_z y (negsuc 4899) ≡ false → lt_z (pos 2733194) y ≡ false → nat_abs y ≤ 2147483648
 year-within (pos n) l h = omega (arith, ltb-false 2733194 n h)
 year-within (negsuc n) l h = omega (arith, ltb-false 4899 n l)
 
-values-wide : (jd : JulianDate) (o : Outcome CalendarFields) → julianToCalendar jd.jd1 jd.jd2 ≡ o → OfWidth (valuesBy jd o)
-unfolding OfWidth valuesBy
-values-wide jd (answer c) e =
+values_wide : (jd : JulianDate) (o : Outcome CalendarFields) → julian_to_calendar jd.jd1 jd.jd2 ≡ o → OfWidth (values_by jd o)
+unfolding OfWidth values_by
+values_wide jd (answer c) e =
     let r = date-in-range jd.jd1 jd.jd2 c e in
-    (year-within c.date.year r.year-low r.year-high, omega (arith, r.month-high), omega (arith, r.day-high))
-values-wide jd (refusal k) e = tt
+    (year-within c.date.year r.year_low r.year_high, omega (arith, r.month-high), omega (arith, r.day-high))
+values_wide jd (refusal k) e = tt
 
-pub refused-wide : (jd : JulianDate) → OfWidth (refusedValues jd)
-refused-wide jd = values-wide jd (julianToCalendar jd.jd1 jd.jd2) refl
+pub refused-wide : (jd : JulianDate) → OfWidth (refused_values jd)
+refused-wide jd = values_wide jd (julian_to_calendar jd.jd1 jd.jd2) refl
 
-date-wide : (how : Reporting) (jd : JulianDate) → Wide how (refusedValues jd)
+date-wide : (how : Reporting) (jd : JulianDate) → Wide how (refused_values jd)
 unfolding Wide
 date-wide Numbers jd = tt
 date-wide (Sentences n) jd = refused-wide jd
 
 -- a date is refused by a number that has a sentence
-pub date-number : (rows : List Row) (jd : JulianDate) (k : ℕ) → isoTextExpanded rows jd ≡ refusal k → (1 ≤ k) × (k ≤ 28)
-date-number rows jd k e = by (text-numbers-by expandedForm rows jd k e)
+pub date-number : (rows : List Row) (jd : JulianDate) (k : ℕ) → iso_text_expanded rows jd ≡ refusal k → (1 ≤ k) × (k ≤ 28)
+date-number rows jd k e = by (text-numbers-by expanded_form rows jd k e)
   where
     by : (k ≡ 6) ⊎ (k ≡ 1) → (1 ≤ k) × (k ≤ 28)
     by (inl h) = (omega arith, omega arith)
@@ -88,7 +88,7 @@ date-number rows jd k e = by (text-numbers-by expandedForm rows jd k e)
 abbrev pub Brief : Outcome (List ℕ) → Type 0
 Brief o = (t : List ℕ) → o ≡ answer t → length t ≤ 27
 
-pub brief : (rows : List Row) (jd : JulianDate) → Brief (isoTextExpanded rows jd)
+pub brief : (rows : List Row) (jd : JulianDate) → Brief (iso_text_expanded rows jd)
 brief rows jd t e = by (expanded-text-length rows jd t e)
   where
     by : (length t ≡ 23) ⊎ (length t ≡ 27) → length t ≤ 27
@@ -96,10 +96,10 @@ brief rows jd t e = by (expanded-text-length rows jd t e)
     by (inr h) = omega arith
 
 -- ---- what the text call answered
-pub shown-most : (how : Reporting) (jd : JulianDate) (o : Outcome (List ℕ)) → Brief o → length (shown how jd o) + 6 ≤ lineRoom how
+pub shown-most : (how : Reporting) (jd : JulianDate) (o : Outcome (List ℕ)) → Brief o → length (shown how jd o) + 6 ≤ line_room how
 unfolding shown
 shown-most how jd (answer t) b = omega (arith, b t refl, room-low how)
-shown-most how jd (refusal k) b = omega (arith, reported-most how k (refusedValues jd) (date-wide how jd))
+shown-most how jd (refusal k) b = omega (arith, reported-most how k (refused_values jd) (date-wide how jd))
 
 written-by : (t p : List ℕ) (n : ℕ) (b : Bool) → cond b (answer (length t)) (refusal 11) ≡ answer n
     → (n ≡ length t) × (cond b (t ++ drop (length t) p) p ≡ t ++ drop (length t) p)
@@ -107,51 +107,51 @@ written-by t p n true e = (cc, refl)
 written-by t p n false e = let z : ◌≡◌ {A = ℕ} 0 1 = cc in absurd (omega arith)
 
 reported-written : (how : Reporting) (jd : JulianDate) (o : Outcome (List ℕ)) (p : List ℕ) (n : ℕ) → written o (length p) ≡ answer n
-    → (n ≡ length (shown how jd o)) × (bufferHolds o p ≡ shown how jd o ++ drop (length (shown how jd o)) p)
-unfolding written bufferHolds shown onward textWritten bufferAfter
+    → (n ≡ length (shown how jd o)) × (buffer_holds o p ≡ shown how jd o ++ drop (length (shown how jd o)) p)
+unfolding written buffer_holds shown onward text_written buffer_after
 reported-written how jd (answer t) p n e = written-by t p n (leb (length t) (length p)) e
 reported-written how jd (refusal k) p n e = let z : ◌≡◌ {A = ℕ} 0 1 = cc in absurd (omega arith)
 
-refused-by : (t : List ℕ) (p : List ℕ) (k : ℕ) → length t ≤ length p → textWritten t (length p) ≡ refusal k → ⊥
-unfolding textWritten
+refused-by : (t : List ℕ) (p : List ℕ) (k : ℕ) → length t ≤ length p → text_written t (length p) ≡ refusal k → ⊥
+unfolding text_written
 refused-by t p k h e =
     let g : ◌≡◌ {A = Outcome ℕ} (answer (length t)) (refusal k) = simp (le-leb _ _ h) at e in
     let z : ◌≡◌ {A = ℕ} 0 1 = cc in omega arith
 
 reported-refused : (o : Outcome (List ℕ)) (p : List ℕ) (k : ℕ) → Brief o → 27 ≤ length p → written o (length p) ≡ refusal k
-    → (o ≡ refusal k) × (bufferHolds o p ≡ p)
-unfolding written bufferHolds onward
+    → (o ≡ refusal k) × (buffer_holds o p ≡ p)
+unfolding written buffer_holds onward
 reported-refused (answer t) p k b h e = let m = b t refl in absurd (refused-by t p k (omega arith) e)
 reported-refused (refusal j) p k b h e = let same : j ≡ k = cc in (ap refusal same, refl)
 
 module _ {rows' : List Row} (rows : List Row) (jd : JulianDate) (same : rows' ≡ rows) {p ys : List ℕ} {res : TextByRule}
-    (call : TextRuleCall (expandedByRule rows' jd) p res ys) where
+    (call : TextRuleCall (expanded_by_rule rows' jd) p res ys) where
   -- the call without the rule
-  plain : (t : TextAnswer) → textOutcome t ≡ forget (textByRuleOutcome res) → TextCall (isoTextExpanded rows jd) p t ys
-  plain t e = call-as _ _ _ _ _ (sym (expanded-forgets rows jd) ∙ ap (λ (l : List Row). forget (expandedByRule l jd)) (sym same))
+  plain : (t : TextAnswer) → text_outcome t ≡ forget (text_by_rule_outcome res) → TextCall (iso_text_expanded rows jd) p t ys
+  plain t e = call-as _ _ _ _ _ (sym (expanded-forgets rows jd) ∙ ap (λ (l : List Row). forget (expanded_by_rule l jd)) (sym same))
       (rule-call-forgets _ _ _ _ _ e call)
 
-  pub text-written : (how : Reporting) (n : ℕ) (rule : Rule) → res ≡ Ruled.Written n rule → (n ≡ length (shown how jd (isoTextExpanded rows jd)))
-      × (ys ≡ shown how jd (isoTextExpanded rows jd) ++ drop (length (shown how jd (isoTextExpanded rows jd))) p)
-  unfolding textOutcome textByRuleOutcome forget onward
+  pub text-written : (how : Reporting) (n : ℕ) (rule : Rule) → res ≡ Ruled.Written n rule → (n ≡ length (shown how jd (iso_text_expanded rows jd)))
+      × (ys ≡ shown how jd (iso_text_expanded rows jd) ++ drop (length (shown how jd (iso_text_expanded rows jd))) p)
+  unfolding text_outcome text_by_rule_outcome forget onward
   text-written how n rule e =
-      let call' = plain (Written n) (ap (λ (x : TextByRule). forget (textByRuleOutcome x)) (sym e)) in
-      let w = reported-written how jd (isoTextExpanded rows jd) p n (sym call'.says) in
+      let call' = plain (Written n) (ap (λ (x : TextByRule). forget (text_by_rule_outcome x)) (sym e)) in
+      let w = reported-written how jd (iso_text_expanded rows jd) p n (sym call'.says) in
       (w.0, call'.holds ∙ w.1)
 
-  pub text-refused : (k : ℕ) → res ≡ Ruled.Refused k → 27 ≤ length p → (isoTextExpanded rows jd ≡ refusal k) × (ys ≡ p)
-  unfolding textOutcome textByRuleOutcome forget onward
-  text-refused k e h =
-      let call' = plain (Refused k) (ap (λ (x : TextByRule). forget (textByRuleOutcome x)) (sym e)) in
-      let w = reported-refused (isoTextExpanded rows jd) p k (brief rows jd) h (sym call'.says) in
+  pub text_refused : (k : ℕ) → res ≡ Ruled.Refused k → 27 ≤ length p → (iso_text_expanded rows jd ≡ refusal k) × (ys ≡ p)
+  unfolding text_outcome text_by_rule_outcome forget onward
+  text_refused k e h =
+      let call' = plain (Refused k) (ap (λ (x : TextByRule). forget (text_by_rule_outcome x)) (sym e)) in
+      let w = reported-refused (iso_text_expanded rows jd) p k (brief rows jd) h (sym call'.says) in
       (w.0, call'.holds ∙ w.1)
 
 -- ---- a text that is surely there
 module _ {t p ys : List ℕ} {res : TextAnswer} (call : TextCall (answer t) p res ys) where
   pub given-written : (n : ℕ) → res ≡ Written n → (n ≡ length t) × (ys ≡ t ++ drop (length t) p)
-  unfolding textOutcome written bufferHolds onward textWritten bufferAfter
-  given-written n e = let w = written-by t p n (leb (length t) (length p)) (sym call.says ∙ ap textOutcome e) in (w.0, call.holds ∙ w.1)
+  unfolding text_outcome written buffer_holds onward text_written buffer_after
+  given-written n e = let w = written-by t p n (leb (length t) (length p)) (sym call.says ∙ ap text_outcome e) in (w.0, call.holds ∙ w.1)
 
   pub given-fits : (k : ℕ) → res ≡ Refused k → length t ≤ length p → ⊥
-  unfolding textOutcome written onward
-  given-fits k e h = refused-by t p k h (sym call.says ∙ ap textOutcome e)
+  unfolding text_outcome written onward
+  given-fits k e h = refused-by t p k h (sym call.says ∙ ap text_outcome e)

@@ -3,16 +3,16 @@ use Rattle.std.specs.Prelude.{ℕ, ◌+◌, ◌*◌, List, cond, length, ltb, le
 use Rattle.std.specs.Float.Ieee.{of_bits}
 use Rattle.std.specs.Float.{binary64}
 use Rattle.refusals.specs.Outcome.{Outcome, answer, refusal}
-use Rattle.numerals.specs.little_endian.LittleEndian.{u32_at, u64At}
+use Rattle.numerals.specs.little_endian.LittleEndian.{u32_at, u64_at}
 use Rattle.julian.specs.declared.JulianDate.{JulianDate}
 use Rattle.julian.specs.JulianDate.{julian}
 use Rattle.stamps.specs.declared.BlockAnswer.{BlockAnswer}
 use Rattle.stamps.specs.declared.BlockAnswer.TheVariants.{Stamps, Refused}
 
 -- the outcome that each case of the enum is
-unfoldable pub blockOutcome : BlockAnswer → Outcome ℕ
-blockOutcome (Stamps n) = answer n
-blockOutcome (Refused k) = refusal k
+unfoldable pub block_outcome : BlockAnswer → Outcome ℕ
+block_outcome (Stamps n) = answer n
+block_outcome (Refused k) = refusal k
 
 -- the number of stamps; refusals in order: 14 under 8 bytes, 12 sizes that differ, 13 a size above 4,000, 14 another length than the sizes say
 unfoldable pub block_of : List ℕ → Outcome ℕ
@@ -23,12 +23,12 @@ block_of s =
     (refusal 12))
 
 -- the 64-bit patterns of stamp i of n: all jd1 stand before all jd2
-unfoldable pub jd1Bits : List ℕ → ℕ → ℕ
-jd1Bits s i = u64At s (8 + 8 * i)
+unfoldable pub jd1_bits : List ℕ → ℕ → ℕ
+jd1_bits s i = u64_at s (8 + 8 * i)
 
-unfoldable pub jd2Bits : List ℕ → ℕ → ℕ → ℕ
-jd2Bits s n i = u64At s (8 + 8 * n + 8 * i)
+unfoldable pub jd2_bits : List ℕ → ℕ → ℕ → ℕ
+jd2_bits s n i = u64_at s (8 + 8 * n + 8 * i)
 
 -- stamp i of n as a date: `of_bits` is a NaN at every pattern of one
-unfoldable pub stampAt : List ℕ → ℕ → ℕ → JulianDate
-stampAt s n i = julian (of_bits binary64 (jd1Bits s i)) (of_bits binary64 (jd2Bits s n i))
+unfoldable pub stamp_at : List ℕ → ℕ → ℕ → JulianDate
+stamp_at s n i = julian (of_bits binary64 (jd1_bits s i)) (of_bits binary64 (jd2_bits s n i))

@@ -5,7 +5,7 @@ use Rattle.reasons.specs.declared.Values.{Values}
 use Rattle.reasons.specs.Widths.{OfWidth}
 use Rattle.stamps.specs.declared.Reporting.{Reporting}
 use Rattle.stamps.specs.declared.Reporting.TheVariants.{Numbers, Sentences}
-use Rattle.stamps.specs.Listing.{blockValues}
+use Rattle.stamps.specs.Listing.{block_values}
 
 unfoldable pub Wide : Reporting → Values → Type 0
 Wide Numbers values = Unit
@@ -13,4 +13,4 @@ Wide (Sentences n) values = OfWidth values
 
 -- of a block
 abbrev pub InWidth : Reporting → List ℕ → Type 0
-InWidth how s = Wide how (blockValues how s)
+InWidth how s = Wide how (block_values how s)

@@ -4,7 +4,7 @@ mod place;
 mod reported;
 
 ghost use Rattle.std.specs.Prelude.{◌≡◌, ◌≤◌, ◌<◌};
-ghost use Rattle.stamps.specs.Block.{blockOutcome, block_of, stampAt};
+ghost use Rattle.stamps.specs.Block.{block_outcome, block_of, stamp_at};
 
 use julian::JulianDate;
 pub use listing::{next_part, next_part_by_rows};
@@ -41,7 +41,7 @@ pub enum LinesAnswer {
 
 // How many stamps the block has. Refusals in order: 14 under 8 bytes, 12, 13, then 14.
 pub fn block_stamps(block: &[u8]) -> BlockAnswer
-    ensures { blockOutcome result ≡ block_of block.now }
+    ensures { block_outcome result ≡ block_of block.now }
 {
     if block.len() < 8 {
         return BlockAnswer::Refused(refusals::LENGTH_WRONG);
@@ -64,7 +64,7 @@ pub fn block_stamps(block: &[u8]) -> BlockAnswer
 // Stamp i of a block with so many stamps.
 pub(crate) fn stamp_at(block: &[u8], stamps: usize, i: usize) -> JulianDate
     requires { (i < stamps) × (stamps ≤ 4000) }
-    ensures { result ≡ stampAt block.now stamps i }
+    ensures { result ≡ stamp_at block.now stamps i }
 {
     let jd1 = numerals::little_endian::u64_at(block, 8 + 8 * i);
     let jd2 = numerals::little_endian::u64_at(block, 8 + 8 * stamps + 8 * i);

@@ -3,14 +3,14 @@ ghost use Rattle.std.specs.Prelude.{◌≡◌, ◌+◌, ◌-◌, ◌≤◌, ◌<
 ghost use Rattle.std.specs.Int.Signed.{lt_z};
 ghost use Rattle.std.specs.Float.Ieee.{le};
 ghost use Rattle.floats.specs.Whole.{nought};
-ghost use Rattle.julian.specs.day_number.DayNumber.{c-djmax};
+ghost use Rattle.julian.specs.day_number.DayNumber.{c_djmax};
 ghost use Rattle.leap_table.specs.rows.Table.{Row};
 ghost use Rattle.leap_table.specs.rows.Announced.{rows_of, table_of};
-ghost use Rattle.utc.specs.iso_texts.Expanded.{isoTextExpanded};
-ghost use Rattle.stamps.specs.Block.{blockOutcome, block_of};
+ghost use Rattle.utc.specs.iso_texts.Expanded.{iso_text_expanded};
+ghost use Rattle.stamps.specs.Block.{block_outcome, block_of};
 ghost use Rattle.numerals.specs.digits.Placed.{Placed};
-ghost use Rattle.stamps.specs.Listing.{lineRoom, shown, stampLine, oneIfRefused, refusedIn, header, blockRefused};
-ghost use Rattle.stamps.specs.Parts.{line_of, linesIn, PartPlaced, PartCall};
+ghost use Rattle.stamps.specs.Listing.{line_room, shown, stamp_line, one_if_refused, refused_in, header, block_refused};
+ghost use Rattle.stamps.specs.Parts.{line_of, lines_in, PartPlaced, PartCall};
 
 use super::{BlockAnswer, LinesAnswer, Part, Reporting, block_stamps, place, reported, stamp_at};
 use julian::JulianDate;
@@ -23,7 +23,7 @@ use utc::iso_texts::TextByRule;
 // A line is begun only where so many bytes are left. By numbers the longest line has four bytes of the index, a blank, the longest text, 27, and the line's
 // end; by sentences it has `block`, a blank, the longest sentence, 57, and the line's end.
 fn line_room(reporting: Reporting) -> usize
-    ensures { result ≡ lineRoom reporting }
+    ensures { result ≡ line_room reporting }
 {
     match reporting {
         Reporting::Numbers => 33,
@@ -39,9 +39,9 @@ fn place_shown(
     dst: &mut [u8],
     at: usize,
 ) -> usize
-    requires { at + lineRoom reporting ≤ length dst.old + 5 }
-    ensures placed { Placed dst.old at (shown reporting jd (isoTextExpanded (rows_of table) jd)) result dst.new }
-    ensures result_bound { result + 6 ≤ at + lineRoom reporting }
+    requires { at + line_room reporting ≤ length dst.old + 5 }
+    ensures placed { Placed dst.old at (shown reporting jd (iso_text_expanded (rows_of table) jd)) result dst.new }
+    ensures result_bound { result + 6 ≤ at + line_room reporting }
 {
     match utc::iso_texts::to_iso8601_expanded_by_arrays(
         UTC(jd),
@@ -64,9 +64,9 @@ fn place_stamp_line(
     dst: &mut [u8],
     at: usize,
 ) -> usize
-    requires { (i < stamps) × (stamps ≤ 4000) × (at + lineRoom reporting ≤ length dst.old) }
-    ensures placed { Placed dst.old at (stampLine reporting (rows_of table) block.now stamps i) result dst.new }
-    ensures upper_bound { result ≤ at + lineRoom reporting }
+    requires { (i < stamps) × (stamps ≤ 4000) × (at + line_room reporting ≤ length dst.old) }
+    ensures placed { Placed dst.old at (stamp_line reporting (rows_of table) block.now stamps i) result dst.new }
+    ensures upper_bound { result ≤ at + line_room reporting }
 {
     let a = place::number(i as u32, dst, at);
     let b = place_bytes(b" ", dst, a);
@@ -83,7 +83,7 @@ fn one_if_early(day: i64) -> u32
 
 // Whether every date with this rounded sum of its parts has a text: from 0.0, in the year -4713, to the greatest sum that has a day. A NaN is not there.
 fn surely_shown(sum: f64) -> bool
-    ensures { result ≡ (le nought sum && le sum c-djmax) }
+    ensures { result ≡ (le nought sum && le sum c_djmax) }
 {
     sum >= 0.0 && sum <= 1e9
 }
@@ -91,7 +91,7 @@ fn surely_shown(sum: f64) -> bool
 // 1 where a date has no text, else 0, by whatever rows. Of the text's conversion the day number is made at most: what comes after it refuses only the days
 // before the first.
 fn one_if_refused(jd: JulianDate) -> u32
-    ensures { ((rows : List Row) → result ≡ oneIfRefused (isoTextExpanded rows jd)) × (result ≤ 1) }
+    ensures { ((rows : List Row) → result ≡ one_if_refused (iso_text_expanded rows jd)) × (result ≤ 1) }
 {
     if surely_shown(jd.jd1 + jd.jd2) {
         return 0;
@@ -105,7 +105,7 @@ fn one_if_refused(jd: JulianDate) -> u32
 // How many stamps are refused: each is judged as its conversion by any rows would be.
 fn refused_stamps(block: &[u8], stamps: usize) -> u32
     requires { stamps ≤ 4000 }
-    ensures { (rows : List Row) → result ≡ refusedIn rows block.now stamps stamps }
+    ensures { (rows : List Row) → result ≡ refused_in rows block.now stamps stamps }
 {
     let mut refused = 0;
     let mut i = 0;
@@ -135,9 +135,9 @@ fn place_block_refused(
     dst: &mut [u8],
     at: usize,
 ) -> usize
-    requires { (1 ≤ number) × (number ≤ 28) × (at + lineRoom reporting ≤ length dst.old) }
-    ensures placed { Placed dst.old at (blockRefused reporting block.now number) result dst.new }
-    ensures upper_bound { result ≤ at + lineRoom reporting }
+    requires { (1 ≤ number) × (number ≤ 28) × (at + line_room reporting ≤ length dst.old) }
+    ensures placed { Placed dst.old at (block_refused reporting block.now number) result dst.new }
+    ensures upper_bound { result ≤ at + line_room reporting }
 {
     let a = place_bytes(b"block ", dst, at);
     let b = reported::place_block_reported(reporting, number, block, dst, a);
@@ -154,10 +154,10 @@ fn place_line(
     dst: &mut [u8],
     at: usize,
 ) -> usize
-    requires { (blockOutcome answer ≡ block_of block.now) × (line < linesIn (block_of block.now)) × (at + lineRoom reporting ≤ length dst.old) }
+    requires { (block_outcome answer ≡ block_of block.now) × (line < lines_in (block_of block.now)) × (at + line_room reporting ≤ length dst.old) }
     ensures placed { Placed dst.old at (line_of reporting (rows_of table) (block_of block.now) block.now line) result
         dst.new }
-    ensures upper_bound { result ≤ at + lineRoom reporting }
+    ensures upper_bound { result ≤ at + line_room reporting }
 {
     match answer {
         BlockAnswer::Refused(number) => place_block_refused(reporting, block, number, dst, at),
@@ -171,8 +171,8 @@ fn place_line(
 }
 
 fn lines_in(answer: BlockAnswer) -> usize
-    requires { linesIn (blockOutcome answer) ≤ 4001 }
-    ensures { result ≡ linesIn (blockOutcome answer) }
+    requires { lines_in (block_outcome answer) ≤ 4001 }
+    ensures { result ≡ lines_in (block_outcome answer) }
 {
     match answer {
         BlockAnswer::Refused(_) => 1,

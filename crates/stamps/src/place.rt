@@ -1,6 +1,6 @@
 // Decimal numbers into a lent slice from an index on. Each function answers the index after what it wrote.
 ghost use Rattle.std.specs.Prelude.{◌+◌, ◌≤◌, ◌<◌, [], ◌∷◌, length};
-ghost use Rattle.numerals.specs.digits.Decimal.{last, digitsIn};
+ghost use Rattle.numerals.specs.digits.Decimal.{last, digits_in};
 ghost use Rattle.numerals.specs.digits.Placed.{Placed};
 ghost use Rattle.stamps.specs.Listing.{numeral};
 
@@ -16,7 +16,7 @@ fn digit(n: u32, dst: &mut [u8], at: usize) -> usize
 // A number below 100.
 fn two_digits(n: u32, dst: &mut [u8], at: usize) -> usize
     requires { at + 2 ≤ length dst.old }
-    ensures placed { Placed dst.old at (digitsIn 2 n) result dst.new }
+    ensures placed { Placed dst.old at (digits_in 2 n) result dst.new }
     ensures upper_bound { result ≤ at + 2 }
 {
     if n < 10 {
@@ -29,7 +29,7 @@ fn two_digits(n: u32, dst: &mut [u8], at: usize) -> usize
 // A number below 1,000.
 fn three_digits(n: u32, dst: &mut [u8], at: usize) -> usize
     requires { at + 3 ≤ length dst.old }
-    ensures placed { Placed dst.old at (digitsIn 3 n) result dst.new }
+    ensures placed { Placed dst.old at (digits_in 3 n) result dst.new }
     ensures upper_bound { result ≤ at + 3 }
 {
     if n < 10 {

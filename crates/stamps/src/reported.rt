@@ -5,7 +5,7 @@ ghost use Rattle.reasons.specs.declared.sentences.Reason.{Reason};
 ghost use Rattle.reasons.specs.Offending.{offending};
 ghost use Rattle.reasons.specs.sentences.Render.{render};
 ghost use Rattle.reasons.specs.Widths.{OfWidth};
-ghost use Rattle.stamps.specs.Listing.{refusedWord, numeral, lineRoom, refusedValues, blockValues, reported};
+ghost use Rattle.stamps.specs.Listing.{refused_word, numeral, line_room, refused_values, block_values, reported};
 
 use super::{Reporting, place};
 use julian::{CalendarAnswer, JulianDate};
@@ -16,7 +16,7 @@ use utc::text::TextAnswer;
 // `refused` and the number.
 fn place_number(number: u32, dst: &mut [u8], at: usize) -> usize
     requires { at + 12 ≤ length dst.old }
-    ensures placed { Placed dst.old at (refusedWord ++ numeral number) result dst.new }
+    ensures placed { Placed dst.old at (refused_word ++ numeral number) result dst.new }
     ensures upper_bound { result ≤ at + 12 }
 {
     let next = place_bytes(b"refused ", dst, at);
@@ -37,7 +37,7 @@ fn place_sentence(number: u32, values: Values, dst: &mut [u8], at: usize) -> usi
 
 // The values that the refusal of a date read.
 fn refused_values(jd: JulianDate) -> Values
-    ensures { result ≡ refusedValues jd }
+    ensures { result ≡ refused_values jd }
 {
     match julian::julian_to_calendar(jd.jd1, jd.jd2) {
         CalendarAnswer::Fields(found) => {
@@ -56,9 +56,9 @@ pub(crate) fn place_date_refused(
     dst: &mut [u8],
     at: usize,
 ) -> usize
-    requires { (1 ≤ number) × (number ≤ 28) × (at + lineRoom reporting ≤ length dst.old + 7) }
-    ensures placed { Placed dst.old at (reported reporting number (refusedValues jd)) result dst.new }
-    ensures result_bound { result + 7 ≤ at + lineRoom reporting }
+    requires { (1 ≤ number) × (number ≤ 28) × (at + line_room reporting ≤ length dst.old + 7) }
+    ensures placed { Placed dst.old at (reported reporting number (refused_values jd)) result dst.new }
+    ensures result_bound { result + 7 ≤ at + line_room reporting }
 {
     match reporting {
         Reporting::Numbers => place_number(number, dst, at),
@@ -74,9 +74,9 @@ pub(crate) fn place_block_reported(
     dst: &mut [u8],
     at: usize,
 ) -> usize
-    requires { (1 ≤ number) × (number ≤ 28) × (at + lineRoom reporting ≤ length dst.old + 7) }
-    ensures placed { Placed dst.old at (reported reporting number (blockValues reporting block.now)) result dst.new }
-    ensures result_bound { result + 7 ≤ at + lineRoom reporting }
+    requires { (1 ≤ number) × (number ≤ 28) × (at + line_room reporting ≤ length dst.old + 7) }
+    ensures placed { Placed dst.old at (reported reporting number (block_values reporting block.now)) result dst.new }
+    ensures result_bound { result + 7 ≤ at + line_room reporting }
 {
     match reporting {
         Reporting::Numbers => place_number(number, dst, at),

@@ -5,7 +5,7 @@ use Prim.Native.Nat.{ℕ, ◌+◌, ◌-◌, ◌*◌, ◌/◌, ◌≤◌, ◌<◌
 use native.Mathlib.Omega.{arith}
 use lib.Dec.{ltb}
 use borrow.Author.Tests.{lt-ltb, le-ltb, ltb-true, ltb-false}
-use Rattle.standby.specs.Bills.{quarters, overLimit}
+use Rattle.standby.specs.Bills.{quarters, over_limit}
 
 -- s seconds and m milliseconds against s' and m'
 module _ (s m s' m' : ℕ) (h : m ≤ 999) (h' : m' ≤ 999) where
@@ -27,33 +27,33 @@ pub more-millis : (d m m' : ℕ) → m ≤ 999 → m' ≤ 999 → m < m' → (e 
 unfolding quarters
 more-millis d m m' h h' l e p = omega arith
 
-pub fewer-millis : (d m m' : ℕ) → m ≤ 999 → m' ≤ 999 → m' ≤ m → (e : ℕ) → e + m ≡ 1000 * d + m' → (d + 899) / 900 ≡ quarters e
+pub fewer_millis : (d m m' : ℕ) → m ≤ 999 → m' ≤ 999 → m' ≤ m → (e : ℕ) → e + m ≡ 1000 * d + m' → (d + 899) / 900 ≡ quarters e
 unfolding quarters
-fewer-millis d m m' h h' l e p = omega arith
+fewer_millis d m m' h h' l e p = omega arith
 
 -- ---- the limits
 module _ (q rate a b : ℕ) where
-  pub many-quarters : 1000000 < q → true ≡ overLimit q rate a b
-  unfolding overLimit
+  pub many-quarters : 1000000 < q → true ≡ over_limit q rate a b
+  unfolding over_limit
   many-quarters h = rw (lt-ltb 1000000 q h)
 
   module _ (hq : q ≤ 1000000) where
-    pub high-rate : 1000000 < rate → true ≡ overLimit q rate a b
-    unfolding overLimit
+    pub high-rate : 1000000 < rate → true ≡ over_limit q rate a b
+    unfolding over_limit
     high-rate h = rw (le-ltb 1000000 q hq, lt-ltb 1000000 rate h)
 
     module _ (hr : rate ≤ 1000000) where
-      pub long-first : 1000000 < a → true ≡ overLimit q rate a b
-      unfolding overLimit
+      pub long-first : 1000000 < a → true ≡ over_limit q rate a b
+      unfolding over_limit
       long-first h = rw (le-ltb 1000000 q hq, le-ltb 1000000 rate hr, lt-ltb 1000000 a h)
 
-      pub by-second : a ≤ 1000000 → ltb 1000000 b ≡ overLimit q rate a b
-      unfolding overLimit
+      pub by-second : a ≤ 1000000 → ltb 1000000 b ≡ over_limit q rate a b
+      unfolding over_limit
       by-second h = rw (le-ltb 1000000 q hq, le-ltb 1000000 rate hr, le-ltb 1000000 a h)
 
   -- what is not over a limit
-  pub within : overLimit q rate a b ≡ false → (q ≤ 1000000) × (rate ≤ 1000000) × (a ≤ 1000000) × (b ≤ 1000000)
-  unfolding overLimit
+  pub within : over_limit q rate a b ≡ false → (q ≤ 1000000) × (rate ≤ 1000000) × (a ≤ 1000000) × (b ≤ 1000000)
+  unfolding over_limit
   within e = go (ltb 1000000 q) refl (ltb 1000000 rate) refl (ltb 1000000 a) refl (ltb 1000000 b) refl e
     where
       go : (s : Bool) → ltb 1000000 q ≡ s → (t : Bool) → ltb 1000000 rate ≡ t → (u : Bool) → ltb 1000000 a ≡ u → (v : Bool) → ltb 1000000 b ≡ v

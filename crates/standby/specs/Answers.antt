@@ -8,14 +8,14 @@ use Rattle.standby.specs.declared.Instant.{Instant}
 use Rattle.standby.specs.declared.InstantAnswer.{InstantAnswer}
 use Rattle.standby.specs.declared.InstantAnswer.TheVariants as I
 
-unfoldable pub billOutcome : BillAnswer → Outcome Bill
-billOutcome (B.Billed b) = answer b
-billOutcome (B.Refused number) = refusal number
+unfoldable pub bill_outcome : BillAnswer → Outcome Bill
+bill_outcome (B.Billed b) = answer b
+bill_outcome (B.Refused number) = refusal number
 
 -- an instant of the code in milliseconds
-abbrev pub instantMs : Instant → ℕ
-instantMs i = 1000 * i.seconds + i.millis
+abbrev pub instant_ms : Instant → ℕ
+instant_ms i = 1000 * i.seconds + i.millis
 
-unfoldable pub instantOutcome : InstantAnswer → Outcome ℕ
-instantOutcome (I.At i) = answer (instantMs i)
-instantOutcome (I.Refused number) = refusal number
+unfoldable pub instant_outcome : InstantAnswer → Outcome ℕ
+instant_outcome (I.At i) = answer (instant_ms i)
+instant_outcome (I.Refused number) = refusal number

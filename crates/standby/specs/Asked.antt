@@ -10,35 +10,35 @@ use Rattle.standby.specs.declared.UtcTime.{UtcTime}
 use Rattle.standby.specs.declared.Instant.{Instant}
 use Rattle.standby.specs.declared.InstantAnswer.{InstantAnswer}
 use Rattle.standby.specs.declared.InstantAnswer.TheVariants as I
-use Rattle.standby.specs.Times.{mjdDay}
-use Rattle.standby.specs.Answers.{instantMs, instantOutcome}
+use Rattle.standby.specs.Times.{mjd_day}
+use Rattle.standby.specs.Answers.{instant_ms, instant_outcome}
 
 -- a table that is taken, and a date from 1972 on with its day and its next date
 pub record Dated (table : AnnouncedRows) (t : UtcTime) (day : ℕ) (next : CalendarDate) : Type 0 where
   pub taken : table_of table ≡ answer (rows_of table)
-  pub from-1972 : lt_z t.year (pos 1972) ≡ false
-  pub has-next : next_of t.year (pos t.month) (pos t.day) ≡ answer next
-  pub day-is : day ≡ mjdDay t
-  pub few-days : day < 1000000000000
+  pub from_1972 : lt_z t.year (pos 1972) ≡ false
+  pub has_next : next_of t.year (pos t.month) (pos t.day) ≡ answer next
+  pub day_is : day ≡ mjd_day t
+  pub few_days : day < 1000000000000
 
 -- an instant whose sums fit
 pub record SmallInstant (i : Instant) : Type 0 where
-  pub few-seconds : i.seconds < 1000000000000000000
-  pub few-millis : i.millis ≤ 999
+  pub few_seconds : i.seconds < 1000000000000000000
+  pub few_millis : i.millis ≤ 999
 
 -- the answer is the outcome o, and an instant is small
 pub record InstantIs (o : Outcome ℕ) (r : InstantAnswer) : Type 0 where
-  pub says : instantOutcome r ≡ o
+  pub says : instant_outcome r ≡ o
   pub small : (i : Instant) → r ≡ I.At i → SmallInstant i
 
 pub record StartFirst (start end : Instant) : Type 0 where
-  pub small-start : SmallInstant start
-  pub small-end : SmallInstant end
-  pub order : instantMs start ≤ instantMs end
+  pub small_start : SmallInstant start
+  pub small_end : SmallInstant end
+  pub order : instant_ms start ≤ instant_ms end
 
 pub record InLimits (q rate a b : ℕ) : Type 0 where
-  pub few-quarters : q ≤ 1000000
-  pub low-rate : rate ≤ 1000000
-  pub short-first : a ≤ 1000000
-  pub short-second : b ≤ 1000000
-  pub some-line : 0 < a + b
+  pub few_quarters : q ≤ 1000000
+  pub low_rate : rate ≤ 1000000
+  pub short_first : a ≤ 1000000
+  pub short_second : b ≤ 1000000
+  pub some_line : 0 < a + b

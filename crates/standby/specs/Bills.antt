@@ -8,30 +8,30 @@ use Rattle.standby.specs.declared.UtcTime.{UtcTime}
 use Rattle.standby.specs.declared.Bill.{Bill}
 use Rattle.standby.specs.Times.{instant}
 
-abbrev pub isBefore : ℕ → ℕ → Bool
-isBefore a b = ltb a b
+abbrev pub is_before : ℕ → ℕ → Bool
+is_before a b = ltb a b
 
 -- each started 900,000 ms; it is the least number of them that holds the time (`quarters-least`)
 unfoldable pub quarters : ℕ → ℕ
 quarters millis = (millis + 899999) / 900000
 
 -- from one millisecond to another
-abbrev pub quartersBetween : ℕ → ℕ → ℕ
-quartersBetween start end = quarters (end - start)
+abbrev pub quarters_between : ℕ → ℕ → ℕ
+quarters_between start end = quarters (end - start)
 
-unfoldable pub overLimit : ℕ → ℕ → ℕ → ℕ → Bool
-overLimit q rate a b = ltb 1000000 q || (ltb 1000000 rate || (ltb 1000000 a || ltb 1000000 b))
+unfoldable pub over_limit : ℕ → ℕ → ℕ → ℕ → Bool
+over_limit q rate a b = ltb 1000000 q || (ltb 1000000 rate || (ltb 1000000 a || ltb 1000000 b))
 
 -- the part of the total by metres of all the line, rounded down, and its remainder
-abbrev pub shareDown : ℕ → ℕ → ℕ → ℕ
-shareDown total metres all = total * metres / all
+abbrev pub share_down : ℕ → ℕ → ℕ → ℕ
+share_down total metres all = total * metres / all
 
 abbrev pub remainder : ℕ → ℕ → ℕ → ℕ
 remainder total metres all = total * metres % all
 
 -- what both parts leave of the total: nothing or one cent (`left-at-most-one`)
-abbrev pub centLeft : ℕ → ℕ → ℕ → ℕ
-centLeft total a b = total - shareDown total a (a + b) - shareDown total b (a + b)
+abbrev pub cent_left : ℕ → ℕ → ℕ → ℕ
+cent_left total a b = total - share_down total a (a + b) - share_down total b (a + b)
 
 abbrev pub bill : ℕ → ℕ → ℕ → Bill
 bill q first second = record { quarters = q; first = first; second = second }
@@ -40,19 +40,19 @@ bill q first second = record { quarters = q; first = first; second = second }
 unfoldable pub shares : ℕ → ℕ → ℕ → ℕ → Bill
 shares q total a b =
     cond (ltb (remainder total a (a + b)) (remainder total b (a + b)))
-    (bill q (shareDown total a (a + b)) (shareDown total b (a + b) + centLeft total a b))
-    (bill q (shareDown total a (a + b) + centLeft total a b) (shareDown total b (a + b)))
+    (bill q (share_down total a (a + b)) (share_down total b (a + b) + cent_left total a b))
+    (bill q (share_down total a (a + b) + cent_left total a b) (share_down total b (a + b)))
 
-unfoldable pub billBetween : ℕ → ℕ → ℕ → ℕ → ℕ → Outcome Bill
-billBetween start end rate a b =
-    cond (isBefore end start) (refusal 26)
-    (cond (overLimit (quartersBetween start end) rate a b) (refusal 27)
+unfoldable pub bill_between : ℕ → ℕ → ℕ → ℕ → ℕ → Outcome Bill
+bill_between start end rate a b =
+    cond (is_before end start) (refusal 26)
+    (cond (over_limit (quarters_between start end) rate a b) (refusal 27)
     (cond (eqb (a + b) 0) (refusal 28)
-    (answer (shares (quartersBetween start end) (quartersBetween start end * rate) a b))))
+    (answer (shares (quarters_between start end) (quarters_between start end * rate) a b))))
 
 -- the start is looked at before the end
-unfoldable pub standbyBill : List Row → UtcTime → UtcTime → ℕ → ℕ → ℕ → Outcome Bill
-standbyBill rows start end rate a b =
+unfoldable pub standby_bill : List Row → UtcTime → UtcTime → ℕ → ℕ → ℕ → Outcome Bill
+standby_bill rows start end rate a b =
     onward (instant rows start) (λ s.
     onward (instant rows end) (λ e.
-    billBetween s e rate a b))
+    bill_between s e rate a b))

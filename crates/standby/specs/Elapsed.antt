@@ -6,11 +6,11 @@ use Rattle.standby.specs.declared.UtcTime.{UtcTime}
 abbrev pub at0h : ℤ → ℕ → ℕ → UtcTime
 at0h y m d = record { year = y; month = m; day = d; hour = 0; minute = 0; second = 0; millis = 0 }
 
-abbrev pub dayStart : UtcTime → UtcTime
-dayStart t = at0h t.year t.month t.day
+abbrev pub day_start : UtcTime → UtcTime
+day_start t = at0h t.year t.month t.day
 
-abbrev pub dateStart : CalendarDate → UtcTime
-dateStart d = at0h d.year d.month d.day
+abbrev pub date_start : CalendarDate → UtcTime
+date_start d = at0h d.year d.month d.day
 
-abbrev pub clockMs : UtcTime → ℕ
-clockMs t = ((t.hour * 60 + t.minute) * 60 + t.second) * 1000 + t.millis
+abbrev pub clock_ms : UtcTime → ℕ
+clock_ms t = ((t.hour * 60 + t.minute) * 60 + t.second) * 1000 + t.millis

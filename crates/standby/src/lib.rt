@@ -3,11 +3,11 @@
 ghost use Rattle.std.specs.Prelude.{◌≡◌, ◌+◌, ◌*◌, ◌≤◌, ◌<◌};
 ghost use Rattle.refusals.specs.Outcome.{answer, onward};
 ghost use Rattle.leap_table.specs.rows.Announced.{rows_of, table_of};
-ghost use Rattle.standby.specs.Times.{inItsDay, lastMinute, timeSeconds};
+ghost use Rattle.standby.specs.Times.{in_its_day, last_minute, time_seconds};
 ghost use Rattle.standby.specs.Times as T;
-ghost use Rattle.standby.specs.Bills.{overLimit, shares, billBetween, standbyBill};
+ghost use Rattle.standby.specs.Bills.{over_limit, shares, bill_between, standby_bill};
 ghost use Rattle.standby.specs.Bills as B;
-ghost use Rattle.standby.specs.Answers.{instantMs, instantOutcome, billOutcome};
+ghost use Rattle.standby.specs.Answers.{instant_ms, instant_outcome, bill_outcome};
 ghost use Rattle.standby.specs.Asked.{Dated, InstantIs, SmallInstant, StartFirst, InLimits};
 
 use calendar::{CalendarDate, MjdAnswer, NextDay};
@@ -59,8 +59,8 @@ enum InstantAnswer {
 
 // The seconds of the day's last minute: 60, and one more or less where the table steps with the next date. `offset` is TAI-UTC on the date.
 fn last_minute(t: UtcTime, next: CalendarDate, offset: u32, table: AnnouncedRows) -> u32
-    requires { (offset ≡ T.offsetOnDate (rows_of table) t) × (offset ≤ 60) }
-    ensures { result ≡ lastMinute (rows_of table) t next }
+    requires { (offset ≡ T.offset_on_date (rows_of table) t) × (offset ≤ 60) }
+    ensures { result ≡ last_minute (rows_of table) t next }
 {
     if next.year == t.year {
         if next.month == t.month as u32 {
@@ -72,7 +72,7 @@ fn last_minute(t: UtcTime, next: CalendarDate, offset: u32, table: AnnouncedRows
 
 // Whether the time is one of a day whose last minute has `last` seconds.
 fn in_its_day(t: UtcTime, last: u32) -> bool
-    ensures { result ≡ inItsDay t last }
+    ensures { result ≡ in_its_day t last }
 {
     if 23 < t.hour {
         return false;
@@ -93,7 +93,7 @@ fn in_its_day(t: UtcTime, last: u32) -> bool
 
 // The seconds of the day before the time.
 fn time_seconds(t: UtcTime) -> u64
-    ensures { (result ≡ timeSeconds t) × (result < 1000000) }
+    ensures { (result ≡ time_seconds t) × (result < 1000000) }
 {
     3600 * (t.hour as u64) + 60 * (t.minute as u64) + t.second as u64
 }
@@ -101,7 +101,7 @@ fn time_seconds(t: UtcTime) -> u64
 // The instant of a time on Modified Julian Date `day`, whose next date is `next`. Refusal 4: the time is not in the day.
 fn at_time(t: UtcTime, day: u64, next: CalendarDate, table: AnnouncedRows) -> InstantAnswer
     requires { Dated table t day next }
-    ensures { InstantIs (T.instantOn (rows_of table) t next) result }
+    ensures { InstantIs (T.instant_on (rows_of table) t next) result }
 {
     let offset = leap_table::offsets::whole_seconds_by_rows(t.year, t.month as u32, table);
     let last = last_minute(t, next, offset, table);
@@ -137,7 +137,7 @@ fn instant_of(t: UtcTime, table: AnnouncedRows) -> InstantAnswer
 // Whether a is earlier than b.
 fn is_before(a: Instant, b: Instant) -> bool
     requires { (SmallInstant a) × (SmallInstant b) }
-    ensures { result ≡ B.isBefore (instantMs a) (instantMs b) }
+    ensures { result ≡ B.is_before (instant_ms a) (instant_ms b) }
 {
     if a.seconds < b.seconds {
         return true;
@@ -151,7 +151,7 @@ fn is_before(a: Instant, b: Instant) -> bool
 // The started quarter hours from start to end: those of the started seconds, so that no milliseconds are counted, which might not fit.
 fn quarters_between(start: Instant, end: Instant) -> u64
     requires { StartFirst start end }
-    ensures { result ≡ B.quartersBetween (instantMs start) (instantMs end) }
+    ensures { result ≡ B.quarters_between (instant_ms start) (instant_ms end) }
 {
     let seconds = end.seconds - start.seconds;
     if start.millis < end.millis {
@@ -162,7 +162,7 @@ fn quarters_between(start: Instant, end: Instant) -> u64
 
 // Whether a number of the bill is over its limit.
 fn over_limit(quarters: u64, rate: u32, first_metres: u32, second_metres: u32) -> bool
-    ensures { result ≡ overLimit quarters rate first_metres second_metres }
+    ensures { result ≡ over_limit quarters rate first_metres second_metres }
 {
     if LIMIT < quarters {
         return true;
@@ -212,7 +212,7 @@ fn bill_between(
     second_metres: u32,
 ) -> BillAnswer
     requires { (SmallInstant start) × (SmallInstant end) }
-    ensures { billOutcome result ≡ billBetween (instantMs start) (instantMs end) rate first_metres second_metres }
+    ensures { bill_outcome result ≡ bill_between (instant_ms start) (instant_ms end) rate first_metres second_metres }
 {
     if is_before(end, start) {
         return BillAnswer::Refused(refusals::END_BEFORE_START);
@@ -242,7 +242,7 @@ pub fn standby_bill(
     second_metres: u32,
     table: AnnouncedRows,
 ) -> BillAnswer
-    ensures { billOutcome result ≡ onward (table_of table) (λ rows. standbyBill rows start end rate first_metres second_metres) }
+    ensures { bill_outcome result ≡ onward (table_of table) (λ rows. standby_bill rows start end rate first_metres second_metres) }
 {
     let number = leap_table::rows::table_refusal(table);
     if number != 0 {

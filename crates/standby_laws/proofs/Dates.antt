@@ -10,13 +10,13 @@ use lib.Signed.{lt_z}
 use borrow.Author.Tests.{ltb-true, ltb-false, lt-ltb, le-ltb, eqb-true, eqb-false, eq-eqb}
 use Rattle.refusals.specs.Outcome.{answer}
 use Rattle.calendar.specs.declared.CalendarDate.{CalendarDate}
-use Rattle.calendar.specs.Calendar.{date, dateAt, next, leapYear, monthLength}
-use Rattle.calendar.specs.Refusals.{validDate}
-use Rattle.calendar.specs.DayCount.{mjdNumber}
+use Rattle.calendar.specs.Calendar.{date, date_at, next, leap_year, month_length}
+use Rattle.calendar.specs.Refusals.{valid_date}
+use Rattle.calendar.specs.DayCount.{mjd_number}
 use Rattle.calendar.specs.InCalendar.{InCalendar}
 use Rattle.calendar.proofs.Accepted.{short}
 use Rattle.calendar.proofs.Days.{after, date-at-in-calendar}
-use Rattle.calendar.proofs.Years.{years-later}
+use Rattle.calendar.proofs.Years.{years_later}
 use Rattle.calendar.proofs.Mjd.{day-of-date}
 use Rattle.standby.proofs.Times.{mjd-natural}
 use Rattle.standby.proofs.Elapsed.{year-later}
@@ -38,19 +38,19 @@ one-year (negsuc n) e = absurd (true≢false e)
 
 next-rises : (t : CalendarDate) → InCalendar t → From t.year → key_of t < key_of (next t)
 unfolding next
-next-rises t c p = go (ltb t.day (monthLength t.year t.month)) (ltb t.month 12) refl
+next-rises t c p = go (ltb t.day (month_length t.year t.month)) (ltb t.month 12) refl
   where
     few : t.day ≤ 31
-    few = omega (arith, c.d-high, short (leapYear t.year) t.month c.m-low c.m-high)
+    few = omega (arith, c.d_high, short (leap_year t.year) t.month c.m_low c.m_high)
 
     go : (a b : Bool) → ltb t.month 12 ≡ b
         → key_of t < key_of (cond a (date t.year t.month (t.day + 1)) (cond b (date t.year (t.month + 1) 1) (date (suc_ℤ t.year) 1 1)))
     go true b e = omega arith
     go false true e = omega (arith, few)
-    go false false e = omega (arith, few, one-year t.year p, c.m-high)
+    go false false e = omega (arith, few, one-year t.year p, c.m_high)
 
-step : (k : ℕ) → From (dateAt k).year → key_of (dateAt k) < key_of (dateAt (suc k))
-step k p = subst (λ (t : CalendarDate). key_of (dateAt k) < key_of t) (sym (after k)) (next-rises (dateAt k) (date-at-in-calendar k) p)
+step : (k : ℕ) → From (date_at k).year → key_of (date_at k) < key_of (date_at (suc k))
+step k p = subst (λ (t : CalendarDate). key_of (date_at k) < key_of t) (sym (after k)) (next-rises (date_at k) (date-at-in-calendar k) p)
 
 pub smaller : (a b : ℕ) → (a ≡ b → ⊥) → a ≤ b → a < b
 smaller a b n l = pick (ltb a b) refl
@@ -59,19 +59,19 @@ smaller a b n l = pick (ltb a b) refl
     pick true q = ltb-true a b q
     pick false q = absurd (n (omega (arith, ltb-false a b q)))
 
-rises : (k j : ℕ) → j < k → From (dateAt j).year → key_of (dateAt j) < key_of (dateAt k)
+rises : (k j : ℕ) → j < k → From (date_at j).year → key_of (date_at j) < key_of (date_at k)
 rises zero j h p = absurd (omega arith)
 rises (suc k) j h p = go (eqb j k) refl (λ l. rises k j l p)
   where
-    go : (b : Bool) → eqb j k ≡ b → (j < k → key_of (dateAt j) < key_of (dateAt k)) → key_of (dateAt j) < key_of (dateAt (suc k))
-    go true e more = subst (λ (i : ℕ). key_of (dateAt j) < key_of (dateAt (suc i))) (eqb-true j k e) (step j p)
+    go : (b : Bool) → eqb j k ≡ b → (j < k → key_of (date_at j) < key_of (date_at k)) → key_of (date_at j) < key_of (date_at (suc k))
+    go true e more = subst (λ (i : ℕ). key_of (date_at j) < key_of (date_at (suc i))) (eqb-true j k e) (step j p)
     go false e more =
         let l : j < k = smaller j k (eqb-false j k e) (omega arith) in
-        omega (arith, more l, step k (years-later From year-later j k (omega (arith, l)) p))
+        omega (arith, more l, step k (years_later From year-later j k (omega (arith, l)) p))
 
 -- ---- by the Modified Julian Date
 abbrev pub mjd : ℤ → ℕ → ℕ → ℕ
-mjd y m d = nat_abs (mjdNumber y (pos m) (pos d))
+mjd y m d = nat_abs (mjd_number y (pos m) (pos d))
 
 unsub : (k c n : ℕ) → sub_ℕ k c ≡ pos n → k ≡ n + c
 unsub k c n e = go (ltb k c) refl e
@@ -80,24 +80,24 @@ unsub k c n e = go (ltb k c) refl e
     go true p q = let z : ◌≡◌ {A = ℕ} 0 1 = cc in absurd (omega arith)
     go false p q = omega (arith, ltb-false k c p, ap nat_abs q)
 
-module _ (y : ℤ) (m d : ℕ) (p : From y) (v : validDate y (pos m) (pos d) ≡ answer tt) where
-  day-is : dateAt (mjd y m d + 2578142) ≡ date y m d
-  day-is =
+module _ (y : ℤ) (m d : ℕ) (p : From y) (v : valid_date y (pos m) (pos d) ≡ answer tt) where
+  day_is : date_at (mjd y m d + 2578142) ≡ date y m d
+  day_is =
       let k = day-of-date y (pos m) (pos d) v in
-      ap dateAt (sym (unsub k.0 2578142 (mjd y m d) (sym k.1 ∙ mjd-natural y (pos m) (pos d) p))) ∙ k.2
+      ap date_at (sym (unsub k.0 2578142 (mjd y m d) (sym k.1 ∙ mjd-natural y (pos m) (pos d) p))) ∙ k.2
 
-module _ (y : ℤ) (m d : ℕ) (p : From y) (v : validDate y (pos m) (pos d) ≡ answer tt) (y' : ℤ) (m' d' : ℕ) (p' : From y')
-    (v' : validDate y' (pos m') (pos d') ≡ answer tt) where
+module _ (y : ℤ) (m d : ℕ) (p : From y) (v : valid_date y (pos m) (pos d) ≡ answer tt) (y' : ℤ) (m' d' : ℕ) (p' : From y')
+    (v' : valid_date y' (pos m') (pos d') ≡ answer tt) where
   pub earlier-day : mjd y m d < mjd y' m' d' → key (nat_abs y) m d < key (nat_abs y') m' d'
   earlier-day h =
-      let a = day-is y m d p v in
-      let b = day-is y' m' d' p' v' in
+      let a = day_is y m d p v in
+      let b = day_is y' m' d' p' v' in
       subst (λ (t : CalendarDate). key_of t < key (nat_abs y') m' d') a
-      (subst (λ (t : CalendarDate). key_of (dateAt (mjd y m d + 2578142)) < key_of t) b
+      (subst (λ (t : CalendarDate). key_of (date_at (mjd y m d + 2578142)) < key_of t) b
       (rises (mjd y' m' d' + 2578142) (mjd y m d + 2578142) (omega arith) (subst (λ (t : CalendarDate). From t.year) (sym a) p)))
 
   pub same-date : mjd y m d ≡ mjd y' m' d' → date y m d ≡ date y' m' d'
-  same-date e = sym (day-is y m d p v) ∙ ap (λ (k : ℕ). dateAt (k + 2578142)) e ∙ day-is y' m' d' p' v'
+  same-date e = sym (day_is y m d p v) ∙ ap (λ (k : ℕ). date_at (k + 2578142)) e ∙ day_is y' m' d' p' v'
 
 -- ---- year before month before day
 module _ (y m d y' m' d' : ℕ) (r r' : List ℕ) (hm : m ≤ 12) (hd : d ≤ 31) (hm' : m' ≤ 12) (hd' : d' ≤ 31) where

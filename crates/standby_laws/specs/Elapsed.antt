@@ -4,25 +4,25 @@ use Rattle.std.specs.Prelude.{ℕ, ◌+◌, ◌≡◌, List, ℤ, pos, Float}
 use Rattle.refusals.specs.Outcome.{answer}
 use Rattle.floats.specs.Whole.{nought, one}
 use Rattle.leap_table.specs.rows.Table.{Row}
-use Rattle.leap_table.specs.offsets.Leap.{leapAtEndOfDay}
-use Rattle.time_of_day.specs.ExactTime.{minus-one-f}
+use Rattle.leap_table.specs.offsets.Leap.{leap_at_end_of_day}
+use Rattle.time_of_day.specs.ExactTime.{minus_one_f}
 use Rattle.standby.specs.declared.UtcTime.{UtcTime}
 use Rattle.standby.specs.Times.{instant}
-use Rattle.standby.specs.Elapsed.{dayStart, clockMs}
+use Rattle.standby.specs.Elapsed.{day_start, clock_ms}
 
 pub data ElapsedBy (x : Float) (s e : ℕ) : Type 0 where
-  no-leap : x ≡ nought → e ≡ s + 86400000 → ElapsedBy x s e
+  no_leap : x ≡ nought → e ≡ s + 86400000 → ElapsedBy x s e
   leap-second : x ≡ one → e ≡ s + 86401000 → ElapsedBy x s e
-  second-less : x ≡ minus-one-f → e ≡ s + 86399000 → ElapsedBy x s e
+  second_less : x ≡ minus_one_f → e ≡ s + 86399000 → ElapsedBy x s e
 
 -- the leap of the date, and the length by it
 pub record DayElapsed (rows : List Row) (y : ℤ) (m d s e : ℕ) : Type 0 where
   pub leap : Float
-  pub is : leapAtEndOfDay rows y (pos m) (pos d) ≡ answer leap
+  pub is : leap_at_end_of_day rows y (pos m) (pos d) ≡ answer leap
   pub length : ElapsedBy leap s e
 
 -- midnight before a time is taken where the time is, and the clock has gone on since by what it shows
 pub record ByClock (rows : List Row) (t : UtcTime) (e : ℕ) : Type 0 where
   pub begin : ℕ
-  pub is : instant rows (dayStart t) ≡ answer begin
-  pub since : e ≡ begin + clockMs t
+  pub is : instant rows (day_start t) ≡ answer begin
+  pub since : e ≡ begin + clock_ms t

@@ -3,8 +3,8 @@ use Rattle.std.specs.Prelude.{ℕ, Bool, false, cond, List, [], ◌∷◌, ltb, 
 use Rattle.standby.specs.declared.UtcTime.{UtcTime}
 
 -- years from 1972 on are their own size
-abbrev pub sevenFields : UtcTime → List ℕ
-sevenFields t = nat_abs t.year ∷ t.month ∷ t.day ∷ t.hour ∷ t.minute ∷ t.second ∷ t.millis ∷ []
+abbrev pub seven_fields : UtcTime → List ℕ
+seven_fields t = nat_abs t.year ∷ t.month ∷ t.day ∷ t.hour ∷ t.minute ∷ t.second ∷ t.millis ∷ []
 
 -- the first element that differs is less
 abbrev pub less_by : List ℕ → List ℕ → Bool

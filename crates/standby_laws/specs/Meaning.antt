@@ -5,13 +5,13 @@ use Rattle.refusals.specs.Outcome.{Outcome, answer, refusal}
 use Rattle.leap_table.specs.rows.Table.{Row}
 use Rattle.standby.specs.declared.UtcTime.{UtcTime}
 use Rattle.standby.specs.declared.Bill.{Bill}
-use Rattle.standby.specs.Times.{taiMs, instant}
-use Rattle.standby.specs.Bills.{billBetween}
+use Rattle.standby.specs.Times.{tai_ms, instant}
+use Rattle.standby.specs.Bills.{bill_between}
 use Rattle.standby_laws.specs.Decisions.{BillDecision}
 
 pub data BillMeaning (rows : List Row) (start end : UtcTime) (rate a b : ℕ) (o : Outcome Bill) : Type 0 where
-  faulty-start : (k : ℕ) → instant rows start ≡ refusal k → o ≡ refusal k → BillMeaning rows start end rate a b o
-  faulty-end : instant rows start ≡ answer (taiMs rows start) → (k : ℕ) → instant rows end ≡ refusal k → o ≡ refusal k → BillMeaning rows start end rate a b o
-  both-taken : instant rows start ≡ answer (taiMs rows start) → instant rows end ≡ answer (taiMs rows end)
-      → o ≡ billBetween (taiMs rows start) (taiMs rows end) rate a b
-      → BillDecision (taiMs rows start) (taiMs rows end) rate a b → BillMeaning rows start end rate a b o
+  faulty_start : (k : ℕ) → instant rows start ≡ refusal k → o ≡ refusal k → BillMeaning rows start end rate a b o
+  faulty_end : instant rows start ≡ answer (tai_ms rows start) → (k : ℕ) → instant rows end ≡ refusal k → o ≡ refusal k → BillMeaning rows start end rate a b o
+  both_taken : instant rows start ≡ answer (tai_ms rows start) → instant rows end ≡ answer (tai_ms rows end)
+      → o ≡ bill_between (tai_ms rows start) (tai_ms rows end) rate a b
+      → BillDecision (tai_ms rows start) (tai_ms rows end) rate a b → BillMeaning rows start end rate a b o

@@ -4,12 +4,12 @@ use Rattle.refusals.specs.Outcome.{Outcome, answer, onward}
 use Rattle.constants.specs.Constants.{decimal}
 use Rattle.julian.specs.declared.JulianDate.{JulianDate}
 use Rattle.leap_table.specs.rows.Table.{Row}
-use Rattle.utc.specs.FromCalendar.{utcFromCalendar}
+use Rattle.utc.specs.FromCalendar.{utc_from_calendar}
 use Rattle.standby.specs.declared.UtcTime.{UtcTime}
 
-abbrev pub faultOf : {A : Type 0} → Outcome A → Outcome Unit
-faultOf o = onward o (λ _. answer tt)
+abbrev pub fault_of : {A : Type 0} → Outcome A → Outcome Unit
+fault_of o = onward o (λ _. answer tt)
 
 -- the second is the float nearest to the seconds and milliseconds
-abbrev pub asCalendar : List Row → UtcTime → Outcome JulianDate
-asCalendar rows t = utcFromCalendar rows t.year t.month t.day t.hour t.minute (decimal (1000 * t.second + t.millis) 3)
+abbrev pub as_calendar : List Row → UtcTime → Outcome JulianDate
+as_calendar rows t = utc_from_calendar rows t.year t.month t.day t.hour t.minute (decimal (1000 * t.second + t.millis) 3)

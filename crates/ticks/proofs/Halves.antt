@@ -24,16 +24,16 @@ halves a c d p =
     (mul_right_comm q 1048576 d))
     ∙ mul-add-div_right p (q * 1048576) (s * 1048576 + l * c)
 
-product-most : (a c A C : ℕ) → a ≤ A → c ≤ C → a * c ≤ A * C
-product-most a c A C u v = mul-le-mul u v
+product_most : (a c A C : ℕ) → a ≤ A → c ≤ C → a * c ≤ A * C
+product_most a c A C u v = mul-le-mul u v
 
 -- a half below 2 ^ 20 times a number below 2 ^ 40
 pub part_small : (h c : ℕ) → h < 1048576 → c < 1099511627776 → h * c ≤ 1048575 * 1099511627775
-part_small h c x y = product-most h c 1048575 1099511627775 (omega arith) (omega arith)
+part_small h c x y = product_most h c 1048575 1099511627775 (omega arith) (omega arith)
 
 -- two numbers below 2 ^ 32
-pub product-fits : (a c : ℕ) → a < 4294967296 → c < 4294967296 → a * c ≤ 4294967295 * 4294967295
-product-fits a c x y = product-most a c 4294967295 4294967295 (omega arith) (omega arith)
+pub product_fits : (a c : ℕ) → a < 4294967296 → c < 4294967296 → a * c ≤ 4294967295 * 4294967295
+product_fits a c x y = product_most a c 4294967295 4294967295 (omega arith) (omega arith)
 
 pub quotient-small : (a c d : ℕ) → a ≤ d → a * c / d ≤ c
 quotient-small a c d h = div-le_of_le-mul d (mul-le-mul_right c h)

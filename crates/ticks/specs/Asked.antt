@@ -28,11 +28,11 @@ pub record NearPass (ps : List ℕ) (k j t : ℕ) : Type 0 where
 -- two neighbours, the tick between them
 pub record TickBetween (ps ms : List ℕ) (j t : ℕ) : Type 0 where
   pub few : j ≤ 1998
-  pub ticks-there : 8 * j + 16 ≤ length ps
-  pub millis-there : 8 * j + 16 ≤ length ms
+  pub ticks_there : 8 * j + 16 ≤ length ps
+  pub millis_there : 8 * j + 16 ≤ length ms
   pub from : number_at ps j ≤ t
   pub to : t ≤ number_at ps (j + 1)
-  pub ticks-rise : number_at ps j < number_at ps (j + 1)
-  pub ticks-small : number_at ps (j + 1) < 0x100_0000_0000
+  pub ticks_rise : number_at ps j < number_at ps (j + 1)
+  pub ticks_small : number_at ps (j + 1) < 0x100_0000_0000
   pub millis-rise : number_at ms j ≤ number_at ms (j + 1)
-  pub millis-small : number_at ms (j + 1) < 0x100_0000_0000
+  pub millis_small : number_at ms (j + 1) < 0x100_0000_0000

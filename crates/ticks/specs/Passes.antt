@@ -9,18 +9,18 @@ pub record Passes : Type 0 where
   pub milli : ℕ → ℕ
 
 -- the last of the passes 0 to k that is not after tick t; 0 where there is none
-unfoldable pub lastNotAfter : (ℕ → ℕ) → ℕ → ℕ → ℕ
-lastNotAfter tick t zero = zero
-lastNotAfter tick t (suc k) = cond (leb (tick (suc k)) t) (suc k) (lastNotAfter tick t k)
+unfoldable pub last_not_after : (ℕ → ℕ) → ℕ → ℕ → ℕ
+last_not_after tick t zero = zero
+last_not_after tick t (suc k) = cond (leb (tick (suc k)) t) (suc k) (last_not_after tick t k)
 
 -- the millisecond of tick t on the line between the passes j and j + 1
-abbrev pub millisBetween : Passes → ℕ → ℕ → ℕ
-millisBetween p j t = line_at (p.tick j) (p.milli j) (p.tick (j + 1)) (p.milli (j + 1)) t
+abbrev pub millis_between : Passes → ℕ → ℕ → ℕ
+millis_between p j t = line_at (p.tick j) (p.milli j) (p.tick (j + 1)) (p.milli (j + 1)) t
 
 -- The millisecond of tick t: on the line from the last pass, of all but the very last, that is not after it, to the next. Any other two neighbours that hold
 -- the tick give the same (`on_line`).
-unfoldable pub millisAt : Passes → ℕ → ℕ
-millisAt p t = millisBetween p (lastNotAfter p.tick t (p.size - 2)) t
+unfoldable pub millis_at : Passes → ℕ → ℕ
+millis_at p t = millis_between p (last_not_after p.tick t (p.size - 2)) t
 
 -- r is the millisecond of tick t by some two neighbours that hold it
 pub record OnSomeLine (p : Passes) (t r : ℕ) : Type 0 where
@@ -28,4 +28,4 @@ pub record OnSomeLine (p : Passes) (t r : ℕ) : Type 0 where
   pub next : j + 1 < p.size
   pub from : p.tick j ≤ t
   pub to : t ≤ p.tick (j + 1)
-  pub is : r ≡ millisBetween p j t
+  pub is : r ≡ millis_between p j t

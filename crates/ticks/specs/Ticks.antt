@@ -2,37 +2,37 @@
 -- 10, and item 2: "spare places of a lent list stay, here and later". Which lists are refused says ticks::judging. Assumes nothing.
 use Rattle.std.specs.Prelude.{ℕ, zero, suc, ◌≡◌, cond, List, [], ◌++◌, length, drop, eqb}
 use Rattle.refusals.specs.Outcome.{Outcome, answer, refusal, onward}
-use Rattle.numerals.specs.little_endian.LittleEndian.{eightBytes}
+use Rattle.numerals.specs.little_endian.LittleEndian.{eight_bytes}
 use Rattle.ticks.specs.declared.TicksAnswer.{TicksAnswer}
 use Rattle.ticks.specs.declared.TicksAnswer.TheVariants.{Written, Refused}
-use Rattle.ticks.specs.judging.Refusing.{number_at, numbersIn, refusedBy}
-use Rattle.ticks.specs.Passes.{Passes, millisAt}
+use Rattle.ticks.specs.judging.Refusing.{number_at, numbers_in, refused_by}
+use Rattle.ticks.specs.Passes.{Passes, millis_at}
 
-abbrev pub passesOf : List ℕ → List ℕ → Passes
-passesOf ps ms = record { size = numbersIn ps; tick = number_at ps; milli = number_at ms }
+abbrev pub passes_of : List ℕ → List ℕ → Passes
+passes_of ps ms = record { size = numbers_in ps; tick = number_at ps; milli = number_at ms }
 
 -- the bytes of f 0, f 1, .. f (k - 1)
 unfoldable pub bytes_of : (ℕ → ℕ) → ℕ → List ℕ
 bytes_of f zero = []
-bytes_of f (suc k) = bytes_of f k ++ eightBytes (f k)
+bytes_of f (suc k) = bytes_of f k ++ eight_bytes (f k)
 
 -- the bytes of the milliseconds, or the refusal
-unfoldable pub placedTicks : List ℕ → List ℕ → List ℕ → ℕ → Outcome (List ℕ)
-placedTicks ps ms ts room =
-    cond (eqb (refusedBy ps ms ts room) 0)
-    (answer (bytes_of (λ i. millisAt (passesOf ps ms) (number_at ts i)) (numbersIn ts)))
-    (refusal (refusedBy ps ms ts room))
+unfoldable pub placed_ticks : List ℕ → List ℕ → List ℕ → ℕ → Outcome (List ℕ)
+placed_ticks ps ms ts room =
+    cond (eqb (refused_by ps ms ts room) 0)
+    (answer (bytes_of (λ i. millis_at (passes_of ps ms) (number_at ts i)) (numbers_in ts)))
+    (refusal (refused_by ps ms ts room))
 
-unfoldable pub ticksOutcome : TicksAnswer → Outcome ℕ
-ticksOutcome (Written n) = answer n
-ticksOutcome (Refused k) = refusal k
+unfoldable pub ticks_outcome : TicksAnswer → Outcome ℕ
+ticks_outcome (Written n) = answer n
+ticks_outcome (Refused k) = refusal k
 
 -- the results at the start of the lent list and the rest as it was; refused, all as it was
-unfoldable pub lentAfter : Outcome (List ℕ) → List ℕ → List ℕ
-lentAfter (answer bytes) l = bytes ++ drop (length bytes) l
-lentAfter (refusal k) l = l
+unfoldable pub lent_after : Outcome (List ℕ) → List ℕ → List ℕ
+lent_after (answer bytes) l = bytes ++ drop (length bytes) l
+lent_after (refusal k) l = l
 
 -- r is the number of bytes written, or the refusal, and the lent list, which held `before`, holds `after`
 pub record TicksCall (o : Outcome (List ℕ)) (before : List ℕ) (r : TicksAnswer) (after : List ℕ) : Type 0 where
-  pub says : ticksOutcome r ≡ onward o (λ bytes. answer (length bytes))
-  pub holds : after ≡ lentAfter o before
+  pub says : ticks_outcome r ≡ onward o (λ bytes. answer (length bytes))
+  pub holds : after ≡ lent_after o before

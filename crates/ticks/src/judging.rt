@@ -1,7 +1,7 @@
 // Passes and ticks judged before one is placed. Lists are bytes: eight for a number, the lowest first.
 ghost use Rattle.std.specs.Prelude.{◌≡◌, ◌&&◌, ◌+◌, ◌*◌, ◌≤◌, length};
-ghost use Rattle.ticks.specs.judging.Numbers.{allSmall, allRising, inside};
-ghost use Rattle.ticks.specs.judging.Refusing.{number_at, wholeNumbers, wellCounted, judgedBy, passesRefusal, refusedBy};
+ghost use Rattle.ticks.specs.judging.Numbers.{all_small, all_rising, inside};
+ghost use Rattle.ticks.specs.judging.Refusing.{number_at, whole_numbers, well_counted, judged_by, passes_refusal, refused_by};
 
 // Ticks and milliseconds are below 2^40.
 const LIMIT: u64 = 0x100_0000_0000;
@@ -19,7 +19,7 @@ pub(crate) fn number_at(s: &[u8], i: usize) -> u64
 // Whether the first n numbers are below 2^40.
 fn all_small(s: &[u8], n: usize) -> bool
     requires { (n ≤ 2000) × (8 * n ≤ length s.now) }
-    ensures { result ≡ allSmall n (number_at s.now) }
+    ensures { result ≡ all_small n (number_at s.now) }
 {
     let mut i = 0;
     while i < n {
@@ -34,7 +34,7 @@ fn all_small(s: &[u8], n: usize) -> bool
 // Whether each of the first n numbers but the last is below the next.
 fn all_rising(s: &[u8], n: usize) -> bool
     requires { (1 ≤ n) × (n ≤ 2000) × (8 * n ≤ length s.now) }
-    ensures { result ≡ allRising n (number_at s.now) }
+    ensures { result ≡ all_rising n (number_at s.now) }
 {
     let last = n - 1;
     let mut before = number_at(s, 0);
@@ -71,7 +71,7 @@ fn all_inside(s: &[u8], n: usize, first: u64, last: u64) -> bool
 
 // Whether the passes are as many in both lists, 2 to 2,000.
 fn well_counted(passes: &[u8], millis: &[u8]) -> bool
-    ensures { result ≡ wellCounted passes.now millis.now }
+    ensures { result ≡ well_counted passes.now millis.now }
 {
     let n = passes.len() / 8;
     if n != millis.len() / 8 {
@@ -85,14 +85,14 @@ fn well_counted(passes: &[u8], millis: &[u8]) -> bool
 
 fn both_small(passes: &[u8], millis: &[u8], n: usize) -> bool
     requires { (n ≤ 2000) × (8 * n ≤ length passes.now) × (8 * n ≤ length millis.now) }
-    ensures { result ≡ allSmall n (number_at passes.now) && allSmall n (number_at millis.now) }
+    ensures { result ≡ all_small n (number_at passes.now) && all_small n (number_at millis.now) }
 {
     all_small(passes, n) && all_small(millis, n)
 }
 
 fn both_rising(passes: &[u8], millis: &[u8], n: usize) -> bool
     requires { (1 ≤ n) × (n ≤ 2000) × (8 * n ≤ length passes.now) × (8 * n ≤ length millis.now) }
-    ensures { result ≡ allRising n (number_at passes.now) && allRising n (number_at millis.now) }
+    ensures { result ≡ all_rising n (number_at passes.now) && all_rising n (number_at millis.now) }
 {
     all_rising(passes, n) && all_rising(millis, n)
 }
@@ -101,7 +101,7 @@ fn both_rising(passes: &[u8], millis: &[u8], n: usize) -> bool
 // at twice.
 fn judged(passes: &[u8], millis: &[u8], n: usize) -> u32
     requires { (1 ≤ n) × (n ≤ 2000) × (8 * n ≤ length passes.now) × (8 * n ≤ length millis.now) }
-    ensures { result ≡ judgedBy n (number_at passes.now) (number_at millis.now) }
+    ensures { result ≡ judged_by n (number_at passes.now) (number_at millis.now) }
 {
     if !both_rising(passes, millis, n) {
         if both_small(passes, millis, n) {
@@ -120,7 +120,7 @@ fn judged(passes: &[u8], millis: &[u8], n: usize) -> u32
 
 // Whether three lists are made of numbers of eight bytes.
 pub(crate) fn whole_lists(passes: &[u8], millis: &[u8], ticks: &[u8]) -> bool
-    ensures { result ≡ (wholeNumbers passes.now && (wholeNumbers millis.now && wholeNumbers ticks.now)) }
+    ensures { result ≡ (whole_numbers passes.now && (whole_numbers millis.now && whole_numbers ticks.now)) }
 {
     if passes.len() % 8 != 0 {
         return false;
@@ -133,7 +133,7 @@ pub(crate) fn whole_lists(passes: &[u8], millis: &[u8], ticks: &[u8]) -> bool
 
 // The number of the refusal for the passes, or 0.
 pub(crate) fn passes_refused_by(passes: &[u8], millis: &[u8]) -> u32
-    ensures { result ≡ passesRefusal passes.now millis.now }
+    ensures { result ≡ passes_refusal passes.now millis.now }
 {
     if !well_counted(passes, millis) {
         return refusals::PASSES_NOT_USABLE;
@@ -143,7 +143,7 @@ pub(crate) fn passes_refused_by(passes: &[u8], millis: &[u8]) -> u32
 
 // The number of the refusal, or 0. All is judged before a place is written.
 pub fn refused_by(passes: &[u8], millis: &[u8], ticks: &[u8], room: usize) -> u32
-    ensures { result ≡ refusedBy passes.now millis.now ticks.now room }
+    ensures { result ≡ refused_by passes.now millis.now ticks.now room }
 {
     if !whole_lists(passes, millis, ticks) {
         return refusals::LENGTH_WRONG;

@@ -1,10 +1,10 @@
 // Ticks between marker passes, as TAI milliseconds. Lists are bytes: eight for a number, the lowest first.
 ghost use Rattle.std.specs.Prelude.{◌≡◌, ◌++◌, ◌+◌, ◌-◌, ◌*◌, ◌/◌, ◌<◌, ◌≤◌, length, drop};
 ghost use Rattle.std.proofs.lemmas.List.Edits.{sets};
-ghost use Rattle.numerals.specs.little_endian.LittleEndian.{eightBytes};
-ghost use Rattle.ticks.specs.Passes.{lastNotAfter, millisBetween, millisAt};
+ghost use Rattle.numerals.specs.little_endian.LittleEndian.{eight_bytes};
+ghost use Rattle.ticks.specs.Passes.{last_not_after, millis_between, millis_at};
 ghost use Rattle.ticks.specs.judging.Refusing.{number_at};
-ghost use Rattle.ticks.specs.Ticks.{passesOf, bytes_of, placedTicks, TicksCall};
+ghost use Rattle.ticks.specs.Ticks.{passes_of, bytes_of, placed_ticks, TicksCall};
 ghost use Rattle.ticks.specs.judging.GoodCalls.{GoodCall};
 ghost use Rattle.ticks.specs.Asked.{Sought, FoundPass, NearPass, TickBetween};
 
@@ -66,7 +66,7 @@ fn last_not_after(passes: &[u8], low: usize, high: usize, t: u64) -> usize
 // The last of the passes 0 to k that is not after tick t. Rising ticks find it near the last one's, j; any other is sought by halving.
 fn neighbour(passes: &[u8], k: usize, j: usize, t: u64) -> usize
     requires { NearPass passes.now k j t }
-    ensures { result ≡ lastNotAfter (number_at passes.now) t k }
+    ensures { result ≡ last_not_after (number_at passes.now) t k }
 {
     if t < number_at(passes, j) {
         return last_not_after(passes, 0, j, t);
@@ -86,7 +86,7 @@ fn neighbour(passes: &[u8], k: usize, j: usize, t: u64) -> usize
 // The millisecond of tick t on the line between the passes j and j + 1.
 fn millis_between(passes: &[u8], millis: &[u8], j: usize, t: u64) -> u64
     requires { TickBetween passes.now millis.now j t }
-    ensures { result ≡ millisBetween (passesOf passes.now millis.now) j t }
+    ensures { result ≡ millis_between (passes_of passes.now millis.now) j t }
 {
     let t0 = number_at(passes, j);
     let t1 = number_at(passes, j + 1);
@@ -98,7 +98,7 @@ fn millis_between(passes: &[u8], millis: &[u8], j: usize, t: u64) -> u64
 // The eight bytes of a number at a place of the lent list.
 fn put_number(out: &mut [u8], at: usize, n: u64)
     requires { at + 8 ≤ length out.old }
-    ensures { out.new ≡ sets out.old at (eightBytes n) }
+    ensures { out.new ≡ sets out.old at (eight_bytes n) }
 {
     let end = at + 8;
     numerals::little_endian::put_u64(&mut out[at..end], n);
@@ -107,7 +107,7 @@ fn put_number(out: &mut [u8], at: usize, n: u64)
 // Places n ticks between k + 2 passes.
 fn place_all(passes: &[u8], millis: &[u8], k: usize, ticks: &[u8], n: usize, out: &mut [u8])
     requires { (GoodCall passes.now millis.now k n ticks.now) × (8 * n ≤ length out.old) }
-    ensures { out.new ≡ bytes_of (λ i. millisAt (passesOf passes.now millis.now) (number_at ticks.now i)) n
+    ensures { out.new ≡ bytes_of (λ i. millis_at (passes_of passes.now millis.now) (number_at ticks.now i)) n
         ++ drop (8 * n) out.old }
 {
     let mut j = 0;
@@ -124,7 +124,7 @@ fn place_all(passes: &[u8], millis: &[u8], k: usize, ticks: &[u8], n: usize, out
 // Gives each tick its TAI millisecond, rounded down. Refusals in order: 14 a length that is no multiple of 8; 11 fewer places than ticks; 23 unequal, too few
 // or too many passes or too large a number in them; 24 passes not strictly rising in both; 25 a tick outside them.
 pub fn place_ticks(passes: &[u8], millis: &[u8], ticks: &[u8], out: &mut [u8]) -> TicksAnswer
-    ensures { TicksCall (placedTicks passes.now millis.now ticks.now (length out.old)) out.old result
+    ensures { TicksCall (placed_ticks passes.now millis.now ticks.now (length out.old)) out.old result
         out.new }
 {
     let number = crate::judging::refused_by(passes, millis, ticks, out.len());

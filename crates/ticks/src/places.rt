@@ -1,8 +1,8 @@
 // The place on the pipe of each reading of a run: its millisecond on the straight line between the marker passes beside it. Lists are bytes: eight for a
 // number, the lowest first; a reading's own number is one byte.
 ghost use Rattle.std.specs.Prelude.{◌≡◌, ◌≤◌, length};
-ghost use Rattle.ticks.specs.Ticks.{passesOf};
-ghost use Rattle.ticks.specs.places.Places.{readingAt, placesRefusal, placesOutcome, placesCall, placedRun};
+ghost use Rattle.ticks.specs.Ticks.{passes_of};
+ghost use Rattle.ticks.specs.places.Places.{reading_at, places_refusal, places_outcome, places_call, placed_run};
 ghost use Rattle.ticks.specs.places.Asked.{HasReading, ReadingPut, HasReadings, ReadingsPut};
 
 use crate::judging::number_at;
@@ -16,7 +16,7 @@ pub enum PlacesAnswer {
 
 // The number of the refusal of the whole call, or 0.
 fn refused_by(passes: &[u8], places: &[u8], millis: &[u8], count: usize, room: usize) -> u32
-    ensures { result ≡ placesRefusal passes.now places.now millis.now count room }
+    ensures { result ≡ places_refusal passes.now places.now millis.now count room }
 {
     if !crate::judging::whole_lists(passes, places, millis) {
         return refusals::LENGTH_WRONG;
@@ -52,7 +52,7 @@ fn place_reading(
     out: &mut [u8],
 ) -> Placed
     requires { HasReading passes.now places.now k j first last i out.old }
-    ensures { ReadingPut (passesOf passes.now places.now) k number m i out.old result.number result.near
+    ensures { ReadingPut (passes_of passes.now places.now) k number m i out.old result.number result.near
         out.new }
 {
     if number != 0 {
@@ -87,7 +87,7 @@ fn place_all(
     numbers: &mut [u8],
 ) -> usize
     requires { HasReadings passes.now places.now k millis.now n out.old numbers.old }
-    ensures { ReadingsPut (readingAt passes.now places.now millis.now numbers.old) n out.old
+    ensures { ReadingsPut (reading_at passes.now places.now millis.now numbers.old) n out.old
         numbers.old result out.new numbers.new }
 {
     let first = number_at(passes, 0);
@@ -120,7 +120,7 @@ pub fn place_readings(
     out: &mut [u8],
     numbers: &mut [u8],
 ) -> PlacesAnswer
-    ensures { placesCall (placesOutcome result) out.new numbers.new ≡ placedRun passes.now places.now
+    ensures { places_call (places_outcome result) out.new numbers.new ≡ placed_run passes.now places.now
         millis.now out.old numbers.old }
 {
     let number = refused_by(passes, places, millis, numbers.len(), out.len());

@@ -1,4 +1,4 @@
--- The float chain of `millisOf`, before it is rounded to a whole number: 1000 * (86400 * (f + f * l / 86400)), in units of 2 ^ -1074, for f = F / L below 1 and
+-- The float chain of `millis_of`, before it is rounded to a whole number: 1000 * (86400 * (f + f * l / 86400)), in units of 2 ^ -1074, for f = F / L below 1 and
 -- l = (B - C) / E at most 1 in size. It is within 305445864 * 2 ^ -53 of the exact product. U is 2 ^ -53 in units: every step's error is a multiple of it.
 -- Assumes nothing.
 use mathlib.Core.Path.{◌≡◌, refl, sym, subst, subst₂}
@@ -10,12 +10,12 @@ use lib.Dec.{lit≤, lit<}
 use lib.Pow.{pow_pos}
 use lib.Ieee.{Float, binary64, of_bits, add, mul, div}
 use Rattle.rounding.specs.Value.{Val, Rounds, L}
-use Rattle.rounding.proofs.Value.{mul-rounds, rounds-move, L-pos}
-use Rattle.rounding.proofs.Near.{NearSum, add-near}
-use Rattle.rounding.proofs.Scaled.{Scaled, scaled-near, div-near}
-use Rattle.time_of_day.specs.Milliseconds.{fractionSeconds, thousand-f, day-f}
-use Rattle.time_of_day.proofs.ChainNumbers.{in_one, size-one, in_two, size-two, in_three, in-three', size-three, size-three', in_four, size-four}
-use Rattle.time_of_day.proofs.ChainNumbers.{in-five, gather, gather', finish, finish'}
+use Rattle.rounding.proofs.Value.{mul_rounds, rounds-move, L-pos}
+use Rattle.rounding.proofs.Near.{NearSum, add_near}
+use Rattle.rounding.proofs.Scaled.{Scaled, scaled_near, div_near}
+use Rattle.time_of_day.specs.Milliseconds.{fraction_seconds, thousand_f, day_f}
+use Rattle.time_of_day.proofs.ChainNumbers.{in_one, size-one, in_two, size-two, in_three, in_three', size-three, size-three', in_four, size-four}
+use Rattle.time_of_day.proofs.ChainNumbers.{in_five, gather, gather', finish, finish'}
 
 -- shut, as L is: `omega` takes it for an unknown
 unfoldable pub U : ℕ
@@ -53,29 +53,29 @@ l101 : 2 ^ 1101 ≡ 134217728 * L
 unfolding L
 l101 = refl
 
-day-val : Val day-f 86400 0 1
+day-val : Val day_f 86400 0 1
 unfolding of_bits
 day-val = record { sign = false; size = 86400; has = (refl, refl); is = refl }
 
-thousand-val : Val thousand-f 1000 0 1
+thousand_val : Val thousand_f 1000 0 1
 unfolding of_bits
-thousand-val = record { sign = false; size = 1000; has = (refl, refl); is = refl }
+thousand_val = record { sign = false; size = 1000; has = (refl, refl); is = refl }
 
 -- a whole constant, on the left, times a value
 module _ (j : ℕ) {x y : Float} {P N B : ℕ} where
-  times-near : j ≤ 2044 → P * B < N * B + 2 ^ (53 + j) * 1 → N * B < P * B + 2 ^ (53 + j) * 1 → Val y B 0 1 → Val x P N L → Scaled (mul binary64 y x) P N B 1 j
-  times-near b u l w v = scaled-near j (lit< tt) b u l
+  times_near : j ≤ 2044 → P * B < N * B + 2 ^ (53 + j) * 1 → N * B < P * B + 2 ^ (53 + j) * 1 → Val y B 0 1 → Val x P N L → Scaled (mul binary64 y x) P N B 1 j
+  times_near b u l w v = scaled_near j (lit< tt) b u l
       (rounds-move (subst (λ (d : ℕ). Rounds binary64 (mul binary64 y x) (B * P + 0 * N) (B * N + 0 * P) d) (mul_comm 1 L)
-      (mul-rounds binary64 (lit< tt) L-pos w v)) (omega arith))
+      (mul_rounds binary64 (lit< tt) L-pos w v)) (omega arith))
 
 -- a fraction F / L times (B - C) / E
 module _ (j : ℕ) {x y : Float} {F B C E : ℕ} where
   signed-near : j ≤ 2044 → 0 < E → F * B < F * C + 2 ^ (53 + j) * E → F * C < F * B + 2 ^ (53 + j) * E → Val x F 0 L → Val y B C E
       → Scaled (mul binary64 x y) (F * B) (F * C) 1 E j
-  signed-near b G u l v w = scaled-near j G b
+  signed-near b G u l v w = scaled_near j G b
       (subst₂ (λ (s t : ℕ). s < t + 2 ^ (53 + j) * E) (sym (mul-one (F * B))) (sym (mul-one (F * C))) u)
       (subst₂ (λ (s t : ℕ). s < t + 2 ^ (53 + j) * E) (sym (mul-one (F * C))) (sym (mul-one (F * B))) l)
-      (rounds-move (mul-rounds binary64 L-pos G v w) (go (F * B) (F * C) (0 * B) (0 * C) (zero-mul B) (zero-mul C)))
+      (rounds-move (mul_rounds binary64 L-pos G v w) (go (F * B) (F * C) (0 * B) (0 * C) (zero-mul B) (zero-mul C)))
     where
       go : (b c zb zc : ℕ) → zb ≡ 0 → zc ≡ 0 → b + zc + c * 1 ≡ b * 1 + (c + zb)
       go b c zb zc e f = omega arith
@@ -123,8 +123,8 @@ module _ (F B C E : ℕ) (f l : Float) (vf : Val f F 0 L) (vl : Val l B C E) (G 
   t1 : x1.n ≤ x1.p + L + U
   t1 = size-one (F * C) (F * B) E L U x1.n x1.p (2 ^ 1022) G u22 fc x1.under
 
-  x2 : Scaled (div binary64 (mul binary64 f l) day-f) x1.p x1.n 1 86400 1022
-  x2 = div-near 1022 86400 (lit< tt) (lit≤ tt) (in_two x1.p x1.n L U (2 ^ 1075) l75 L-pos u-le s1)
+  x2 : Scaled (div binary64 (mul binary64 f l) day_f) x1.p x1.n 1 86400 1022
+  x2 = div_near 1022 86400 (lit< tt) (lit≤ tt) (in_two x1.p x1.n L U (2 ^ 1075) l75 L-pos u-le s1)
       (in_two x1.n x1.p L U (2 ^ 1075) l75 L-pos u-le t1) x1.val day-val
 
   s2 : 86400 * x2.p ≤ 86400 * x2.n + L + 86401 * U
@@ -133,8 +133,8 @@ module _ (F B C E : ℕ) (f l : Float) (vf : Val f F 0 L) (vl : Val l B C E) (G 
   t2 : 86400 * x2.n ≤ 86400 * x2.p + L + 86401 * U
   t2 = size-two x1.n x1.p L U x2.n x2.p (2 ^ 1022) u22 t1 x2.under
 
-  x3 : NearSum (add binary64 f (div binary64 (mul binary64 f l) day-f)) (F + x2.p) (0 + x2.n) 1022
-  x3 = add-near 1022 (lit≤ tt) (in_three F x2.p x2.n L U (2 ^ 1075) l75 hf u-small s2) (in-three' F x2.p x2.n L U (2 ^ 1075) l75 hf u-small t2) vf
+  x3 : NearSum (add binary64 f (div binary64 (mul binary64 f l) day_f)) (F + x2.p) (0 + x2.n) 1022
+  x3 = add_near 1022 (lit≤ tt) (in_three F x2.p x2.n L U (2 ^ 1075) l75 hf u-small s2) (in_three' F x2.p x2.n L U (2 ^ 1075) l75 hf u-small t2) vf
       x2.val
 
   s3 : 86400 * x3.p ≤ 86400 * x3.n + 86401 * L + 172801 * U
@@ -143,9 +143,9 @@ module _ (F B C E : ℕ) (f l : Float) (vf : Val f F 0 L) (vl : Val l B C E) (G 
   t3 : 86400 * x3.n ≤ 86400 * x3.p + 86401 * L + 172801 * U
   t3 = size-three' F x2.p x2.n x3.p x3.n L U (2 ^ 1022) u22 t2 x3.under
 
-  x4 : Scaled (fractionSeconds f l) x3.p x3.n 86400 1 1038
-  unfolding fractionSeconds
-  x4 = times-near 1038 (lit≤ tt) (in_four x3.p x3.n L U (2 ^ 1091) l91 L-pos u-small s3) (in_four x3.n x3.p L U (2 ^ 1091) l91 L-pos u-small t3)
+  x4 : Scaled (fraction_seconds f l) x3.p x3.n 86400 1 1038
+  unfolding fraction_seconds
+  x4 = times_near 1038 (lit≤ tt) (in_four x3.p x3.n L U (2 ^ 1091) l91 L-pos u-small s3) (in_four x3.n x3.p L U (2 ^ 1091) l91 L-pos u-small t3)
       day-val x3.val
 
   s4 : x4.p ≤ x4.n + 86401 * L + 238337 * U
@@ -154,11 +154,11 @@ module _ (F B C E : ℕ) (f l : Float) (vf : Val f F 0 L) (vl : Val l B C E) (G 
   t4 : x4.n ≤ x4.p + 86401 * L + 238337 * U
   t4 = size-four x3.n x3.p x4.n x4.p L U (2 ^ 1038) u38 t3 x4.under
 
-  x5 : Scaled (mul binary64 thousand-f (fractionSeconds f l)) x4.p x4.n 1000 1 1048
-  x5 = times-near 1048 (lit≤ tt) (in-five x4.p x4.n L U (2 ^ 1101) l101 L-pos u-small s4) (in-five x4.n x4.p L U (2 ^ 1101) l101 L-pos u-small t4)
-      thousand-val x4.val
+  x5 : Scaled (mul binary64 thousand_f (fraction_seconds f l)) x4.p x4.n 1000 1 1048
+  x5 = times_near 1048 (lit≤ tt) (in_five x4.p x4.n L U (2 ^ 1101) l101 L-pos u-small s4) (in_five x4.n x4.p L U (2 ^ 1101) l101 L-pos u-small t4)
+      thousand_val x4.val
 
-  pub chained : Chained (mul binary64 thousand-f (fractionSeconds f l)) F B C E
+  pub chained : Chained (mul binary64 thousand_f (fraction_seconds f l)) F B C E
   chained = record {
     p = x5.p;
     n = x5.n;

@@ -30,8 +30,8 @@ size-two p n l u a b z e h k = omega arith
 pub in_three : (F a b l u w : ℕ) → w ≡ 2 * l → F < l → 1000000000 * u ≤ l → 86400 * a ≤ 86400 * b + l + 86401 * u → F + a < 0 + b + w
 in_three F a b l u w e h g k = omega arith
 
-pub in-three' : (F a b l u w : ℕ) → w ≡ 2 * l → F < l → 1000000000 * u ≤ l → 86400 * b ≤ 86400 * a + l + 86401 * u → 0 + b < F + a + w
-in-three' F a b l u w e h g k = omega arith
+pub in_three' : (F a b l u w : ℕ) → w ≡ 2 * l → F < l → 1000000000 * u ≤ l → 86400 * b ≤ 86400 * a + l + 86401 * u → 0 + b < F + a + w
+in_three' F a b l u w e h g k = omega arith
 
 pub size-three : (F a b c d l u z : ℕ) → z ≡ 2 * u → F < l → 86400 * a ≤ 86400 * b + l + 86401 * u → 2 * (c + (0 + b)) ≤ 2 * (d + (F + a)) + z
     → 86400 * c ≤ 86400 * d + 86401 * l + 172801 * u
@@ -48,8 +48,8 @@ pub size-four : (c d s t l u z : ℕ) → z ≡ 131072 * u → 86400 * c ≤ 864
     → 2 * (1 * s + 86400 * d) ≤ 2 * (1 * t + 86400 * c) + 1 * z → s ≤ t + 86401 * l + 238337 * u
 size-four c d s t l u z e h k = omega arith
 
-pub in-five : (s t l u w : ℕ) → w ≡ 134217728 * l → 0 < l → 1000000000 * u ≤ l → s ≤ t + 86401 * l + 238337 * u → s * 1000 < t * 1000 + w * 1
-in-five s t l u w e h g k = omega arith
+pub in_five : (s t l u w : ℕ) → w ≡ 134217728 * l → 0 < l → 1000000000 * u ≤ l → s ≤ t + 86401 * l + 238337 * u → s * 1000 < t * 1000 + w * 1
+in_five s t l u w e h g k = omega arith
 
 -- all but the first step: it is linear
 pub gather : (F p n a b c d s t x y u z2 z8 z9 : ℕ) → z2 ≡ 2 * u → z8 ≡ 131072 * u → z9 ≡ 134217728 * u

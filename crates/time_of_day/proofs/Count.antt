@@ -9,32 +9,32 @@ use mathlib.Core.Bool.{Bool}
 use lib.IntN.{ℤ, pos, negsuc}
 use lib.Ieee.{Float, binary64, mul}
 use Rattle.rounding.specs.Value.{Val, L}
-use Rattle.rounding.proofs.Casts.{plusZ, minusZ, one_side}
+use Rattle.rounding.proofs.Casts.{plus_z, minus_z, one_side}
 use Rattle.rounding.proofs.Range.{Between}
-use Rattle.time_of_day.specs.Milliseconds.{thousand-f, fractionSeconds, millisOf}
+use Rattle.time_of_day.specs.Milliseconds.{thousand_f, fraction_seconds, millis_of}
 use Rattle.time_of_day.specs.Nearest.{Nearest}
 use Rattle.time_of_day.specs.ExactTime.{TimeWithin}
 use Rattle.time_of_day.proofs.Chain.{U, U_pos, L-is-U, u-small, leap-part, Chained, chained}
 use Rattle.time_of_day.proofs.Rounded.{IsWhole, rounded}
-use Rattle.time_of_day.proofs.Fractions.{AsUnits, WithinOne, as-fraction, at_most, at_least}
+use Rattle.time_of_day.proofs.Fractions.{AsUnits, WithinOne, as_fraction, at_most, at_least}
 
 -- ---- the count is not below 0
-not-below : (p n u l m k : ℕ) → l ≡ 9007199254740992 * u → 0 < u → n ≤ p + 305445864 * u → k ≡ 0 → 2 * (m + p) ≤ 2 * (k + n) + l → m < 1 * l
-not-below p n u l m k e h g f i = omega arith
+not_below : (p n u l m k : ℕ) → l ≡ 9007199254740992 * u → 0 < u → n ≤ p + 305445864 * u → k ≡ 0 → 2 * (m + p) ≤ 2 * (k + n) + l → m < 1 * l
+not_below p n u l m k e h g f i = omega arith
 
-pos_of : (z : ℤ) → minusZ z ≡ 0 → z ≡ pos (plusZ z)
+pos_of : (z : ℤ) → minus_z z ≡ 0 → z ≡ pos (plus_z z)
 pos_of (pos a) h = refl
 pos_of (negsuc a) h = let w : ⊥ = omega arith in absurd w
 
-lt-one : (m : ℕ) → m < 1 → m ≡ 0
-lt-one m h = omega arith
+lt_one : (m : ℕ) → m < 1 → m ≡ 0
+lt_one m h = omega arith
 
-no_minus : (z : ℤ) (p n : ℕ) → IsWhole z p n → n ≤ p + 305445864 * U → minusZ z ≡ 0
+no_minus : (z : ℤ) (p n : ℕ) → IsWhole z p n → n ≤ p + 305445864 * U → minus_z z ≡ 0
 no_minus z p n w h = go (one_side z)
   where
-    go : (plusZ z ≡ 0) ⊎ (minusZ z ≡ 0) → minusZ z ≡ 0
-    go (inl e) = lt-one (minusZ z) (lt_of_mul-lt-mul_right L
-        (not-below p n U L (minusZ z * L) (plusZ z * L) L-is-U U_pos h (ap (λ (x : ℕ). x * L) e ∙ zero-mul L) w.under))
+    go : (plus_z z ≡ 0) ⊎ (minus_z z ≡ 0) → minus_z z ≡ 0
+    go (inl e) = lt_one (minus_z z) (lt_of_mul-lt-mul_right L
+        (not_below p n U L (minus_z z * L) (plus_z z * L) L-is-U U_pos h (ap (λ (x : ℕ). x * L) e ∙ zero-mul L) w.under))
     go (inr e) = e
 
 -- ---- the chain's result, rounded
@@ -146,45 +146,45 @@ module _ (F B C E p n k : ℕ) (G : 0 < E) (hf : F < L) (hb : B ≤ C + E) (hc :
 -- ---- what the count is
 pub record CountedTo (how : Bool → ℕ → ℕ → ℕ) (f l : Float) (u : AsUnits f) : Type 0 where
   pub k : ℕ
-  pub is : millisOf how f l ≡ pos k
+  pub is : millis_of how f l ≡ pos k
   pub close : (B C E W : ℕ) → 0 < E → Val l B C E → W + C ≡ 86400 * E + B → TimeWithin 16777216 8388609 (k * E) u.F L W E
 
 module _ (how : Bool → ℕ → ℕ → ℕ) (rule : Nearest how) (f l : Float) (u : AsUnits f) (h : WithinOne l) where
   module _ (B C E : ℕ) (G : 0 < E) (v : Val l B C E) where
-    c : Chained (mul binary64 thousand-f (fractionSeconds f l)) u.F B C E
+    c : Chained (mul binary64 thousand_f (fraction_seconds f l)) u.F B C E
     c = chained u.F B C E f l u.val v G u.most (at_most G v h) (at_least G v h)
 
-    w : IsWhole (millisOf how f l) c.p c.n
-    unfolding millisOf
+    w : IsWhole (millis_of how f l) c.p c.n
+    unfolding millis_of
     w = rounded how rule c.val (high u.F B C E c.p c.n 0 G u.most (at_most G v h) (at_least G v h) c.over c.under)
         (low' u.F B C E c.p c.n 0 G u.most (at_most G v h) (at_least G v h) c.over c.under)
 
-    none : minusZ (millisOf how f l) ≡ 0
-    none = no_minus (millisOf how f l) c.p c.n w (low u.F B C E c.p c.n 0 G u.most (at_most G v h) (at_least G v h) c.over c.under)
+    none : minus_z (millis_of how f l) ≡ 0
+    none = no_minus (millis_of how f l) c.p c.n w (low u.F B C E c.p c.n 0 G u.most (at_most G v h) (at_least G v h) c.over c.under)
 
-    wo : 2 * (plusZ (millisOf how f l) * L + c.n) ≤ 2 * (0 * L + c.p) + L
-    wo = subst (λ (m : ℕ). 2 * (plusZ (millisOf how f l) * L + c.n) ≤ 2 * (m * L + c.p) + L) none w.over
+    wo : 2 * (plus_z (millis_of how f l) * L + c.n) ≤ 2 * (0 * L + c.p) + L
+    wo = subst (λ (m : ℕ). 2 * (plus_z (millis_of how f l) * L + c.n) ≤ 2 * (m * L + c.p) + L) none w.over
 
-    wu : 2 * (0 * L + c.p) ≤ 2 * (plusZ (millisOf how f l) * L + c.n) + L
-    wu = subst (λ (m : ℕ). 2 * (m * L + c.p) ≤ 2 * (plusZ (millisOf how f l) * L + c.n) + L) none w.under
+    wu : 2 * (0 * L + c.p) ≤ 2 * (plus_z (millis_of how f l) * L + c.n) + L
+    wu = subst (λ (m : ℕ). 2 * (m * L + c.p) ≤ 2 * (plus_z (millis_of how f l) * L + c.n) + L) none w.under
 
-    close_at : (W : ℕ) → W + C ≡ 86400 * E + B → TimeWithin 16777216 8388609 (plusZ (millisOf how f l) * E) u.F L W E
-    close_at W long = close u.F B C E c.p c.n (plusZ (millisOf how f l)) G u.most (at_most G v h) (at_least G v h) c.over c.under wo wu W long
+    close_at : (W : ℕ) → W + C ≡ 86400 * E + B → TimeWithin 16777216 8388609 (plus_z (millis_of how f l) * E) u.F L W E
+    close_at W long = close u.F B C E c.p c.n (plus_z (millis_of how f l)) G u.most (at_most G v h) (at_least G v h) c.over c.under wo wu W long
 
   pub counted : CountedTo how f l u
   counted =
-      let a = as-fraction l h in
+      let a = as_fraction l h in
       record {
-        k = plusZ (millisOf how f l);
-        is = pos_of (millisOf how f l) (none a.B a.C a.E a.some a.val);
+        k = plus_z (millis_of how f l);
+        is = pos_of (millis_of how f l) (none a.B a.C a.E a.some a.val);
         close =
             λ B C E W G v long. close_at B C E G v W long;
       }
 
 -- ---- the product itself is below 2 ^ 51 in size
-pub product-between : (f l : Float) (u : AsUnits f) → WithinOne l → Between (mul binary64 thousand-f (fractionSeconds f l)) 51
-product-between f l u h =
-    let a = as-fraction l h in
+pub product_between : (f l : Float) (u : AsUnits f) → WithinOne l → Between (mul binary64 thousand_f (fraction_seconds f l)) 51
+product_between f l u h =
+    let a = as_fraction l h in
     let B = a.B in
     let C = a.C in
     let E = a.E in

@@ -10,17 +10,17 @@ use lib.IntN.{pos}
 use lib.Ieee.{Float, binary64, of_int, mul, eq, fits}
 use borrow.Author.Tests.{ltb-true, eqb-true}
 use Rattle.rounding.specs.Value.{Val, Rounds, L, InUnit}
-use Rattle.rounding.proofs.Value.{L-pos, mul-rounds, rounds-move, val-scale, val-unscale, val-finite, has-unique}
+use Rattle.rounding.proofs.Value.{L-pos, mul_rounds, rounds-move, val-scale, val-unscale, val-finite, has-unique}
 use Rattle.rounding.proofs.Own.{Rep, own}
 use Rattle.rounding.proofs.Sterbenz.{rounds-rep}
-use Rattle.rounding.proofs.Casts.{ofInt-val}
+use Rattle.rounding.proofs.Casts.{of_int_val}
 use Rattle.rounding.proofs.Compare.{eq_val}
-use Rattle.time_of_day.specs.HalfEven.{two52-f, gridUnits, worth, dayIsWhole, inWhole}
-use Rattle.time_of_day.proofs.Fractions.{AsUnits, in-units, size_is}
-use Rattle.time_of_day.proofs.EvenExact.{two52-val}
+use Rattle.time_of_day.specs.HalfEven.{two52_f, grid_units, worth, day_is_whole, in_whole}
+use Rattle.time_of_day.proofs.Fractions.{AsUnits, in_units, size_is}
+use Rattle.time_of_day.proofs.EvenExact.{two52_val}
 
-scaled-rep : (g : ℕ) → Rep g → Rep (g * 4503599627370496)
-scaled-rep g r = record {
+scaled_rep : (g : ℕ) → Rep g → Rep (g * 4503599627370496)
+scaled_rep g r = record {
   q = r.q;
   j = r.j + 52;
   is = ap (λ (z : ℕ). z * 4503599627370496) r.is ∙ mul_assoc r.q (2 ^ r.j) 4503599627370496 ∙ ap (λ (z : ℕ). r.q * z) (sym (pow-add 2 r.j 52));
@@ -33,11 +33,11 @@ most = lit≤ tt
 
 module _ (f : Float) (t : T (fits binary64 f)) (i : InUnit f) where
   u : AsUnits f
-  u = in-units f t i
+  u = in_units f t i
 
   -- the product with 2 ^ 52 is exact, on the grid or off it
-  product : Val (mul binary64 f two52-f) (u.F * 4503599627370496) 0 L
-  product = rounds-rep r (subst Rep (sym is-size) (scaled-rep u.F rep))
+  product : Val (mul binary64 f two52_f) (u.F * 4503599627370496) 0 L
+  product = rounds-rep r (subst Rep (sym is-size) (scaled_rep u.F rep))
       (subst (λ (k : ℕ). k < 2 ^ 2098) (sym is-size) (lt_of_lt_of_le (go u.F L u.most) most))
     where
       plain : (F : ℕ) → F * 4503599627370496 + 0 * 0 + 0 ≡ F * 4503599627370496 + (F * 0 + 0 * 4503599627370496)
@@ -46,9 +46,9 @@ module _ (f : Float) (t : T (fits binary64 f)) (i : InUnit f) where
       go : (F l : ℕ) → F < l → F * 4503599627370496 < 4503599627370496 * l
       go F l h = omega arith
 
-      r : Rounds binary64 (mul binary64 f two52-f) (u.F * 4503599627370496) 0 L
-      r = rounds-move (subst (λ (d : ℕ). Rounds binary64 (mul binary64 f two52-f) (u.F * 4503599627370496 + 0 * 0) (u.F * 0 + 0 * 4503599627370496) d)
-          (mul-one L) (mul-rounds binary64 L-pos (lit< tt) u.val two52-val)) (plain u.F)
+      r : Rounds binary64 (mul binary64 f two52_f) (u.F * 4503599627370496) 0 L
+      r = rounds-move (subst (λ (d : ℕ). Rounds binary64 (mul binary64 f two52_f) (u.F * 4503599627370496 + 0 * 0) (u.F * 0 + 0 * 4503599627370496) d)
+          (mul-one L) (mul_rounds binary64 L-pos (lit< tt) u.val two52_val)) (plain u.F)
 
       is-size : r.size ≡ u.F * 4503599627370496
       is-size = size_is r.sign r.size (u.F * 4503599627370496) r.is
@@ -59,14 +59,14 @@ module _ (f : Float) (t : T (fits binary64 f)) (i : InUnit f) where
           subst Rep (has-unique f o.sign u.val.sign o.size u.val.size L o.has u.val.has
           ∙ size_is u.val.sign u.val.size u.F u.val.is) o.rep
 
-  on-grid : (n : ℕ) → worth n (mul binary64 f two52-f) ≡ true → Val f n 0 4503599627370496
+  on-grid : (n : ℕ) → worth n (mul binary64 f two52_f) ≡ true → Val f n 0 4503599627370496
   unfolding worth
   on-grid n = go (ltb n 4503599627370496) refl
     where
-      known : n < 4503599627370496 → eq (of_int binary64 (pos n)) (mul binary64 f two52-f) ≡ true → n * L + 0 ≡ u.F * 4503599627370496 + 0 * L
+      known : n < 4503599627370496 → eq (of_int binary64 (pos n)) (mul binary64 f two52_f) ≡ true → n * L + 0 ≡ u.F * 4503599627370496 + 0 * L
       known h e =
           let w : Val (of_int binary64 (pos n)) (n * L) (0 * L) L =
-          subst (λ (d : ℕ). Val (of_int binary64 (pos n)) (n * L) (0 * L) d) (one-mul L) (val-scale L (ofInt-val (pos n) (omega arith) (omega arith))) in
+          subst (λ (d : ℕ). Val (of_int binary64 (pos n)) (n * L) (0 * L) d) (one-mul L) (val-scale L (of_int_val (pos n) (omega arith) (omega arith))) in
           eqb-true _ _ (sym (eq_val L-pos w product) ∙ e)
 
       moved : n * L + 0 ≡ u.F * 4503599627370496 + 0 * L → Val f n 0 4503599627370496
@@ -78,15 +78,15 @@ module _ (f : Float) (t : T (fits binary64 f)) (i : InUnit f) where
           plain : (a b z : ℕ) → z ≡ 0 → a + 0 ≡ b + z → b ≡ a
           plain a b z p q = omega arith
 
-      go : (b : Bool) → ltb n 4503599627370496 ≡ b → cond b (eq (of_int binary64 (pos n)) (mul binary64 f two52-f)) false ≡ true → Val f n 0 4503599627370496
+      go : (b : Bool) → ltb n 4503599627370496 ≡ b → cond b (eq (of_int binary64 (pos n)) (mul binary64 f two52_f)) false ≡ true → Val f n 0 4503599627370496
       go true p e = moved (known (ltb-true n 4503599627370496 p) e)
       go false p e = let z : ◌≡◌ {A = ℕ} 0 1 = cc in absurd (omega arith)
 
   -- ONLY ON THE GRID: where whole numbers decide, the fraction is exactly its units
-  pub only-on-grid : (l : Float) → inWhole f l ≡ true → Val f (gridUnits f) 0 4503599627370496
-  unfolding inWhole
-  only-on-grid l = go (worth (gridUnits f) (mul binary64 f two52-f)) refl
+  pub only-on-grid : (l : Float) → in_whole f l ≡ true → Val f (grid_units f) 0 4503599627370496
+  unfolding in_whole
+  only-on-grid l = go (worth (grid_units f) (mul binary64 f two52_f)) refl
     where
-      go : (b : Bool) → worth (gridUnits f) (mul binary64 f two52-f) ≡ b → cond b (dayIsWhole l) false ≡ true → Val f (gridUnits f) 0 4503599627370496
-      go true p e = on-grid (gridUnits f) p
+      go : (b : Bool) → worth (grid_units f) (mul binary64 f two52_f) ≡ b → cond b (day_is_whole l) false ≡ true → Val f (grid_units f) 0 4503599627370496
+      go true p e = on-grid (grid_units f) p
       go false p e = let z : ◌≡◌ {A = ℕ} 0 1 = cc in absurd (omega arith)

@@ -8,8 +8,8 @@ use lib.Dec.{ltb}
 use lib.Ieee.Nearest.{div_same}
 use borrow.Author.Tests.{ltb-true, ltb-false}
 use Rattle.time_of_day.specs.Nearest.{Nearest}
-use Rattle.time_of_day.specs.HalfEven.{nearestEven, even}
-use Rattle.time_of_day.proofs.EvenSteps.{at-half, below_half, above_half}
+use Rattle.time_of_day.specs.HalfEven.{nearest_even, even}
+use Rattle.time_of_day.proofs.EvenSteps.{at_half, below_half, above_half}
 
 -- ---- a rest is below a half, at it, or above it
 pub data Side (r d : ℕ) : Type 0 where
@@ -26,13 +26,13 @@ side r d = go (ltb (2 * r) d) refl (ltb d (2 * r)) refl
     go false e false f = let x = ltb-false (2 * r) d e in let y = ltb-false d (2 * r) f in at (omega arith)
 
 -- ---- near
-near-rest : (q r d k : ℕ) → r < d → Side r d → k ≡ nearestEven q r d → (2 * (k * d) ≤ 2 * (q * d + r) + d) × (2 * (q * d + r) ≤ 2 * (k * d) + d)
+near-rest : (q r d k : ℕ) → r < d → Side r d → k ≡ nearest_even q r d → (2 * (k * d) ≤ 2 * (q * d + r) + d) × (2 * (q * d + r) ≤ 2 * (k * d) + d)
 near-rest q r d k h (below s) e =
     let i : k ≡ q = e ∙ sym (below_half q r d s) in
     let j : k * d ≡ q * d = ap (λ (z : ℕ). z * d) i in
     (omega arith, omega arith)
 near-rest q r d k h (at s) e =
-    let i : k ≡ q + q % 2 = e ∙ sym (at-half q r d s) in
+    let i : k ≡ q + q % 2 = e ∙ sym (at_half q r d s) in
     let j : k * d ≡ q * d + q % 2 * d = ap (λ (z : ℕ). z * d) i ∙ add-mul q (q % 2) d in
     let m : q % 2 * d ≤ 1 * d = mul-le-mul_right d (omega arith) in
     (omega arith, omega arith)
@@ -52,14 +52,14 @@ module _ (r d s c : ℕ) (h : 0 < d) (k : 0 < c) (e : r * c ≡ s * d) where
   twice-is : 2 * r * c ≡ 2 * s * d
   twice-is = mul_assoc 2 r c ∙ ap (λ (z : ℕ). 2 * z) e ∙ sym (mul_assoc 2 s d)
 
-  moves-below : 2 * r < d → 2 * s < c
-  moves-below t = lt_of_mul-lt-mul_right d (go (2 * r * c) (2 * s * d) (d * c) (c * d) twice-is (mul_comm d c) (mul-lt-mul_of_pos_right t k))
+  moves_below : 2 * r < d → 2 * s < c
+  moves_below t = lt_of_mul-lt-mul_right d (go (2 * r * c) (2 * s * d) (d * c) (c * d) twice-is (mul_comm d c) (mul-lt-mul_of_pos_right t k))
     where
       go : (a b x y : ℕ) → a ≡ b → x ≡ y → a < x → b < y
       go a b x y p q t = omega arith
 
-  moves-above : d < 2 * r → c < 2 * s
-  moves-above t = lt_of_mul-lt-mul_right d (go (2 * r * c) (2 * s * d) (d * c) (c * d) twice-is (mul_comm d c) (mul-lt-mul_of_pos_right t k))
+  moves_above : d < 2 * r → c < 2 * s
+  moves_above t = lt_of_mul-lt-mul_right d (go (2 * r * c) (2 * s * d) (d * c) (c * d) twice-is (mul_comm d c) (mul-lt-mul_of_pos_right t k))
     where
       go : (a b x y : ℕ) → a ≡ b → x ≡ y → x < a → y < b
       go a b x y p q t = omega arith
@@ -72,17 +72,17 @@ rests q n d m c a b e f g =
     go : (x y u v : ℕ) → x ≡ u → x + y ≡ u + v → y ≡ v
     go x y u v p q = omega arith
 
-same_rest : (q r d s c : ℕ) → 0 < d → 0 < c → r * c ≡ s * d → Side r d → Side s c → nearestEven q r d ≡ nearestEven q s c
-same_rest q r d s c h k e (below t) y = sym (below_half q r d t) ∙ below_half q s c (moves-below r d s c h k e t)
-same_rest q r d s c h k e (above t) y = sym (above_half q r d t) ∙ above_half q s c (moves-above r d s c h k e t)
-same_rest q r d s c h k e (at t) (at u) = sym (at-half q r d t) ∙ at-half q s c u
-same_rest q r d s c h k e (at t) (below u) = let x = moves-below s c r d k h (sym e) u in let z : ⊥ = omega arith in absurd z
-same_rest q r d s c h k e (at t) (above u) = let x = moves-above s c r d k h (sym e) u in let z : ⊥ = omega arith in absurd z
+same_rest : (q r d s c : ℕ) → 0 < d → 0 < c → r * c ≡ s * d → Side r d → Side s c → nearest_even q r d ≡ nearest_even q s c
+same_rest q r d s c h k e (below t) y = sym (below_half q r d t) ∙ below_half q s c (moves_below r d s c h k e t)
+same_rest q r d s c h k e (above t) y = sym (above_half q r d t) ∙ above_half q s c (moves_above r d s c h k e t)
+same_rest q r d s c h k e (at t) (at u) = sym (at_half q r d t) ∙ at_half q s c u
+same_rest q r d s c h k e (at t) (below u) = let x = moves_below s c r d k h (sym e) u in let z : ⊥ = omega arith in absurd z
+same_rest q r d s c h k e (at t) (above u) = let x = moves_above s c r d k h (sym e) u in let z : ⊥ = omega arith in absurd z
 
 same-even : (n d m c : ℕ) → 0 < d → 0 < c → n * c ≡ m * d → even false n d ≡ even false m c
 same-even n d m c h k e =
     let q : n / d ≡ m / c = div_same n d m c h k e in
-    ap (λ (z : ℕ). nearestEven z (n % d) d) q
+    ap (λ (z : ℕ). nearest_even z (n % d) d) q
     ∙ same_rest (m / c) (n % d) d (m % c) c h k
     (rests (m / c) n d m c (n % d) (m % c) (ap (λ (z : ℕ). z * d + n % d) (sym q) ∙ div-add-mod' n d) (div-add-mod' m c) e) (side (n % d) d)
     (side (m % c) c)
@@ -91,8 +91,8 @@ pub even-nearest : Nearest even
 even-nearest = record { near = λ s n d h. near_even n d h; same = λ s n d m c h k e. same-even n d m c h k e }
 
 -- ---- A TIE IS EVEN: of q + 1 / 2 the result is q or q + 1, whichever is even
-pub tie-even : (q r d : ℕ) → 2 * r ≡ d → nearestEven q r d % 2 ≡ 0
-tie-even q r d e = ap (λ (z : ℕ). z % 2) (sym (at-half q r d e)) ∙ go q
+pub tie_even : (q r d : ℕ) → 2 * r ≡ d → nearest_even q r d % 2 ≡ 0
+tie_even q r d e = ap (λ (z : ℕ). z % 2) (sym (at_half q r d e)) ∙ go q
   where
     go : (q : ℕ) → (q + q % 2) % 2 ≡ 0
     go q = omega arith

@@ -9,26 +9,26 @@ use lib.Ieee.Fits.{down_pos}
 use Rattle.floats.specs.Whole.{nought}
 use Rattle.rounding.specs.Value.{Val}
 use Rattle.rounding.proofs.Own.{plus-of, minus-of, signed_of}
-use Rattle.rounding.proofs.Compare.{lt-says}
-use Rattle.time_of_day.specs.TimeShown.{minuteOf, timeOf, dayEnd}
-use Rattle.time_of_day.specs.ExactTime.{second, timeMs, GoodTime}
+use Rattle.rounding.proofs.Compare.{lt_says}
+use Rattle.time_of_day.specs.TimeShown.{minute_of, time_of, day_end}
+use Rattle.time_of_day.specs.ExactTime.{second, time_ms, GoodTime}
 use Rattle.time_of_day.proofs.Fractions.{zero_val}
 
 total : (m r : ℕ) → 3600000 * (m / 60) + 60000 * (m % 60) + 1000 * (r / 1000) + r % 1000 ≡ 60000 * m + r
 total m r = omega arith
 
-minute-le : (k : ℕ) → 60000 * minuteOf k + (k - minuteOf k * 60000) ≡ k
+minute-le : (k : ℕ) → 60000 * minute_of k + (k - minute_of k * 60000) ≡ k
 minute-le k = omega arith
 
 -- the fields stand for the count
-pub fields-ms : (k : ℕ) → timeMs (timeOf k) ≡ k
-unfolding timeOf
-fields-ms k = total (minuteOf k) (k - minuteOf k * 60000) ∙ minute-le k
+pub fields-ms : (k : ℕ) → time_ms (time_of k) ≡ k
+unfolding time_of
+fields-ms k = total (minute_of k) (k - minute_of k * 60000) ∙ minute-le k
 
-rest_lt : (k : ℕ) → k < 86401000 → (minuteOf k ≤ 1439) × (k - minuteOf k * 60000 < 61000)
+rest_lt : (k : ℕ) → k < 86401000 → (minute_of k ≤ 1439) × (k - minute_of k * 60000 < 61000)
 rest_lt k h = omega arith
 
-last-minute : (k : ℕ) → 60000 ≤ k - minuteOf k * 60000 → (minuteOf k ≡ 1439) × (86400000 ≤ k)
+last-minute : (k : ℕ) → 60000 ≤ k - minute_of k * 60000 → (minute_of k ≡ 1439) × (86400000 ≤ k)
 last-minute k h = omega arith
 
 -- no float is both above 0 and below it
@@ -40,12 +40,12 @@ one_way (inf false) a b = b
 one_way (fin s m e) a b =
     let v : Val (fin s m e) (plus-of s (m * up e)) (minus-of s (m * up e)) (down e) =
     record { sign = s; size = m * up e; has = (refl, refl); is = signed_of s (m * up e) } in
-    let x = lt-says (down_pos e) (zero_val (down e)) v a in
-    let y = lt-says (down_pos e) v (zero_val (down e)) b in
+    let x = lt_says (down_pos e) (zero_val (down e)) v a in
+    let y = lt_says (down_pos e) v (zero_val (down e)) b in
     omega arith
 
-pub good-time : (k : ℕ) (l : Float) → k < dayEnd l → GoodTime (timeOf k) l
-unfolding timeOf dayEnd
+pub good-time : (k : ℕ) (l : Float) → k < day_end l → GoodTime (time_of k) l
+unfolding time_of day_end
 good-time k l h = make (rest_lt k (under (lt nought l) (lt l nought) h))
   where
     under : (a b : Bool) → k < cond a 86401000 (cond b 86399000 86400000) → k < 86401000
@@ -74,24 +74,24 @@ good-time k l h = make (rest_lt k (under (lt nought l) (lt l nought) h))
     last-second : (m r : ℕ) → 60000 * m + r ≡ k → k < 86399000 → m / 60 ≡ 23 → m % 60 ≡ 59 → r / 1000 ≤ 58
     last-second m r e g a b = let c : m ≡ 1439 = omega arith in omega arith
 
-    make : (minuteOf k ≤ 1439) × (k - minuteOf k * 60000 < 61000) → GoodTime (timeOf k) l
+    make : (minute_of k ≤ 1439) × (k - minute_of k * 60000 < 61000) → GoodTime (time_of k) l
     make p = record {
-      hour = at-hour (minuteOf k) p.0;
-      minute = at-minute (minuteOf k);
-      second = at_second (k - minuteOf k * 60000) p.1;
-      milli = at-milli (k - minuteOf k * 60000);
-      sixty = λ e. let q = sixty-at (minuteOf k) (k - minuteOf k * 60000) (last-minute k) e in (q.0, q.1, longer (lt nought l) (lt l nought) h q.2);
-      shorter = λ t e g. last-second (minuteOf k) (k - minuteOf k * 60000) (minute-le k) (below (lt nought l) (lt l nought) (one_way l) h t) e g;
+      hour = at_hour (minute_of k) p.0;
+      minute = at_minute (minute_of k);
+      second = at_second (k - minute_of k * 60000) p.1;
+      milli = at_milli (k - minute_of k * 60000);
+      sixty = λ e. let q = sixty-at (minute_of k) (k - minute_of k * 60000) (last-minute k) e in (q.0, q.1, longer (lt nought l) (lt l nought) h q.2);
+      shorter = λ t e g. last-second (minute_of k) (k - minute_of k * 60000) (minute-le k) (below (lt nought l) (lt l nought) (one_way l) h t) e g;
     }
       where
-        at-hour : (m : ℕ) → m ≤ 1439 → m / 60 ≤ 23
-        at-hour m g = omega arith
+        at_hour : (m : ℕ) → m ≤ 1439 → m / 60 ≤ 23
+        at_hour m g = omega arith
 
-        at-minute : (m : ℕ) → m % 60 ≤ 59
-        at-minute m = omega arith
+        at_minute : (m : ℕ) → m % 60 ≤ 59
+        at_minute m = omega arith
 
         at_second : (r : ℕ) → r < 61000 → r / 1000 ≤ 60
         at_second r g = omega arith
 
-        at-milli : (r : ℕ) → r % 1000 ≤ 999
-        at-milli r = omega arith
+        at_milli : (r : ℕ) → r % 1000 ≤ 999
+        at_milli r = omega arith

@@ -13,12 +13,12 @@ use Rattle.floats.specs.Whole.{abs, nought, one}
 use Rattle.rounding.specs.Value.{Signed, Val, L, InUnit}
 use Rattle.rounding.proofs.Value.{val-move, L-pos}
 use Rattle.rounding.proofs.Own.{Own, own, own_val, plus-of, minus-of, signed_of}
-use Rattle.rounding.proofs.Compare.{lt-says, le_val, le-show, lt-show}
-use Rattle.time_of_day.specs.Milliseconds.{wholeLeap}
-use Rattle.time_of_day.specs.ExactTime.{minus-one-f, Leap, little, second, first, minus-second}
+use Rattle.rounding.proofs.Compare.{lt_says, le_val, le_show, lt_show}
+use Rattle.time_of_day.specs.Milliseconds.{whole_leap}
+use Rattle.time_of_day.specs.ExactTime.{minus_one_f, Leap, little, second, first, minus_second}
 
-pub le-says : {x y : Float} {p n q m D : ℕ} → 0 < D → Val x p n D → Val y q m D → T (le x y) → p + m ≤ q + n
-le-says {x} {y} {p} {n} {q} {m} E v w t = leb→le (p + m) (q + n) (subst T (le_val E v w) t)
+pub le_says : {x y : Float} {p n q m D : ℕ} → 0 < D → Val x p n D → Val y q m D → T (le x y) → p + m ≤ q + n
+le_says {x} {y} {p} {n} {q} {m} E v w t = leb→le (p + m) (q + n) (subst T (le_val E v w) t)
 
 pub zero_val : (D : ℕ) → Val nought 0 0 D
 unfolding of_bits
@@ -28,7 +28,7 @@ pub one-val : (D : ℕ) → Val one D 0 D
 unfolding of_bits
 one-val D = record { sign = false; size = D; has = (refl, one-mul D ∙ sym (mul-one D)); is = add-zero D }
 
-pub minus-one-val : (D : ℕ) → Val minus-one-f 0 D D
+pub minus-one-val : (D : ℕ) → Val minus_one_f 0 D D
 unfolding of_bits
 minus-one-val D = record { sign = true; size = D; has = (refl, one-mul D ∙ sym (mul-one D)); is = add-zero D }
 
@@ -45,34 +45,34 @@ pub record AsUnits (x : Float) : Type 0 where
   pub val : Val x F 0 L
   pub most : F < L
 
-pub in-units : (x : Float) → T (fits binary64 x) → InUnit x → AsUnits x
-in-units x f h = go (plus-of o.sign o.size) (minus-of o.sign o.size) (own_val x o)
+pub in_units : (x : Float) → T (fits binary64 x) → InUnit x → AsUnits x
+in_units x f h = go (plus-of o.sign o.size) (minus-of o.sign o.size) (own_val x o)
   where
     o : Own x
     o = own x f (fraction-finite x h)
 
     go : (p n : ℕ) → Val x p n L → AsUnits x
     go p n v =
-        let a : 0 + n ≤ p + 0 = le-says L-pos (zero_val L) v h.low in
-        let b : p + 0 < L + n = lt-says L-pos v (one-val L) h.high in
+        let a : 0 + n ≤ p + 0 = le_says L-pos (zero_val L) v h.low in
+        let b : p + 0 < L + n = lt_says L-pos v (one-val L) h.high in
         record { F = p - n; val = val-move v (omega arith); most = omega arith }
 
 -- what a value says of a fraction, as the calendar's theorems give it
 pub fraction-of : (x : Float) (F D : ℕ) → 0 < D → Val x F 0 D → F < D → InUnit x
-fraction-of x F D h v l = record { low = le-show h (zero_val D) v (omega arith); high = lt-show h v (one-val D) (omega arith) }
+fraction-of x F D h v l = record { low = le_show h (zero_val D) v (omega arith); high = lt_show h v (one-val D) (omega arith) }
 
 -- a leap that is at most 1 in size
 pub record WithinOne (x : Float) : Type 0 where
-  pub least : T (le minus-one-f x)
+  pub least : T (le minus_one_f x)
   pub most : T (le x one)
 
 -- and so is the leap that counts, in each of the cases
-pub within-one : (x : Float) → Leap x → WithinOne (wholeLeap x)
-unfolding wholeLeap of_bits le lt eq abs
+pub within-one : (x : Float) → Leap x → WithinOne (whole_leap x)
+unfolding whole_leap of_bits le lt eq abs
 within-one x (little e) = subst WithinOne (sym (ap (λ (b : Bool). cond b x nought) e)) (record { least = tt; most = tt })
 within-one x second = record { least = tt; most = tt }
 within-one x first = record { least = tt; most = tt }
-within-one x minus-second = record { least = tt; most = tt }
+within-one x minus_second = record { least = tt; most = tt }
 
 -- as some fraction
 pub record AsFraction (x : Float) : Type 0 where
@@ -82,12 +82,12 @@ pub record AsFraction (x : Float) : Type 0 where
   pub val : Val x B C E
   pub some : 0 < E
 
-pub as-fraction : (x : Float) → WithinOne x → AsFraction x
+pub as_fraction : (x : Float) → WithinOne x → AsFraction x
 unfolding of_bits le lt eq
-as-fraction nan h = absurd h.least
-as-fraction (inf true) h = absurd h.least
-as-fraction (inf false) h = absurd h.most
-as-fraction (fin s m e) h = record {
+as_fraction nan h = absurd h.least
+as_fraction (inf true) h = absurd h.least
+as_fraction (inf false) h = absurd h.most
+as_fraction (fin s m e) h = record {
   B = plus-of s (m * up e);
   C = minus-of s (m * up e);
   E = down e;
@@ -97,16 +97,16 @@ as-fraction (fin s m e) h = record {
 
 module _ {x : Float} {B C E : ℕ} (G : 0 < E) (v : Val x B C E) (h : WithinOne x) where
   pub at_most : B ≤ C + E
-  at_most = let a : B + 0 ≤ E + C = le-says G v (one-val E) h.most in omega arith
+  at_most = let a : B + 0 ≤ E + C = le_says G v (one-val E) h.most in omega arith
 
   pub at_least : C ≤ B + E
-  at_least = let a : 0 + C ≤ B + E = le-says G (minus-one-val E) v h.least in omega arith
+  at_least = let a : 0 + C ≤ B + E = le_says G (minus-one-val E) v h.least in omega arith
 
 -- ---- two ways to write one value
-cross-has : (x : Float) (s t : Bool) (a b D E : ℕ) → HasValue x s a D → HasValue x t b E → a * E ≡ b * D
-cross-has nan s t a b D E h k = absurd h
-cross-has (inf u) s t a b D E h k = absurd h
-cross-has (fin u m e) s t a b D E h k = le_antisymm (cancel (le_of_eq same)) (cancel (le_of_eq (sym same)))
+cross_has : (x : Float) (s t : Bool) (a b D E : ℕ) → HasValue x s a D → HasValue x t b E → a * E ≡ b * D
+cross_has nan s t a b D E h k = absurd h
+cross_has (inf u) s t a b D E h k = absurd h
+cross_has (fin u m e) s t a b D E h k = le_antisymm (cancel (le_of_eq same)) (cancel (le_of_eq (sym same)))
   where
     same : a * E * down e ≡ b * D * down e
     same = mul_right_comm a E (down e) ∙ ap (λ (z : ℕ). z * E) (sym h.1) ∙ mul_right_comm (m * up e) D E ∙ ap (λ (z : ℕ). z * D) k.1
@@ -121,5 +121,5 @@ size_is true a p h = omega arith
 
 pub cross : {x : Float} {F G D E : ℕ} → Val x F 0 D → Val x G 0 E → F * E ≡ G * D
 cross {x} {F} {G} {D} {E} v w =
-    ap (λ (z : ℕ). z * E) (sym (size_is v.sign v.size F v.is)) ∙ cross-has x v.sign w.sign v.size w.size D E v.has w.has
+    ap (λ (z : ℕ). z * E) (sym (size_is v.sign v.size F v.is)) ∙ cross_has x v.sign w.sign v.size w.size D E v.has w.has
     ∙ ap (λ (z : ℕ). z * D) (size_is w.sign w.size G w.is)

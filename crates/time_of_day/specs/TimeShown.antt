@@ -6,45 +6,45 @@ use Rattle.floats.specs.Whole.{nought}
 use Rattle.time_of_day.specs.declared.TimeOfDay.{TimeOfDay}
 use Rattle.time_of_day.specs.declared.TimeShown.{TimeShown}
 use Rattle.time_of_day.specs.declared.TimeShown.TheVariants.{At, NextMidnight}
-use Rattle.time_of_day.specs.Milliseconds.{wholeLeap, millisOf}
+use Rattle.time_of_day.specs.Milliseconds.{whole_leap, millis_of}
 
 -- the minute of the day: a leap second belongs to the last one, which then runs to 61 s
-abbrev pub minuteOf : ℕ → ℕ
-minuteOf k = min (k / 60000) 1439
+abbrev pub minute_of : ℕ → ℕ
+minute_of k = min (k / 60000) 1439
 
-unfoldable pub timeOf : ℕ → TimeOfDay
-timeOf k = record {
-  hour = minuteOf k / 60;
-  minute = minuteOf k % 60;
-  second = (k - minuteOf k * 60000) / 1000;
-  milli = (k - minuteOf k * 60000) % 1000;
+unfoldable pub time_of : ℕ → TimeOfDay
+time_of k = record {
+  hour = minute_of k / 60;
+  minute = minute_of k % 60;
+  second = (k - minute_of k * 60000) / 1000;
+  milli = (k - minute_of k * 60000) % 1000;
 }
 
 -- The milliseconds at which the text is the next day's midnight, of the leap that counts. The Rust has no case for a leap below 0, and no fixed row
 -- gives one: the third case is for announced rows, whose steps may be of -1 s (document 02, item 8).
-unfoldable pub dayEnd : Float → ℕ
-dayEnd leap = cond (lt nought leap) 86401000 (cond (lt leap nought) 86399000 86400000)
+unfoldable pub day_end : Float → ℕ
+day_end leap = cond (lt nought leap) 86401000 (cond (lt leap nought) 86399000 86400000)
 
 -- a count below 0 shows as 0. No fraction of a day has one (`counted`, in proofs/Count): this case is there so that the definition covers every float
-unfoldable pub fromZero : ℤ → ℕ
-fromZero (pos k) = k
-fromZero (negsuc k) = 0
+unfoldable pub from_zero : ℤ → ℕ
+from_zero (pos k) = k
+from_zero (negsuc k) = 0
 
 -- what a count shows on a day with the leap that counts
-unfoldable pub shownAt : Float → ℕ → TimeShown
-unfolding timeOf dayEnd
-shownAt leap k = cond (ltb k (dayEnd leap)) (At (timeOf k)) NextMidnight
+unfoldable pub shown_at : Float → ℕ → TimeShown
+unfolding time_of day_end
+shown_at leap k = cond (ltb k (day_end leap)) (At (time_of k)) NextMidnight
 
 -- the milliseconds of a fraction of a day with the leap that counts, rounded by the rule `how`
-unfoldable pub countBy : (Bool → ℕ → ℕ → ℕ) → Float → Float → ℕ
-unfolding fromZero
-countBy how fraction leap = fromZero (millisOf how fraction leap)
+unfoldable pub count_by : (Bool → ℕ → ℕ → ℕ) → Float → Float → ℕ
+unfolding from_zero
+count_by how fraction leap = from_zero (millis_of how fraction leap)
 
 -- what a fraction of a day with any leap shows, where `count` says the milliseconds of a fraction and a leap that counts
-unfoldable pub shownBy : (Float → Float → ℕ) → Float → Float → TimeShown
-unfolding shownAt
-shownBy count fraction leap = shownAt (wholeLeap leap) (count fraction (wholeLeap leap))
+unfoldable pub shown_by : (Float → Float → ℕ) → Float → Float → TimeShown
+unfolding shown_at
+shown_by count fraction leap = shown_at (whole_leap leap) (count fraction (whole_leap leap))
 
 -- by a rule of rounding
-abbrev pub shownOf : (Bool → ℕ → ℕ → ℕ) → Float → Float → TimeShown
-shownOf how fraction leap = shownBy (countBy how) fraction leap
+abbrev pub shown_of : (Bool → ℕ → ℕ → ℕ) → Float → Float → TimeShown
+shown_of how fraction leap = shown_by (count_by how) fraction leap

@@ -1,6 +1,6 @@
 // The time of day that a text shows, to the millisecond: its types, its definitions and its laws. The code is that of the texts, in `utc::shown`.
 ghost use Rattle.std.specs.Prelude.{◌≡◌};
-ghost use Rattle.time_of_day.specs.TimeShown.{fromZero};
+ghost use Rattle.time_of_day.specs.TimeShown.{from_zero};
 
 // A time of day to the millisecond; in a leap second `second` is 60.
 #[derive(Drop)]
@@ -20,7 +20,7 @@ pub enum TimeShown {
 
 // What is below 0 is taken as 0, which makes the cast safe with no condition: no fraction of a day has a count below 0.
 pub fn from_zero(count: i64) -> u64
-    ensures { result ≡ fromZero count }
+    ensures { result ≡ from_zero count }
 {
     if count < 0 { 0 } else { count as u64 }
 }

@@ -13,26 +13,26 @@ use mir.Syntax.{w64}
 use mir.Val.{SFits, to_z, of_z}
 use mir.Facts.{to_z-of_z}
 use Rattle.calendar.proofs.Signs.{sub_at}
-use Rattle.julian.specs.UnixTime.{daysTowardZero, secondsLeft}
+use Rattle.julian.specs.UnixTime.{days_toward_zero, seconds_left}
 use Rattle.julian.proofs.Seconds.{quotient_is, remainder_is, days-fit, left-fit}
 use Rattle.julian.proofs.Integers.{in-float}
-use Rattle.utc.specs.UnixTime.{unixDay, secondOfUnixDay}
+use Rattle.utc.specs.UnixTime.{unix_day, second_of_unix_day}
 
 -- ---- the quotient and the remainder as the machine takes them, of a number read back from its bits
 module _ (z : ℤ) (f : SFits w64 z) where
-  whole-days : quot_z (to_z w64 (of_z w64 z)) (pos 86400) ≡ daysTowardZero z
+  whole-days : quot_z (to_z w64 (of_z w64 z)) (pos 86400) ≡ days_toward_zero z
   whole-days = ap (λ (x : ℤ). quot_z x (pos 86400)) (to_z-of_z f) ∙ quotient_is z
 
-  rest : rem_z (to_z w64 (of_z w64 z)) (pos 86400) ≡ secondsLeft z
+  rest : rem_z (to_z w64 (of_z w64 z)) (pos 86400) ≡ seconds_left z
   rest = ap (λ (x : ℤ). rem_z x (pos 86400)) (to_z-of_z f) ∙ remainder_is z
 
   pub divides : (0 < 86400) × SFits w64 (quot_z (to_z w64 (of_z w64 z)) (pos 86400))
   divides = (lit< tt, subst (SFits w64) (sym whole-days) (days-fit z f))
 
-  pub read-days : to_z w64 (of_z w64 (quot_z (to_z w64 (of_z w64 z)) (pos 86400))) ≡ daysTowardZero z
+  pub read-days : to_z w64 (of_z w64 (quot_z (to_z w64 (of_z w64 z)) (pos 86400))) ≡ days_toward_zero z
   read-days = ap (λ (x : ℤ). to_z w64 (of_z w64 x)) whole-days ∙ to_z-of_z (days-fit z f)
 
-  pub read_left : to_z w64 (of_z w64 (rem_z (to_z w64 (of_z w64 z)) (pos 86400))) ≡ secondsLeft z
+  pub read_left : to_z w64 (of_z w64 (rem_z (to_z w64 (of_z w64 z)) (pos 86400))) ≡ seconds_left z
   read_left = ap (λ (x : ℤ). to_z w64 (of_z w64 x)) rest ∙ to_z-of_z (left-fit z)
 
 -- ---- the sign of what is left
@@ -52,16 +52,16 @@ one_less (suc q) = ap negsuc (more q)
     more : (q : ℕ) → suc (q + 0) ≡ suc q
     more q = omega arith
 
-pub day-before : (z : ℤ) → lt_z (secondsLeft z) (pos 0) ≡ true → daysTowardZero z -ℤ pos 1 ≡ unixDay z
-unfolding unixDay
+pub day-before : (z : ℤ) → lt_z (seconds_left z) (pos 0) ≡ true → days_toward_zero z -ℤ pos 1 ≡ unix_day z
+unfolding unix_day
 day-before (pos s) e = absurd (omega (arith, ltb-true (s % 86400) 0 e))
 day-before (negsuc s) e = one_less (suc s / 86400) ∙ ap negsuc (same s (some_left (suc s % 86400) e))
   where
     same : (s : ℕ) → 1 ≤ suc s % 86400 → suc s / 86400 ≡ s / 86400
     same s h = omega arith
 
-pub same-day : (z : ℤ) → lt_z (secondsLeft z) (pos 0) ≡ false → daysTowardZero z ≡ unixDay z
-unfolding unixDay
+pub same-day : (z : ℤ) → lt_z (seconds_left z) (pos 0) ≡ false → days_toward_zero z ≡ unix_day z
+unfolding unix_day
 same-day (pos s) e = refl
 same-day (negsuc s) e = ap (λ (q : ℕ). neg_ℤ (pos q)) (next s (none_left (suc s % 86400) e))
   where
@@ -69,20 +69,20 @@ same-day (negsuc s) e = ap (λ (q : ℕ). neg_ℤ (pos q)) (next s (none_left (s
     next s h = omega arith
 
 -- ---- its size
-pub day-size : (z : ℤ) → SFits w64 z → mag (unixDay z) ≤ 2 ^ 47
-unfolding unixDay
+pub day-size : (z : ℤ) → SFits w64 z → mag (unix_day z) ≤ 2 ^ 47
+unfolding unix_day
 day-size (pos s) f = omega (arith, f.sfits)
 day-size (negsuc s) f = omega (arith, f.sfits)
 
-pub day-fits : (z : ℤ) → SFits w64 z → SFits w64 (unixDay z)
-day-fits z f = record { sfits = omega (arith, day-size z f) }
+pub day_fits : (z : ℤ) → SFits w64 z → SFits w64 (unix_day z)
+day_fits z f = record { sfits = omega (arith, day-size z f) }
 
-pub day-in-float : (z : ℤ) → SFits w64 z → T (in_float binary64 (unixDay z))
-day-in-float z f = in-float (unixDay z) (omega (arith, day-size z f))
+pub day-in-float : (z : ℤ) → SFits w64 z → T (in_float binary64 (unix_day z))
+day-in-float z f = in-float (unix_day z) (omega (arith, day-size z f))
 
 -- ---- the seconds
-pub seconds-most : (z : ℤ) → secondOfUnixDay z < 86400
-unfolding secondOfUnixDay
+pub seconds-most : (z : ℤ) → second_of_unix_day z < 86400
+unfolding second_of_unix_day
 seconds-most (pos s) = omega arith
 seconds-most (negsuc s) = omega arith
 
@@ -90,8 +90,8 @@ raised : (r : ℕ) → 1 ≤ r → r ≤ 86400 → neg_ℤ (pos r) +ℤ pos 8640
 raised (suc r) h l = sub_at 86400 (suc r) l
 raised zero h l = absurd (omega arith)
 
-pub from-midnight-before : (z : ℤ) → lt_z (secondsLeft z) (pos 0) ≡ true → secondsLeft z +ℤ pos 86400 ≡ pos (secondOfUnixDay z)
-unfolding secondOfUnixDay
+pub from-midnight-before : (z : ℤ) → lt_z (seconds_left z) (pos 0) ≡ true → seconds_left z +ℤ pos 86400 ≡ pos (second_of_unix_day z)
+unfolding second_of_unix_day
 from-midnight-before (pos s) e = absurd (omega (arith, ltb-true (s % 86400) 0 e))
 from-midnight-before (negsuc s) e =
     let h = some_left (suc s % 86400) e in
@@ -100,8 +100,8 @@ from-midnight-before (negsuc s) e =
     same : (s : ℕ) → 1 ≤ suc s % 86400 → 86400 - suc s % 86400 ≡ 86399 - s % 86400
     same s h = omega arith
 
-pub from-midnight : (z : ℤ) → lt_z (secondsLeft z) (pos 0) ≡ false → secondsLeft z ≡ pos (secondOfUnixDay z)
-unfolding secondOfUnixDay
+pub from-midnight : (z : ℤ) → lt_z (seconds_left z) (pos 0) ≡ false → seconds_left z ≡ pos (second_of_unix_day z)
+unfolding second_of_unix_day
 from-midnight (pos s) e = refl
 from-midnight (negsuc s) e =
     let h = none_left (suc s % 86400) e in

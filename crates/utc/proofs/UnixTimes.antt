@@ -7,28 +7,28 @@ use lib.Dec.{ltb}
 use lib.IntN.{ℤ}
 use lib.Ieee.{Float, binary64, of_int}
 use Rattle.refusals.specs.Outcome.{answer, refusal, onward}
-use Rattle.constants.specs.Constants.{unixEpochJd}
+use Rattle.constants.specs.Constants.{unix_epoch_jd}
 use Rattle.julian.specs.declared.CalendarFields.{CalendarFields}
-use Rattle.julian.specs.Calendar.{julianToCalendar}
+use Rattle.julian.specs.Calendar.{julian_to_calendar}
 use Rattle.leap_table.specs.rows.Table.{Row}
-use Rattle.utc.specs.FromCalendar.{utcFromCalendar}
-use Rattle.utc.specs.UnixTime.{unixDay, secondOfUnixDay, secondWithNanos, utcNew}
+use Rattle.utc.specs.FromCalendar.{utc_from_calendar}
+use Rattle.utc.specs.UnixTime.{unix_day, second_of_unix_day, second_with_nanos, utc_new}
 
 module _ (rows : List Row) (seconds : ℤ) (nanos : ℕ) where
-  pub nanos-refused : ltb nanos 1000000000 ≡ false → utcNew rows seconds nanos ≡ refusal 8
-  unfolding utcNew
+  pub nanos-refused : ltb nanos 1000000000 ≡ false → utc_new rows seconds nanos ≡ refusal 8
+  unfolding utc_new
   nanos-refused e = rw e
 
-  pub day-refused : ltb nanos 1000000000 ≡ true → (k : ℕ) → julianToCalendar unixEpochJd (of_int binary64 (unixDay seconds)) ≡ refusal k
-      → utcNew rows seconds nanos ≡ refusal k
-  unfolding utcNew onward
+  pub day-refused : ltb nanos 1000000000 ≡ true → (k : ℕ) → julian_to_calendar unix_epoch_jd (of_int binary64 (unix_day seconds)) ≡ refusal k
+      → utc_new rows seconds nanos ≡ refusal k
+  unfolding utc_new onward
   day-refused e k p = rw (e, p)
 
-  pub day-given : ltb nanos 1000000000 ≡ true → (c : CalendarFields) → julianToCalendar unixEpochJd (of_int binary64 (unixDay seconds)) ≡ answer c
+  pub day-given : ltb nanos 1000000000 ≡ true → (c : CalendarFields) → julian_to_calendar unix_epoch_jd (of_int binary64 (unix_day seconds)) ≡ answer c
       → (y : ℤ) (s : ℕ) (x : Float)
-      → y ≡ c.date.year → s ≡ secondOfUnixDay seconds → x ≡ secondWithNanos s nanos
-      → utcFromCalendar rows y c.date.month c.date.day (s / 3600) (s % 3600 / 60) x ≡ utcNew rows seconds nanos
-  unfolding utcNew onward
+      → y ≡ c.date.year → s ≡ second_of_unix_day seconds → x ≡ second_with_nanos s nanos
+      → utc_from_calendar rows y c.date.month c.date.day (s / 3600) (s % 3600 / 60) x ≡ utc_new rows seconds nanos
+  unfolding utc_new onward
   day-given e c p y s x ey es ex =
-      rw (e, p) (λ i. utcFromCalendar rows (ey i) c.date.month c.date.day (es i / 3600) (es i % 3600 / 60)
-      ((ex ∙ ap (λ (k : ℕ). secondWithNanos k nanos) es) i))
+      rw (e, p) (λ i. utc_from_calendar rows (ey i) c.date.month c.date.day (es i / 3600) (es i % 3600 / 60)
+      ((ex ∙ ap (λ (k : ℕ). second_with_nanos k nanos) es) i))

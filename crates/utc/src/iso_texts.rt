@@ -1,10 +1,10 @@
 // The three texts of a UTC date, with the rule of its day: the standard form, expanded years, halves to the even. From document 01's (scales/utc/mod.rs), the
 // one with expanded years and the one with halves to the even.
 ghost use Rattle.std.specs.Prelude.{◌≡◌, ◌≤◌};
-ghost use Rattle.leap_table.specs.rows.Announced.{rowsIn};
-ghost use Rattle.utc.specs.iso_texts.IsoText.{nextMidnightText, shownText};
+ghost use Rattle.leap_table.specs.rows.Announced.{rows_in};
+ghost use Rattle.utc.specs.iso_texts.IsoText.{next_midnight_text, shown_text};
 ghost use Rattle.utc.specs.iso_texts.TextCall.{TextCall};
-ghost use Rattle.utc.specs.iso_texts.TextDay.{textDayOutcome, dayWithLeap, textDay};
+ghost use Rattle.utc.specs.iso_texts.TextDay.{text_day_outcome, day_with_leap, text_day};
 
 mod by_rule;
 mod expanded;
@@ -59,7 +59,7 @@ pub(crate) fn with_leap<'a>(
     seconds: &'a [i32; 16],
 ) -> DayAnswer
     requires { (date.month ≤ 12) × (date.day ≤ 31) }
-    ensures { textDayOutcome result ≡ dayWithLeap (rowsIn size months.now seconds.now) date fraction }
+    ensures { text_day_outcome result ≡ day_with_leap (rows_in size months.now seconds.now) date fraction }
 {
     match leap_table::offsets::leap_at_end_of_day_by_arrays(
         date.year,
@@ -76,7 +76,7 @@ pub(crate) fn with_leap<'a>(
 
 // The same for every form of text. Refusals in order: 6 the parts, 1 the year.
 fn day_of<'a>(utc: UTC, size: usize, months: &'a [i32; 16], seconds: &'a [i32; 16]) -> DayAnswer
-    ensures { textDayOutcome result ≡ textDay (rowsIn size months.now seconds.now) utc.0 }
+    ensures { text_day_outcome result ≡ text_day (rows_in size months.now seconds.now) utc.0 }
 {
     let jd = utc.0;
     match julian::julian_to_calendar(jd.jd1, jd.jd2) {
@@ -90,7 +90,7 @@ fn day_of<'a>(utc: UTC, size: usize, months: &'a [i32; 16], seconds: &'a [i32; 1
 
 pub(crate) fn put_shown(date: CalendarDate, shown: TimeShown, out: &mut [u8]) -> TextAnswer
     requires { (date.month ≤ 12) × (date.day ≤ 31) }
-    ensures { TextCall (shownText date shown) out.old result out.new }
+    ensures { TextCall (shown_text date shown) out.old result out.new }
 {
     match shown {
         TimeShown::At(time) => crate::text::put_text(date, time, out),
@@ -100,7 +100,7 @@ pub(crate) fn put_shown(date: CalendarDate, shown: TimeShown, out: &mut [u8]) ->
 
 fn put_next_midnight(date: CalendarDate, out: &mut [u8]) -> TextAnswer
     requires { (date.month ≤ 12) × (date.day ≤ 31) }
-    ensures { TextCall (nextMidnightText date) out.old result out.new }
+    ensures { TextCall (next_midnight_text date) out.old result out.new }
 {
     match calendar::next_calendar_day(date.year, date.month as i32, date.day as i32) {
         NextDay::Refused(number) => TextAnswer::Refused(number),

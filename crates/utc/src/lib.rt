@@ -1,11 +1,11 @@
 // UTC from Unix time and from calendar fields. From scales/utc/mod.rs.
 ghost use Rattle.std.specs.Prelude.{◌≡◌, ◌<◌};
-ghost use Rattle.scales.specs.Scales.{utcOutcome};
-ghost use Rattle.julian.specs.DayFraction.{fractionOutcome};
+ghost use Rattle.scales.specs.Scales.{utc_outcome};
+ghost use Rattle.julian.specs.DayFraction.{fraction_outcome};
 ghost use Rattle.refusals.specs.Outcome.{onward};
-ghost use Rattle.leap_table.specs.rows.Announced.{rowsIn, table_of};
-ghost use Rattle.utc.specs.FromCalendar.{midnightPlus, utcFromCalendar};
-ghost use Rattle.utc.specs.UnixTime.{unixDay, secondOfUnixDay, secondWithNanos, utcNew};
+ghost use Rattle.leap_table.specs.rows.Announced.{rows_in, table_of};
+ghost use Rattle.utc.specs.FromCalendar.{midnight_plus, utc_from_calendar};
+ghost use Rattle.utc.specs.UnixTime.{unix_day, second_of_unix_day, second_with_nanos, utc_new};
 
 use julian::{CalendarAnswer, FractionAnswer, JulianAnswer, JulianDate};
 use leap_table::offsets::SecondsByRule;
@@ -19,7 +19,7 @@ pub mod text;
 
 // The day of a Unix time, counted from 1970-01-01: the Rust's `div_euclid`, which divides downward.
 fn unix_day(seconds: i64) -> i64
-    ensures { result ≡ unixDay seconds }
+    ensures { result ≡ unix_day seconds }
 {
     let day = seconds / constants::SECONDS_PER_DAY;
     if seconds % constants::SECONDS_PER_DAY < 0 {
@@ -31,7 +31,7 @@ fn unix_day(seconds: i64) -> i64
 
 // The seconds since that day's midnight: the Rust's `rem_euclid`.
 fn second_of_unix_day(seconds: i64) -> u32
-    ensures { (result ≡ secondOfUnixDay seconds) × (result < 86400) }
+    ensures { (result ≡ second_of_unix_day seconds) × (result < 86400) }
 {
     let rest = seconds % constants::SECONDS_PER_DAY;
     if rest < 0 {
@@ -43,7 +43,7 @@ fn second_of_unix_day(seconds: i64) -> u32
 
 // The second of its minute, with the nanoseconds.
 fn second_with_nanos(second: u32, nanos: u32) -> f64
-    ensures { result ≡ secondWithNanos second nanos }
+    ensures { result ≡ second_with_nanos second nanos }
 {
     (second % 60) as f64 + nanos as f64 / constants::NANOSECONDS_PER_SECOND_F64
 }
@@ -57,7 +57,7 @@ pub fn new_by_arrays<'a>(
     months: &'a [i32; 16],
     seconds: &'a [i32; 16],
 ) -> UtcAnswer
-    ensures { utcOutcome result ≡ utcNew (rowsIn size months.now seconds.now) unix nanos }
+    ensures { utc_outcome result ≡ utc_new (rows_in size months.now seconds.now) unix nanos }
 {
     if nanos >= constants::NANOSECONDS_PER_SECOND {
         return UtcAnswer::Refused(refusals::NANOS_NOT_IN_SECOND);
@@ -84,7 +84,7 @@ pub fn new_by_arrays<'a>(
 
 // UTC of a Unix time. Refusals in order: 20 to 22 the table, 8 the nanoseconds, 6 the day, 1 its year, then 4, which a day that ends in a step back can give.
 pub fn new(seconds: i64, nanos: u32, table: AnnouncedRows) -> UtcAnswer
-    ensures { utcOutcome result ≡ onward (table_of table) (λ rows. utcNew rows seconds nanos) }
+    ensures { utc_outcome result ≡ onward (table_of table) (λ rows. utc_new rows seconds nanos) }
 {
     let number = leap_table::rows::table_refusal(table);
     if number != 0 {
@@ -112,7 +112,7 @@ pub fn utc_from_calendar_by_arrays<'a>(
     months: &'a [i32; 16],
     seconds: &'a [i32; 16],
 ) -> UtcAnswer
-    ensures { utcOutcome result ≡ utcFromCalendar (rowsIn size months.now seconds.now) year month day hour minute second }
+    ensures { utc_outcome result ≡ utc_from_calendar (rows_in size months.now seconds.now) year month day hour minute second }
 {
     match JulianDate::from_calendar(year, month, day, 0, 0, 0.0) {
         JulianAnswer::Refused(number) => UtcAnswer::Refused(number),
@@ -144,7 +144,7 @@ pub fn utc_from_calendar(
     second: f64,
     table: AnnouncedRows,
 ) -> UtcAnswer
-    ensures { utcOutcome result ≡ onward (table_of table) (λ rows. utcFromCalendar rows year month day hour minute second) }
+    ensures { utc_outcome result ≡ onward (table_of table) (λ rows. utc_from_calendar rows year month day hour minute second) }
 {
     let number = leap_table::rows::table_refusal(table);
     if number != 0 {
@@ -164,7 +164,7 @@ pub fn utc_from_calendar(
 }
 
 fn at_time(midnight: JulianDate, fraction: FractionAnswer) -> UtcAnswer
-    ensures { utcOutcome result ≡ midnightPlus midnight (fractionOutcome fraction) }
+    ensures { utc_outcome result ≡ midnight_plus midnight (fraction_outcome fraction) }
 {
     match fraction {
         FractionAnswer::Refused(number) => UtcAnswer::Refused(number),

@@ -1,10 +1,10 @@
 // The texts of a run of UTC dates in one call, where refused stamps are numbered and counted. The parts of the stamps are bytes, eight each, the lowest first;
 // the texts stand at equal distances of 27 bytes.
 ghost use Rattle.std.specs.Prelude.{◌≡◌, ◌+◌, ◌*◌, ◌≤◌, cond, eqb, length};
-ghost use Rattle.leap_table.specs.rows.Announced.{rowsIn, table_of};
-ghost use Rattle.utc.specs.iso_texts.Named.{formNamed};
-ghost use Rattle.utc.specs.run_texts.RunTexts.{stampText, textsOutcome, textsCall, textsRefusal, textsBy, textsOfRun};
-ghost use Rattle.utc.specs.iso_texts.IsoText.{isoTextBy};
+ghost use Rattle.leap_table.specs.rows.Announced.{rows_in, table_of};
+ghost use Rattle.utc.specs.iso_texts.Named.{form_named};
+ghost use Rattle.utc.specs.run_texts.RunTexts.{stamp_text, texts_outcome, texts_call, texts_refusal, texts_by, texts_of_run};
+ghost use Rattle.utc.specs.iso_texts.IsoText.{iso_text_by};
 ghost use Rattle.utc.specs.run_texts.Asked.{RoomForTexts, TextBeside, TextPlaced, TextsPlaced};
 ghost use Rattle.utc.specs.run_texts.Kept.{RightKept};
 
@@ -46,7 +46,7 @@ fn put_single<'a>(
     out: &mut [u8],
 ) -> Beside
     requires { 27 ≤ length out.old }
-    ensures { TextBeside (isoTextBy (formNamed textForm) (rowsIn size months.now seconds.now) date.0) out.old result
+    ensures { TextBeside (iso_text_by (form_named textForm) (rows_in size months.now seconds.now) date.0) out.old result
         out.new }
 {
     match crate::iso_texts::to_text_by_arrays(textForm, date, size, months, seconds, out) {
@@ -73,10 +73,10 @@ fn put_stamp<'a>(
     seconds: &'a [i32; 16],
     texts: &mut [u8],
 ) -> StampDone
-    requires { (27 * i + 27 ≤ length texts.old) × RightKept (rowsIn size months.now seconds.now) kept }
-    ensures { TextPlaced (stampText (formNamed textForm) (rowsIn size months.now seconds.now) jd1s.now
+    requires { (27 * i + 27 ≤ length texts.old) × RightKept (rows_in size months.now seconds.now) kept }
+    ensures { TextPlaced (stamp_text (form_named textForm) (rows_in size months.now seconds.now) jd1s.now
         jd2s.now i) i texts.old result.beside texts.new
-        × RightKept (rowsIn size months.now seconds.now) result.kept }
+        × RightKept (rows_in size months.now seconds.now) result.kept }
 {
     let at = 27 * i;
     let end = at + 27;
@@ -122,7 +122,7 @@ fn put_all<'a>(
     numbers: &mut [u8],
 ) -> usize
     requires { RoomForTexts n jd1s.now texts.old lengths.old numbers.old }
-    ensures { TextsPlaced (stampText (formNamed textForm) (rowsIn size months.now seconds.now) jd1s.now
+    ensures { TextsPlaced (stamp_text (form_named textForm) (rows_in size months.now seconds.now) jd1s.now
         jd2s.now) n texts.old lengths.old numbers.old result texts.new lengths.new
         numbers.new }
 {
@@ -144,7 +144,7 @@ fn put_all<'a>(
 
 // The refusal of the lengths, or 0.
 fn texts_refusal(size1: usize, size2: usize, room1: usize, room2: usize, room3: usize) -> u32
-    ensures { result ≡ textsRefusal size1 size2 room1 room2 room3 }
+    ensures { result ≡ texts_refusal size1 size2 room1 room2 room3 }
 {
     if size1 % 8 != 0 {
         return refusals::LENGTH_WRONG;
@@ -179,8 +179,8 @@ pub fn texts_of_run_by_arrays<'a>(
     lengths: &mut [u8],
     numbers: &mut [u8],
 ) -> RunTextsAnswer
-    ensures { textsCall (textsOutcome result) texts.new lengths.new numbers.new ≡ textsBy (formNamed textForm)
-        (rowsIn size months.now seconds.now) jd1s.now jd2s.now texts.old lengths.old
+    ensures { texts_call (texts_outcome result) texts.new lengths.new numbers.new ≡ texts_by (form_named textForm)
+        (rows_in size months.now seconds.now) jd1s.now jd2s.now texts.old lengths.old
         numbers.old }
 {
     let number = texts_refusal(
@@ -212,7 +212,7 @@ pub fn texts_of_run(
     lengths: &mut [u8],
     numbers: &mut [u8],
 ) -> RunTextsAnswer
-    ensures { textsCall (textsOutcome result) texts.new lengths.new numbers.new ≡ textsOfRun (formNamed textForm)
+    ensures { texts_call (texts_outcome result) texts.new lengths.new numbers.new ≡ texts_of_run (form_named textForm)
         (table_of table) jd1s.now jd2s.now texts.old lengths.old numbers.old }
 {
     let number = leap_table::rows::table_refusal(table);

@@ -2,8 +2,8 @@
 // finite: no other crate can call it.
 ghost use Rattle.std.specs.Prelude.{◌≡◌, ◌≤◌};
 ghost use Rattle.floats.specs.Whole.{away};
-ghost use Rattle.time_of_day.specs.Milliseconds.{wholeLeap, fractionSeconds, millisOf};
-ghost use Rattle.time_of_day.specs.TimeShown.{minuteOf, timeOf, dayEnd, countBy, shownOf};
+ghost use Rattle.time_of_day.specs.Milliseconds.{whole_leap, fraction_seconds, millis_of};
+ghost use Rattle.time_of_day.specs.TimeShown.{minute_of, time_of, day_end, count_by, shown_of};
 
 mod half_even;
 
@@ -12,35 +12,35 @@ use time_of_day::{TimeOfDay, TimeShown};
 
 // The leap that counts for the day's length: only one of more than half a second in size.
 pub(crate) fn whole_leap(leap: f64) -> f64
-    ensures { result ≡ wholeLeap leap }
+    ensures { result ≡ whole_leap leap }
 {
     if floats::fabs(leap) > 0.5 { leap } else { 0.0 }
 }
 
 // The seconds of the day, in the Rust's order of operations.
 fn seconds(fraction: f64, leap: f64) -> f64
-    ensures { result ≡ fractionSeconds fraction leap }
+    ensures { result ≡ fraction_seconds fraction leap }
 {
     86400.0 * (fraction + fraction * leap / 86400.0)
 }
 
 // Rust's milliseconds, for every two floats.
 fn milliseconds(fraction: f64, leap: f64) -> i64
-    ensures { result ≡ millisOf away fraction leap }
+    ensures { result ≡ millis_of away fraction leap }
 {
     floats::saturating_i64(floats::round(1000.0 * seconds(fraction, leap)))
 }
 
 // The same as a count.
 pub(crate) fn millis_shown(fraction: f64, leap: f64) -> u64
-    ensures { result ≡ countBy away fraction leap }
+    ensures { result ≡ count_by away fraction leap }
 {
     time_of_day::from_zero(milliseconds(fraction, leap))
 }
 
 // The milliseconds at which the next day begins. The Rust has no case for a leap below 0, which only announced rows give.
 pub(crate) fn day_end(leap: f64) -> u64
-    ensures { (result ≡ dayEnd leap) × (result ≤ 86401000) }
+    ensures { (result ≡ day_end leap) × (result ≤ 86401000) }
 {
     if leap > 0.0 {
         return 86_401_000;
@@ -53,14 +53,14 @@ pub(crate) fn day_end(leap: f64) -> u64
 
 // A leap second belongs to the day's last minute, which then runs to 61 s.
 pub(crate) fn minute_of_day(millis: u32) -> u32
-    ensures { result ≡ minuteOf millis }
+    ensures { result ≡ minute_of millis }
 {
     let minute = millis / 60000;
     if minute < 1439 { minute } else { 1439 }
 }
 
 fn time_of(millis: u32) -> TimeOfDay
-    ensures { result ≡ timeOf millis }
+    ensures { result ≡ time_of millis }
 {
     let minute = minute_of_day(millis);
     let rest = millis - minute * 60000;
@@ -74,7 +74,7 @@ fn time_of(millis: u32) -> TimeOfDay
 
 // The time of day that the text shows, milliseconds rounded halves away from zero.
 pub(crate) fn time_shown(fraction: f64, leap: f64) -> TimeShown
-    ensures { result ≡ shownOf away fraction leap }
+    ensures { result ≡ shown_of away fraction leap }
 {
     let day_leap = whole_leap(leap);
     let count = millis_shown(fraction, day_leap);

@@ -3,7 +3,7 @@ mod expanded;
 pub(crate) mod year;
 
 ghost use Rattle.std.specs.Prelude.{◌≡◌, ◌++◌};
-ghost use Rattle.utc.specs.text.Text.{four, afterYear, utcText};
+ghost use Rattle.utc.specs.text.Text.{four, after_year, utc_text};
 ghost use Rattle.utc.specs.text.Answer.{TextPut};
 ghost use Rattle.utc.specs.text.Layout.{signed, wide};
 
@@ -20,7 +20,7 @@ pub enum TextAnswer {
 
 // The text with seven places for the year; a sign may stand in the third or the fourth.
 fn wide_bytes(third: u8, fourth: u8, size: u32, date: CalendarDate, time: TimeOfDay) -> [u8; 26]
-    ensures { result ≡ wide third fourth size ++ afterYear date time }
+    ensures { result ≡ wide third fourth size ++ after_year date time }
 {
     [
         48 + (size / 1000000 % 10) as u8,
@@ -54,7 +54,7 @@ fn wide_bytes(third: u8, fourth: u8, size: u32, date: CalendarDate, time: TimeOf
 
 // The text of a year of four digits: three places are skipped, and the copy has a fixed length.
 fn put_basic(year: u32, date: CalendarDate, time: TimeOfDay, out: &mut [u8]) -> TextAnswer
-    ensures { TextPut (four year ++ afterYear date time) out.old result out.new }
+    ensures { TextPut (four year ++ after_year date time) out.old result out.new }
 {
     let fourth = year::fourth(false, year);
     let all = wide_bytes(b'0', fourth, year, date, time);
@@ -73,7 +73,7 @@ fn put_wide(
     time: TimeOfDay,
     out: &mut [u8],
 ) -> TextAnswer
-    ensures { TextPut (signed negative size ++ afterYear date time) out.old result out.new }
+    ensures { TextPut (signed negative size ++ after_year date time) out.old result out.new }
 {
     let third = year::third(negative, size);
     let fourth = year::fourth(negative, size);
@@ -88,7 +88,7 @@ fn put_wide(
 
 // The text at the buffer's start; where it does not fit, 11 and nothing is written.
 pub fn put_text(date: CalendarDate, time: TimeOfDay, out: &mut [u8]) -> TextAnswer
-    ensures { TextPut (utcText date time) out.old result out.new }
+    ensures { TextPut (utc_text date time) out.old result out.new }
 {
     let negative = year::negative(date.year);
     let size = year::size(date.year);

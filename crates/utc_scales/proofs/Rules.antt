@@ -7,30 +7,30 @@ use Rattle.refusals.specs.Outcome.{Outcome, answer, refusal}
 use Rattle.refusals.proofs.Onward.{went, stopped}
 use Rattle.julian.specs.declared.CalendarFields.{CalendarFields}
 use Rattle.julian.specs.declared.JulianDate.{JulianDate}
-use Rattle.julian.specs.Calendar.{julianToCalendar}
+use Rattle.julian.specs.Calendar.{julian_to_calendar}
 use Rattle.leap_table.specs.rows.Table.{Row}
 use Rattle.leap_table.specs.offsets.Rule.{forget}
-use Rattle.utc_scales.specs.days.LargerPart.{keptParts, changeSmaller}
-use Rattle.utc_scales.specs.days.DateRule.{ruleOfDate, passOn}
-use Rattle.utc_scales.proofs.days.Rules.{passed-forgets, refused-forgets}
-use Rattle.utc_scales.specs.UtcTai.{taiFraction, utcToTai}
-use Rattle.utc_scales.specs.ByRule.{utcToTaiByRule}
+use Rattle.utc_scales.specs.days.LargerPart.{kept_parts, change_smaller}
+use Rattle.utc_scales.specs.days.DateRule.{rule_of_date, pass_on}
+use Rattle.utc_scales.proofs.days.Rules.{passed_forgets, refused-forgets}
+use Rattle.utc_scales.specs.UtcTai.{tai_fraction, utc_to_tai}
+use Rattle.utc_scales.specs.ByRule.{utc_to_tai_by_rule}
 
 module _ (rows : List Row) (d : JulianDate) where
   abbrev big : Float
-  big = (keptParts d).larger
+  big = (kept_parts d).larger
 
   abbrev small : Float
-  small = (keptParts d).smaller
+  small = (kept_parts d).smaller
 
-  no-date : (k : ℕ) → julianToCalendar big small ≡ refusal k → utcToTai rows d ≡ refusal k
-  unfolding utcToTai changeSmaller taiFraction
-  no-date k e = stopped _ (stopped _ e)
+  no_date : (k : ℕ) → julian_to_calendar big small ≡ refusal k → utc_to_tai rows d ≡ refusal k
+  unfolding utc_to_tai change_smaller tai_fraction
+  no_date k e = stopped _ (stopped _ e)
 
-  pub utc-to-tai-forgets : forget (utcToTaiByRule rows d) ≡ utcToTai rows d
-  unfolding utcToTaiByRule ruleOfDate
-  utc-to-tai-forgets = go (julianToCalendar big small) refl
+  pub utc-to-tai-forgets : forget (utc_to_tai_by_rule rows d) ≡ utc_to_tai rows d
+  unfolding utc_to_tai_by_rule rule_of_date
+  utc-to-tai-forgets = go (julian_to_calendar big small) refl
     where
-      go : (w : Outcome CalendarFields) → julianToCalendar big small ≡ w → forget (passOn (utcToTai rows d) (ruleOfDate rows big small)) ≡ utcToTai rows d
-      go (answer c) e = passed-forgets _ _ _ (went _ e)
-      go (refusal k) e = refused-forgets _ _ k (no-date k e)
+      go : (w : Outcome CalendarFields) → julian_to_calendar big small ≡ w → forget (pass_on (utc_to_tai rows d) (rule_of_date rows big small)) ≡ utc_to_tai rows d
+      go (answer c) e = passed_forgets _ _ _ (went _ e)
+      go (refusal k) e = refused-forgets _ _ k (no_date k e)

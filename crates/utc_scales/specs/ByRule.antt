@@ -7,14 +7,14 @@ use Rattle.leap_table.specs.declared.offsets.Rule.{Rule}
 use Rattle.leap_table.specs.rows.Table.{Row}
 use Rattle.utc_scales.specs.declared.utc_tai.TaiByRule.{TaiByRule}
 use Rattle.utc_scales.specs.declared.utc_tai.TaiByRule.TheVariants as Tai
-use Rattle.utc_scales.specs.days.LargerPart.{keptParts}
-use Rattle.utc_scales.specs.days.DateRule.{ruleOfDate, passOn}
-use Rattle.utc_scales.specs.UtcTai.{utcToTai}
+use Rattle.utc_scales.specs.days.LargerPart.{kept_parts}
+use Rattle.utc_scales.specs.days.DateRule.{rule_of_date, pass_on}
+use Rattle.utc_scales.specs.UtcTai.{utc_to_tai}
 
-unfoldable pub utcToTaiByRule : List Row → JulianDate → Outcome (JulianDate × Rule)
-utcToTaiByRule rows d = passOn (utcToTai rows d) (ruleOfDate rows (keptParts d).larger (keptParts d).smaller)
+unfoldable pub utc_to_tai_by_rule : List Row → JulianDate → Outcome (JulianDate × Rule)
+utc_to_tai_by_rule rows d = pass_on (utc_to_tai rows d) (rule_of_date rows (kept_parts d).larger (kept_parts d).smaller)
 
 -- what the answer of the code stands for
-unfoldable pub taiByRuleOutcome : TaiByRule → Outcome (JulianDate × Rule)
-taiByRuleOutcome (Tai.Date t rule) = answer (t.0, rule)
-taiByRuleOutcome (Tai.Refused number) = refusal number
+unfoldable pub tai_by_rule_outcome : TaiByRule → Outcome (JulianDate × Rule)
+tai_by_rule_outcome (Tai.Date t rule) = answer (t.0, rule)
+tai_by_rule_outcome (Tai.Refused number) = refusal number

@@ -4,34 +4,34 @@
 use Rattle.std.specs.Prelude.{◌≡◌, List, Float}
 use Rattle.refusals.specs.Outcome.{Outcome, answer, refusal}
 use Rattle.calendar.specs.declared.CalendarDate.{CalendarDate}
-use Rattle.calendar.specs.Gregorian.{gregorianDate}
+use Rattle.calendar.specs.Gregorian.{gregorian_date}
 use Rattle.leap_table.specs.declared.offsets.DayOffsets.{DayOffsets}
 use Rattle.leap_table.specs.declared.offsets.Rule.{Rule}
-use Rattle.leap_table.specs.offsets.Rule.{withRule}
+use Rattle.leap_table.specs.offsets.Rule.{with_rule}
 use Rattle.leap_table.specs.rows.Table.{Row}
 use Rattle.utc_scales.specs.declared.table.KnownDay.{KnownDay}
 use Rattle.utc_scales.specs.declared.table.Known.{Known}
 use Rattle.utc_scales.specs.declared.table.Known.TheVariants as K
 use Rattle.utc_scales.specs.declared.utc_tai.PartAnswer.{PartAnswer}
 use Rattle.utc_scales.specs.declared.utc_tai.PartAnswer.TheVariants as Part
-use Rattle.utc_scales.specs.days.Dates.{offsetsOf, offsetOfDate}
-use Rattle.utc_scales.specs.days.DateRule.{ruleOn, ruleOfDate}
+use Rattle.utc_scales.specs.days.Dates.{offsets_of, offset_of_date}
+use Rattle.utc_scales.specs.days.DateRule.{rule_on, rule_of_date}
 
 -- the offsets of a date with the rule of the day
 unfoldable pub read_on : List Row → CalendarDate → Outcome (DayOffsets × Rule)
-read_on rows t = withRule (offsetsOf rows t) (ruleOn rows t)
+read_on rows t = with_rule (offsets_of rows t) (rule_on rows t)
 
 unfoldable pub RightDay : List Row → KnownDay → Type 0
-RightDay rows k = read_on rows (gregorianDate k.day) ≡ answer (k.offsets, k.rule)
+RightDay rows k = read_on rows (gregorian_date k.day) ≡ answer (k.offsets, k.rule)
 
 unfoldable pub RightKnown : List Row → Known → Type 0
 RightKnown rows K.Nothing = Unit
 RightKnown rows (K.Day k) = RightDay rows k
 
 -- the part that an answer carries, and whether it carries a day known rightly
-unfoldable pub partOutcome : PartAnswer → Outcome Float
-partOutcome (Part.Part p) = answer p.part
-partOutcome (Part.Refused number) = refusal number
+unfoldable pub part_outcome : PartAnswer → Outcome Float
+part_outcome (Part.Part p) = answer p.part
+part_outcome (Part.Refused number) = refusal number
 
 unfoldable pub RightPart : List Row → PartAnswer → Type 0
 RightPart rows (Part.Part p) = RightDay rows p.known
@@ -39,8 +39,8 @@ RightPart rows (Part.Refused number) = Unit
 
 -- x and the rule are TAI-UTC at 0h and the rule of the day of the Julian date (jd1, jd2)
 pub record SameDay (rows : List Row) (jd1 jd2 x : Float) (rule : Rule) : Type 0 where
-  pub offset : offsetOfDate rows jd1 jd2 ≡ answer x
-  pub by-rule : ruleOfDate rows jd1 jd2 ≡ answer rule
+  pub offset : offset_of_date rows jd1 jd2 ≡ answer x
+  pub by_rule : rule_of_date rows jd1 jd2 ≡ answer rule
 
 -- the day is known rightly, and it is the day of the Julian date (jd1, jd2)
 pub record KnownOfDate (rows : List Row) (jd1 jd2 : Float) (k : KnownDay) : Type 0 where

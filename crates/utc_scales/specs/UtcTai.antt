@@ -12,38 +12,38 @@ use Rattle.std.specs.Prelude.{ℕ, zero, suc, List, Float}
 use Rattle.std.specs.Float.{binary64}
 use Rattle.std.specs.Float.Ieee.{add, sub, mul, div}
 use Rattle.refusals.specs.Outcome.{Outcome, answer, onward}
-use Rattle.constants.specs.Constants.{secondsPerDay}
+use Rattle.constants.specs.Constants.{seconds_per_day}
 use Rattle.julian.specs.declared.JulianDate.{JulianDate}
 use Rattle.julian.specs.JulianDate.{julian}
-use Rattle.julian.specs.Calendar.{julianToCalendar}
+use Rattle.julian.specs.Calendar.{julian_to_calendar}
 use Rattle.leap_table.specs.declared.offsets.DayOffsets.{DayOffsets}
 use Rattle.leap_table.specs.rows.Table.{Row}
-use Rattle.leap_table.specs.offsets.Leap.{driftRate, leapAmount}
-use Rattle.utc_scales.specs.days.LargerPart.{changeSmaller}
-use Rattle.utc_scales.specs.days.Dates.{offsetsOf, midnightOf}
+use Rattle.leap_table.specs.offsets.Leap.{drift_rate, leap_amount}
+use Rattle.utc_scales.specs.days.LargerPart.{change_smaller}
+use Rattle.utc_scales.specs.days.Dates.{offsets_of, midnight_of}
 
 -- the fraction of a day in days of 86,400 s: the day is longer by the leap at its end, the first factor, and by its drift, the second
-unfoldable pub stretchDayFraction : DayOffsets → Float → Float
-stretchDayFraction o f =
-    mul binary64 (mul binary64 f (div binary64 (add binary64 secondsPerDay (leapAmount o)) secondsPerDay))
-    (div binary64 (add binary64 secondsPerDay (driftRate o)) secondsPerDay)
+unfoldable pub stretch_day_fraction : DayOffsets → Float → Float
+stretch_day_fraction o f =
+    mul binary64 (mul binary64 f (div binary64 (add binary64 seconds_per_day (leap_amount o)) seconds_per_day))
+    (div binary64 (add binary64 seconds_per_day (drift_rate o)) seconds_per_day)
 
 -- the smaller part in TAI, from the midnight z, the offsets of the day, and the fraction of it that has passed
-unfoldable pub taiFromMidnight : Float → JulianDate → DayOffsets → Float → Float
-taiFromMidnight big z o f =
+unfoldable pub tai_from_midnight : Float → JulianDate → DayOffsets → Float → Float
+tai_from_midnight big z o f =
     add binary64 (add binary64 (sub binary64 z.jd1 big) z.jd2)
-    (add binary64 (stretchDayFraction o f) (div binary64 o.at_0h secondsPerDay))
+    (add binary64 (stretch_day_fraction o f) (div binary64 o.at_0h seconds_per_day))
 
 -- refusals: 6, then the date's
-unfoldable pub taiFraction : List Row → Float → Float → Outcome Float
-taiFraction rows big small =
-    onward (julianToCalendar big small) (λ c.
-    onward (offsetsOf rows c.date) (λ o.
-    onward (midnightOf c.date) (λ z.
-    answer (taiFromMidnight big z o c.fraction))))
+unfoldable pub tai_fraction : List Row → Float → Float → Outcome Float
+tai_fraction rows big small =
+    onward (julian_to_calendar big small) (λ c.
+    onward (offsets_of rows c.date) (λ o.
+    onward (midnight_of c.date) (λ z.
+    answer (tai_from_midnight big z o c.fraction))))
 
-unfoldable pub utcToTai : List Row → JulianDate → Outcome JulianDate
-utcToTai rows d = changeSmaller (taiFraction rows) d
+unfoldable pub utc_to_tai : List Row → JulianDate → Outcome JulianDate
+utc_to_tai rows d = change_smaller (tai_fraction rows) d
 
 -- a guess of the smaller part in UTC, moved by what its TAI is off
 unfoldable pub moved : Float → Float → Float → JulianDate → Float
@@ -51,15 +51,15 @@ moved big small guess tai = add binary64 (add binary64 guess (sub binary64 big t
 
 -- one round
 unfoldable pub refined : List Row → Float → Float → Float → Outcome Float
-refined rows big small guess = onward (utcToTai rows (julian big guess)) (λ tai. answer (moved big small guess tai))
+refined rows big small guess = onward (utc_to_tai rows (julian big guess)) (λ tai. answer (moved big small guess tai))
 
 unfoldable pub rounds : List Row → Float → Float → ℕ → Float → Outcome Float
 rounds rows big small zero guess = answer guess
 rounds rows big small (suc k) guess = onward (refined rows big small guess) (rounds rows big small k)
 
 -- three rounds; the first guess is TAI's smaller part
-unfoldable pub refineUtcFraction : List Row → Float → Float → Outcome Float
-refineUtcFraction rows big small = rounds rows big small 3 small
+unfoldable pub refine_utc_fraction : List Row → Float → Float → Outcome Float
+refine_utc_fraction rows big small = rounds rows big small 3 small
 
-unfoldable pub taiToUtc : List Row → JulianDate → Outcome JulianDate
-taiToUtc rows d = changeSmaller (refineUtcFraction rows) d
+unfoldable pub tai_to_utc : List Row → JulianDate → Outcome JulianDate
+tai_to_utc rows d = change_smaller (refine_utc_fraction rows) d

@@ -3,15 +3,15 @@ ghost use Rattle.std.specs.Prelude.{◌≡◌, ◌≤◌, pos, nat_abs, ◌-ℤ�
 ghost use Rattle.std.specs.Float.{binary64};
 ghost use Rattle.std.specs.Float.Ieee.{of_int};
 ghost use Rattle.refusals.specs.Outcome.{onward};
-ghost use Rattle.calendar.specs.Gregorian.{gregorianDate};
-ghost use Rattle.julian.specs.JulianDate.{julianOutcome};
-ghost use Rattle.julian.specs.DayFraction.{fractionOutcome};
-ghost use Rattle.leap_table.specs.rows.Announced.{rowsIn};
-ghost use Rattle.leap_table.specs.offsets.Rule.{withRule};
-ghost use Rattle.leap_table.specs.offsets.Answers.{secondsByRuleOutcome};
-ghost use Rattle.utc_scales.specs.days.LargerPart.{firstIsKept, keptParts, putBeside, placed};
-ghost use Rattle.utc_scales.specs.days.Dates.{offsetAt0h};
-ghost use Rattle.utc_scales.specs.days.DateRule.{ruleOn};
+ghost use Rattle.calendar.specs.Gregorian.{gregorian_date};
+ghost use Rattle.julian.specs.JulianDate.{julian_outcome};
+ghost use Rattle.julian.specs.DayFraction.{fraction_outcome};
+ghost use Rattle.leap_table.specs.rows.Announced.{rows_in};
+ghost use Rattle.leap_table.specs.offsets.Rule.{with_rule};
+ghost use Rattle.leap_table.specs.offsets.Answers.{seconds_by_rule_outcome};
+ghost use Rattle.utc_scales.specs.days.LargerPart.{first_is_kept, kept_parts, put_beside, placed};
+ghost use Rattle.utc_scales.specs.days.Dates.{offset_at0h};
+ghost use Rattle.utc_scales.specs.days.DateRule.{rule_on};
 
 use julian::{FractionAnswer, JulianAnswer, JulianDate};
 use leap_table::offsets::SecondsByRule;
@@ -25,13 +25,13 @@ pub struct Parts {
 
 // Whether jd1 counts as the larger part.
 fn first_is_kept(jd: JulianDate) -> bool
-    ensures { result ≡ firstIsKept jd }
+    ensures { result ≡ first_is_kept jd }
 {
     floats::at_least_in_size(jd.jd1, jd.jd2)
 }
 
 pub(crate) fn kept_parts(jd: JulianDate) -> Parts
-    ensures { result ≡ keptParts jd }
+    ensures { result ≡ kept_parts jd }
 {
     if first_is_kept(jd) {
         Parts {
@@ -50,7 +50,7 @@ pub(crate) fn kept_parts(jd: JulianDate) -> Parts
 
 // The larger part in its place, and x for the smaller one.
 pub(crate) fn put_beside(p: Parts, x: f64) -> JulianDate
-    ensures { result ≡ putBeside p x }
+    ensures { result ≡ put_beside p x }
 {
     if p.first {
         JulianDate {
@@ -67,7 +67,7 @@ pub(crate) fn put_beside(p: Parts, x: f64) -> JulianDate
 
 // The same, where the smaller part was not refused.
 pub(crate) fn placed(p: Parts, x: FractionAnswer) -> JulianAnswer
-    ensures { julianOutcome result ≡ onward (fractionOutcome x) (placed p) }
+    ensures { julian_outcome result ≡ onward (fraction_outcome x) (placed p) }
 {
     match x {
         FractionAnswer::Refused(number) => JulianAnswer::Refused(number),
@@ -82,8 +82,8 @@ pub fn offset_at_0h<'a>(
     months: &'a [i32; 16],
     seconds: &'a [i32; 16],
 ) -> SecondsByRule
-    ensures { secondsByRuleOutcome result ≡ withRule (offsetAt0h (rowsIn size months.now seconds.now) (gregorianDate day))
-        (ruleOn (rowsIn size months.now seconds.now) (gregorianDate day)) }
+    ensures { seconds_by_rule_outcome result ≡ with_rule (offset_at0h (rows_in size months.now seconds.now) (gregorian_date day))
+        (rule_on (rows_in size months.now seconds.now) (gregorian_date day)) }
 {
     let t = calendar::gregorian_date(day);
     leap_table::offsets::offset_at_0h_by_arrays(

@@ -1,13 +1,13 @@
 // UT1 to UTC by DUT1, with its scan for a leap second. From scales/conversions/utc_ut1/mod.rs.
 ghost use Rattle.std.specs.Prelude.{◌≡◌};
 ghost use Rattle.refusals.specs.Outcome.{onward};
-ghost use Rattle.constants.specs.Constants.{mjdZeroPoint};
-ghost use Rattle.julian.specs.JulianDate.{julian, julianOutcome};
-ghost use Rattle.julian.specs.DayFraction.{fractionOutcome};
+ghost use Rattle.constants.specs.Constants.{mjd_zero_point};
+ghost use Rattle.julian.specs.JulianDate.{julian, julian_outcome};
+ghost use Rattle.julian.specs.DayFraction.{fraction_outcome};
 ghost use Rattle.julian.specs.Finite as J;
-ghost use Rattle.leap_table.specs.rows.Announced.{rowsIn, table_of};
-ghost use Rattle.scales.specs.Scales.{utcOutcome};
-ghost use Rattle.utc_scales.specs.days.LargerPart.{changeSmaller};
+ghost use Rattle.leap_table.specs.rows.Announced.{rows_in, table_of};
+ghost use Rattle.scales.specs.Scales.{utc_outcome};
+ghost use Rattle.utc_scales.specs.days.LargerPart.{change_smaller};
 ghost use Rattle.utc_scales.specs.from_ut1.Ut1Utc as U;
 ghost use Rattle.utc_scales.specs.from_ut1.KnownMonths.{RightMonth, RightScan};
 
@@ -31,7 +31,7 @@ enum DayScan {
 
 // DUT1 less the step, where both have one sign.
 fn before_step(delta: f64, dut1: f64) -> f64
-    ensures { result ≡ U.beforeStep delta dut1 }
+    ensures { result ≡ U.before_step delta dut1 }
 {
     if delta * dut1 >= 0.0 {
         dut1 - delta
@@ -41,20 +41,20 @@ fn before_step(delta: f64, dut1: f64) -> f64
 }
 
 fn time_past_leap(big: f64, small: f64, mjd: f64, dut1: f64) -> f64
-    ensures { result ≡ U.timePastLeap big small (julian mjdZeroPoint mjd) dut1 }
+    ensures { result ≡ U.time_past_leap big small (julian mjd_zero_point mjd) dut1 }
 {
     (big - JulianDate::MJD_ZERO_POINT) + (small - (mjd - 1.0 + dut1 / SECONDS_PER_DAY_F64))
 }
 
 fn at_most_one(x: f64) -> f64
-    ensures { result ≡ U.atMostOne x }
+    ensures { result ≡ U.at_most_one x }
 {
     if x < 1.0 { x } else { 1.0 }
 }
 
 // DUT1 with the part of the step that has passed.
 fn after_step(past: f64, delta: f64, dut1: f64) -> f64
-    ensures { result ≡ U.afterStep past delta dut1 }
+    ensures { result ≡ U.after_step past delta dut1 }
 {
     if past > 0.0 {
         let fraction = at_most_one(past * SECONDS_PER_DAY_F64 / (SECONDS_PER_DAY_F64 + delta));
@@ -65,7 +65,7 @@ fn after_step(past: f64, delta: f64, dut1: f64) -> f64
 }
 
 fn near_step(big: f64, small: f64, dut1: f64, delta: f64, mjd: f64) -> f64
-    ensures { result ≡ U.nearStep big small dut1 delta (julian mjdZeroPoint mjd) }
+    ensures { result ≡ U.near_step big small dut1 delta (julian mjd_zero_point mjd) }
 {
     let duts = before_step(delta, dut1);
     after_step(time_past_leap(big, small, mjd, duts), delta, duts)
@@ -82,9 +82,9 @@ fn scan_day<'a>(
     months: &'a [i32; 16],
     seconds: &'a [i32; 16],
 ) -> DayScan
-    requires { RightMonth (rowsIn size months.now seconds.now) before }
-    ensures { (U.scanOutcome result ≡ U.scanDay (rowsIn size months.now seconds.now) big small dut1 i before.seconds)
-        × RightScan (rowsIn size months.now seconds.now) result }
+    requires { RightMonth (rows_in size months.now seconds.now) before }
+    ensures { (U.scan_outcome result ≡ U.scan_day (rows_in size months.now seconds.now) big small dut1 i before.seconds)
+        × RightScan (rows_in size months.now seconds.now) result }
 {
     match julian::day_number::day_number_and_fraction(big, small + i) {
         DayAnswer::Refused(number) => DayScan::Refused(number),
@@ -112,8 +112,8 @@ fn scan<'a>(
     months: &'a [i32; 16],
     seconds: &'a [i32; 16],
 ) -> julian::OffsetAnswer
-    requires { RightMonth (rowsIn size months.now seconds.now) first }
-    ensures { J.offsetOutcome result ≡ U.scan (rowsIn size months.now seconds.now) big small dut1 4 0 first.seconds }
+    requires { RightMonth (rows_in size months.now seconds.now) first }
+    ensures { J.offset_outcome result ≡ U.scan (rows_in size months.now seconds.now) big small dut1 4 0 first.seconds }
 {
     let mut before = first;
     let mut i: u32 = 0;
@@ -143,7 +143,7 @@ fn adjust_dut1_for_leap_second<'a>(
     months: &'a [i32; 16],
     seconds: &'a [i32; 16],
 ) -> julian::OffsetAnswer
-    ensures { J.offsetOutcome result ≡ U.adjustDut1 (rowsIn size months.now seconds.now) big small dut1 }
+    ensures { J.offset_outcome result ≡ U.adjust_dut1 (rows_in size months.now seconds.now) big small dut1 }
 {
     match month_of_date(big, small + -1.0, size, months, seconds) {
         MonthAnswer::Refused(number) => julian::OffsetAnswer::Refused(number),
@@ -160,7 +160,7 @@ fn utc_fraction<'a>(
     months: &'a [i32; 16],
     seconds: &'a [i32; 16],
 ) -> FractionAnswer
-    ensures { fractionOutcome result ≡ U.utcFraction (rowsIn size months.now seconds.now) dut1 big small }
+    ensures { fraction_outcome result ≡ U.utc_fraction (rows_in size months.now seconds.now) dut1 big small }
 {
     match adjust_dut1_for_leap_second(big, small, dut1, size, months, seconds) {
         julian::OffsetAnswer::Refused(number) => FractionAnswer::Refused(number),
@@ -178,7 +178,7 @@ fn less_dut1<'a>(
     months: &'a [i32; 16],
     seconds: &'a [i32; 16],
 ) -> JulianAnswer
-    ensures { julianOutcome result ≡ changeSmaller (U.utcFraction (rowsIn size months.now seconds.now) dut1) jd }
+    ensures { julian_outcome result ≡ change_smaller (U.utc_fraction (rows_in size months.now seconds.now) dut1) jd }
 {
     let p = kept_parts(jd);
     placed(
@@ -195,7 +195,7 @@ pub fn ut1_to_utc_with_dut1_by_arrays<'a>(
     months: &'a [i32; 16],
     seconds: &'a [i32; 16],
 ) -> UtcAnswer
-    ensures { utcOutcome result ≡ U.ut1ToUtc (rowsIn size months.now seconds.now) ut1.0 dut1 }
+    ensures { utc_outcome result ≡ U.ut1_to_utc (rows_in size months.now seconds.now) ut1.0 dut1 }
 {
     if let julian::OffsetAnswer::Refused(number) = julian::finite_arg(dut1) {
         return UtcAnswer::Refused(number);
@@ -211,7 +211,7 @@ pub fn ut1_to_utc_with_dut1_by_arrays<'a>(
 
 // Refusals in order: 20 to 22 the table, 10, 9, then 6 or 1 for each scanned day.
 pub fn ut1_to_utc_with_dut1(ut1: UT1, dut1: f64, table: AnnouncedRows) -> UtcAnswer
-    ensures { utcOutcome result ≡ onward (table_of table) (λ rows. U.ut1ToUtc rows ut1.0 dut1) }
+    ensures { utc_outcome result ≡ onward (table_of table) (λ rows. U.ut1_to_utc rows ut1.0 dut1) }
 {
     let number = leap_table::rows::table_refusal(table);
     if number != 0 {

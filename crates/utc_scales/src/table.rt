@@ -1,8 +1,8 @@
 // TAI-UTC of the date of a day number.
 ghost use Rattle.std.specs.Prelude.{◌≡◌};
-ghost use Rattle.calendar.specs.Gregorian.{gregorianDate};
-ghost use Rattle.leap_table.specs.rows.Announced.{rowsIn};
-ghost use Rattle.leap_table.specs.offsets.Answers.{dayByRuleOutcome};
+ghost use Rattle.calendar.specs.Gregorian.{gregorian_date};
+ghost use Rattle.leap_table.specs.rows.Announced.{rows_in};
+ghost use Rattle.leap_table.specs.offsets.Answers.{day_by_rule_outcome};
 ghost use Rattle.utc_scales.specs.Known.{read_on, RightKnown};
 
 use leap_table::offsets::{DayByRule, DayOffsets, Rule};
@@ -24,7 +24,7 @@ pub(crate) enum Known {
 
 // At 0h, at 12h and at 24h, and the rule of the day.
 pub fn day_of<'a>(day: i64, size: usize, months: &'a [i32; 16], seconds: &'a [i32; 16]) -> DayByRule
-    ensures { dayByRuleOutcome result ≡ read_on (rowsIn size months.now seconds.now) (gregorianDate day) }
+    ensures { day_by_rule_outcome result ≡ read_on (rows_in size months.now seconds.now) (gregorian_date day) }
 {
     let t = calendar::gregorian_date(day);
     leap_table::offsets::day_offsets_by_arrays(
@@ -45,8 +45,8 @@ pub(crate) fn day_with<'a>(
     months: &'a [i32; 16],
     seconds: &'a [i32; 16],
 ) -> DayByRule
-    requires { RightKnown (rowsIn size months.now seconds.now) known }
-    ensures { dayByRuleOutcome result ≡ read_on (rowsIn size months.now seconds.now) (gregorianDate day) }
+    requires { RightKnown (rows_in size months.now seconds.now) known }
+    ensures { day_by_rule_outcome result ≡ read_on (rows_in size months.now seconds.now) (gregorian_date day) }
 {
     match known {
         Known::Nothing => day_of(day, size, months, seconds),

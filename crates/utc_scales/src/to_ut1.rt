@@ -1,13 +1,13 @@
 // UTC to UT1 by DUT1. From scales/conversions/utc_ut1/mod.rs.
 ghost use Rattle.std.specs.Prelude.{◌≡◌};
 ghost use Rattle.refusals.specs.Outcome.{onward};
-ghost use Rattle.leap_table.specs.rows.Announced.{rowsIn, table_of};
+ghost use Rattle.leap_table.specs.rows.Announced.{rows_in, table_of};
 ghost use Rattle.leap_table.specs.offsets.Answers as T;
-ghost use Rattle.leap_table.specs.offsets.Rule.{withRule};
-ghost use Rattle.scales.specs.Scales.{ut1Outcome};
-ghost use Rattle.utc_scales.specs.days.DateRule.{offsetOfDateByRule};
+ghost use Rattle.leap_table.specs.offsets.Rule.{with_rule};
+ghost use Rattle.scales.specs.Scales.{ut1_outcome};
+ghost use Rattle.utc_scales.specs.days.DateRule.{offset_of_date_by_rule};
 ghost use Rattle.utc_scales.specs.Known.{SameDay};
-ghost use Rattle.utc_scales.specs.to_ut1.ByRule.{utcToUt1ByRule, ut1ByRuleOutcome, offsetOfParts};
+ghost use Rattle.utc_scales.specs.to_ut1.ByRule.{utc_to_ut1_by_rule, ut1_by_rule_outcome, offset_of_parts};
 
 use crate::days::{Parts, kept_parts, offset_at_0h, put_beside};
 use crate::table::Known;
@@ -32,7 +32,7 @@ fn offset_of_date<'a>(
     months: &'a [i32; 16],
     seconds: &'a [i32; 16],
 ) -> SecondsByRule
-    ensures { T.secondsByRuleOutcome result ≡ offsetOfDateByRule (rowsIn size months.now seconds.now) jd1 jd2 }
+    ensures { T.seconds_by_rule_outcome result ≡ offset_of_date_by_rule (rows_in size months.now seconds.now) jd1 jd2 }
 {
     match julian::day_number::day_number_and_fraction(jd1, jd2) {
         DayAnswer::Refused(number) => SecondsByRule::Refused(number),
@@ -49,8 +49,8 @@ fn offset_with<'a>(
     months: &'a [i32; 16],
     seconds: &'a [i32; 16],
 ) -> SecondsByRule
-    requires { SameDay (rowsIn size months.now seconds.now) p.larger p.smaller x rule }
-    ensures { T.secondsByRuleOutcome result ≡ offsetOfParts (rowsIn size months.now seconds.now) p }
+    requires { SameDay (rows_in size months.now seconds.now) p.larger p.smaller x rule }
+    ensures { T.seconds_by_rule_outcome result ≡ offset_of_parts (rows_in size months.now seconds.now) p }
 {
     if p.first {
         SecondsByRule::Seconds(x, rule)
@@ -60,7 +60,7 @@ fn offset_with<'a>(
 }
 
 fn with_rule(found: Ut1Answer, rule: Rule) -> Ut1ByRule
-    ensures { ut1ByRuleOutcome result ≡ withRule (ut1Outcome found) rule }
+    ensures { ut1_by_rule_outcome result ≡ with_rule (ut1_outcome found) rule }
 {
     match found {
         Ut1Answer::Refused(number) => Ut1ByRule::Refused(number),
@@ -76,7 +76,7 @@ pub fn utc_to_ut1_with_dut1_by_arrays<'a>(
     months: &'a [i32; 16],
     seconds: &'a [i32; 16],
 ) -> Ut1ByRule
-    ensures { ut1ByRuleOutcome result ≡ utcToUt1ByRule (rowsIn size months.now seconds.now) utc.0 dut1 }
+    ensures { ut1_by_rule_outcome result ≡ utc_to_ut1_by_rule (rows_in size months.now seconds.now) utc.0 dut1 }
 {
     if let julian::OffsetAnswer::Refused(number) = julian::finite_arg(dut1) {
         return Ut1ByRule::Refused(number);
@@ -102,7 +102,7 @@ pub fn utc_to_ut1_with_dut1_by_arrays<'a>(
 
 // UT1 with the rule of TAI-UTC on the date. Refusals in order: 20 to 22 the table, 10, 6, the date's.
 pub fn utc_to_ut1_with_dut1(utc: UTC, dut1: f64, table: AnnouncedRows) -> Ut1ByRule
-    ensures { ut1ByRuleOutcome result ≡ onward (table_of table) (λ rows. utcToUt1ByRule rows utc.0 dut1) }
+    ensures { ut1_by_rule_outcome result ≡ onward (table_of table) (λ rows. utc_to_ut1_by_rule rows utc.0 dut1) }
 {
     let number = leap_table::rows::table_refusal(table);
     if number != 0 {

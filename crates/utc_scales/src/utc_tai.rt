@@ -1,13 +1,13 @@
 // UTC to TAI, and TAI to UTC in three rounds. From scales/conversions/utc_tai/mod.rs but its calendar.
 ghost use Rattle.std.specs.Prelude.{◌≡◌};
 ghost use Rattle.refusals.specs.Outcome.{onward};
-ghost use Rattle.julian.specs.JulianDate.{julian, julianOutcome};
-ghost use Rattle.julian.specs.DayFraction.{fractionOutcome};
-ghost use Rattle.constants.specs.Constants.{mjdZeroPoint};
-ghost use Rattle.leap_table.specs.rows.Announced.{rowsIn, table_of};
-ghost use Rattle.scales.specs.Scales.{utcOutcome};
-ghost use Rattle.utc_scales.specs.ByRule.{utcToTaiByRule, taiByRuleOutcome};
-ghost use Rattle.utc_scales.specs.Known.{RightKnown, partOutcome, RightPart, DayOfDate};
+ghost use Rattle.julian.specs.JulianDate.{julian, julian_outcome};
+ghost use Rattle.julian.specs.DayFraction.{fraction_outcome};
+ghost use Rattle.constants.specs.Constants.{mjd_zero_point};
+ghost use Rattle.leap_table.specs.rows.Announced.{rows_in, table_of};
+ghost use Rattle.scales.specs.Scales.{utc_outcome};
+ghost use Rattle.utc_scales.specs.ByRule.{utc_to_tai_by_rule, tai_by_rule_outcome};
+ghost use Rattle.utc_scales.specs.Known.{RightKnown, part_outcome, RightPart, DayOfDate};
 ghost use Rattle.utc_scales.specs.UtcTai as U;
 
 use super::table::{Known, KnownDay, day_with};
@@ -42,7 +42,7 @@ pub enum TaiByRule {
 
 // The fraction of a day of 86,400 s, the drift through it and the leap at its end, in days of 86,400 s.
 fn stretch_day_fraction(o: DayOffsets, fraction: f64) -> f64
-    ensures { result ≡ U.stretchDayFraction o fraction }
+    ensures { result ≡ U.stretch_day_fraction o fraction }
 {
     let drift_rate = 2.0 * (o.at_12h - o.at_0h);
     let leap_amount = o.at_24h - (o.at_0h + drift_rate);
@@ -52,7 +52,7 @@ fn stretch_day_fraction(o: DayOffsets, fraction: f64) -> f64
 
 // The smaller part in TAI, from the day's midnight and its offsets.
 fn tai_from_midnight(big: f64, mjd: f64, o: DayOffsets, fraction: f64) -> f64
-    ensures { result ≡ U.taiFromMidnight big (julian mjdZeroPoint mjd) o fraction }
+    ensures { result ≡ U.tai_from_midnight big (julian mjd_zero_point mjd) o fraction }
 {
     let midnight = JulianDate::MJD_ZERO_POINT - big + mjd;
     midnight + (stretch_day_fraction(o, fraction) + o.at_0h / SECONDS_PER_DAY_F64)
@@ -67,9 +67,9 @@ pub(crate) fn tai_fraction<'a>(
     months: &'a [i32; 16],
     seconds: &'a [i32; 16],
 ) -> PartAnswer
-    requires { RightKnown (rowsIn size months.now seconds.now) known }
-    ensures { (partOutcome result ≡ U.taiFraction (rowsIn size months.now seconds.now) big small)
-        × DayOfDate (rowsIn size months.now seconds.now) big small result }
+    requires { RightKnown (rows_in size months.now seconds.now) known }
+    ensures { (part_outcome result ≡ U.tai_fraction (rows_in size months.now seconds.now) big small)
+        × DayOfDate (rows_in size months.now seconds.now) big small result }
 {
     match julian::day_number::day_number_and_fraction(big, small) {
         DayAnswer::Refused(number) => PartAnswer::Refused(number),
@@ -97,7 +97,7 @@ pub fn utc_to_tai_by_arrays<'a>(
     months: &'a [i32; 16],
     seconds: &'a [i32; 16],
 ) -> TaiByRule
-    ensures { taiByRuleOutcome result ≡ utcToTaiByRule (rowsIn size months.now seconds.now) utc.0 }
+    ensures { tai_by_rule_outcome result ≡ utc_to_tai_by_rule (rows_in size months.now seconds.now) utc.0 }
 {
     let p = kept_parts(utc.0);
     match tai_fraction(p.larger, p.smaller, Known::Nothing, size, months, seconds) {
@@ -112,7 +112,7 @@ pub fn utc_to_tai_by_arrays<'a>(
 
 // TAI with the rule of TAI-UTC on the date. Refusals in order: 20 to 22 the table, 6, then the date's.
 pub fn utc_to_tai(utc: UTC, table: AnnouncedRows) -> TaiByRule
-    ensures { taiByRuleOutcome result ≡ onward (table_of table) (λ rows. utcToTaiByRule rows utc.0) }
+    ensures { tai_by_rule_outcome result ≡ onward (table_of table) (λ rows. utc_to_tai_by_rule rows utc.0) }
 {
     let number = leap_table::rows::table_refusal(table);
     if number != 0 {
@@ -136,9 +136,9 @@ fn refined<'a>(
     months: &'a [i32; 16],
     seconds: &'a [i32; 16],
 ) -> PartAnswer
-    requires { RightKnown (rowsIn size months.now seconds.now) known }
-    ensures { (partOutcome result ≡ U.refined (rowsIn size months.now seconds.now) big small guess)
-        × RightPart (rowsIn size months.now seconds.now) result }
+    requires { RightKnown (rows_in size months.now seconds.now) known }
+    ensures { (part_outcome result ≡ U.refined (rows_in size months.now seconds.now) big small guess)
+        × RightPart (rows_in size months.now seconds.now) result }
 {
     let p = kept_parts(JulianDate {
         jd1: big,
@@ -165,9 +165,9 @@ fn refined_again<'a>(
     months: &'a [i32; 16],
     seconds: &'a [i32; 16],
 ) -> PartAnswer
-    requires { RightPart (rowsIn size months.now seconds.now) guess }
-    ensures { (partOutcome result ≡ onward (partOutcome guess) (U.refined (rowsIn size months.now seconds.now) big small))
-        × RightPart (rowsIn size months.now seconds.now) result }
+    requires { RightPart (rows_in size months.now seconds.now) guess }
+    ensures { (part_outcome result ≡ onward (part_outcome guess) (U.refined (rows_in size months.now seconds.now) big small))
+        × RightPart (rows_in size months.now seconds.now) result }
 {
     match guess {
         PartAnswer::Refused(number) => PartAnswer::Refused(number),
@@ -186,7 +186,7 @@ fn refine_utc_fraction<'a>(
     months: &'a [i32; 16],
     seconds: &'a [i32; 16],
 ) -> FractionAnswer
-    ensures { fractionOutcome result ≡ U.refineUtcFraction (rowsIn size months.now seconds.now) big small }
+    ensures { fraction_outcome result ≡ U.refine_utc_fraction (rows_in size months.now seconds.now) big small }
 {
     let one = refined(big, small, small, Known::Nothing, size, months, seconds);
     let two = refined_again(big, small, one, size, months, seconds);
@@ -203,7 +203,7 @@ pub fn tai_to_utc_by_arrays<'a>(
     months: &'a [i32; 16],
     seconds: &'a [i32; 16],
 ) -> UtcAnswer
-    ensures { utcOutcome result ≡ U.taiToUtc (rowsIn size months.now seconds.now) tai.0 }
+    ensures { utc_outcome result ≡ U.tai_to_utc (rows_in size months.now seconds.now) tai.0 }
 {
     let p = kept_parts(tai.0);
     match placed(
@@ -217,7 +217,7 @@ pub fn tai_to_utc_by_arrays<'a>(
 
 // Refusals in order: 20 to 22 the table; then in each round 6, then the date's.
 pub fn tai_to_utc(tai: TAI, table: AnnouncedRows) -> UtcAnswer
-    ensures { utcOutcome result ≡ onward (table_of table) (λ rows. U.taiToUtc rows tai.0) }
+    ensures { utc_outcome result ≡ onward (table_of table) (λ rows. U.tai_to_utc rows tai.0) }
 {
     let number = leap_table::rows::table_refusal(table);
     if number != 0 {

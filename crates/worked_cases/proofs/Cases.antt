@@ -5,19 +5,19 @@ use lib.ListN.{length}
 use lib.Ieee.{binary64, round, of_bits}
 use Rattle.refusals.specs.Outcome.{Outcome}
 use Rattle.worked_cases.specs.Calls.{Call, Value}
-use Rattle.worked_cases.specs.Cases.{Case, answers, expectations, leapSecond, starred}
+use Rattle.worked_cases.specs.Cases.{Case, answers, expectations, leap_second, starred}
 use Rattle.worked_cases.specs.Others.{others}
-use Rattle.worked_cases.proofs.Computed.{computed, as-computed}
+use Rattle.worked_cases.proofs.Computed.{computed, as_computed}
 
 -- the same answers, as a check computes them
 abbrev computations : List Case → List (Outcome Value)
 computations cases = map (λ (c : Case). computed c.call) cases
 
 answers-computed : (cases : List Case) → answers cases ≡ computations cases
-answers-computed cases = ap (λ (f : Call → Outcome Value). map (λ (c : Case). f c.call) cases) (λ i c. as-computed c i)
+answers-computed cases = ap (λ (f : Call → Outcome Value). map (λ (c : Case). f c.call) cases) (λ i c. as_computed c i)
 
 starred-computed : computations starred ≡ expectations starred
-unfolding starred leapSecond computed
+unfolding starred leap_second computed
 starred-computed = refl
 
 -- DOCUMENT 01'S SIXTEEN STARRED CASES: each call answers what the paper says
@@ -29,8 +29,8 @@ unfolding starred
 sixteen = refl
 
 -- the pattern of 86400 / 86401, rounded once: 0.9999884260598836
-pub leap-second-is : leapSecond ≡ of_bits binary64 0x3fef_ffe7_ba49_c869
-unfolding leapSecond round of_bits
+pub leap-second-is : leap_second ≡ of_bits binary64 0x3fef_ffe7_ba49_c869
+unfolding leap_second round of_bits
 leap-second-is = refl
 
 others-computed : computations others ≡ expectations others
@@ -38,5 +38,5 @@ unfolding others computed
 others-computed = refl
 
 -- the other worked cases
-pub other-cases : answers others ≡ expectations others
-other-cases = answers-computed others ∙ others-computed
+pub other_cases : answers others ≡ expectations others
+other_cases = answers-computed others ∙ others-computed

@@ -1,27 +1,27 @@
 -- `block_io::write_listing` meets its contract: a part that is not the last brings it on by a line at least. The measure is the number of lines that can be
 -- left. Assumes nothing.
-use Prim.Native.Nat.{◌-◌, ◌≤◌, zero-le}
+use Prim.Native.Nat.{◌-◌, ◌≤◌, zero_le}
 use mathlib.Core.Path.{◌≡◌}
 use mathlib.Core.Bool.{false≢true}
 use lib.ListN.{length}
 use native.Mathlib.Omega.{arith}
 use borrow.Author.Rules.{rules}
 use Rattle.stamps.specs.Block.{block_of}
-use Rattle.stamps.specs.Parts.{linesIn}
+use Rattle.stamps.specs.Parts.{lines_in}
 use Rattle.stamps.proofs.Texts.{room-high}
 use Rattle.stamps.proofs.Parts.{part-within, part-brings-on}
-use Rattle.block_io.proofs.Counted.{next-within, comes-last}
+use Rattle.block_io.proofs.Counted.{next-within, comes_last}
 use Rattle.block_io.proofs.write_listing.Statement.{statement}
 use Rattle.block_io.proofs.write_listing.Tie as tie
 
 abbrev invariant-loop : tie.invariant-loop
-invariant-loop how block scratch₀ table line₀ scratch line = (line ≤ linesIn (block_of block)) × (64 ≡ length scratch)
+invariant-loop how block scratch₀ table line₀ scratch line = (line ≤ lines_in (block_of block)) × (64 ≡ length scratch)
 
 abbrev decreases-loop : tie.decreases-loop
 decreases-loop how block scratch₀ table line₀ scratch line = 4001 - line
 
 loop-holds : tie.Need-loop-init invariant-loop decreases-loop
-loop-holds c = (zero-le, search rules)
+loop-holds c = (zero_le, search rules)
 
 array-share-prefix-scratch : tie.Need-array-share-prefix-scratch invariant-loop decreases-loop
 array-share-prefix-scratch c = (part-within c.before.next-part-by-rows.ensures).0
@@ -39,7 +39,7 @@ returns-2 : tie.Need-returns-2 invariant-loop decreases-loop
 returns-2 c =
     let p = c.before.before.before.before.before.next-part-by-rows.ensures in
     let h = c.before.before.before.before.before.before.before.loop.invariant.0 in
-    record { within = next-within p h; whole = λ e. comes-last p h c.if2.true }
+    record { within = next-within p h; whole = λ e. comes_last p h c.if2.true }
 
 loop-less : tie.Need-loop-smaller invariant-loop decreases-loop
 loop-less c =

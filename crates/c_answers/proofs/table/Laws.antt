@@ -9,50 +9,50 @@ use lib.Dec.{eqb, leb}
 use lib.ListN.{length, get_or, replicate}
 use borrow.Author.Tests.{eq-eqb, eqb-true}
 use Rattle.refusals.specs.Outcome.{Outcome, answer, refusal, onward}
-use Rattle.numerals.specs.little_endian.LittleEndian.{fourAt, u32_at, signed32, i32At}
+use Rattle.numerals.specs.little_endian.LittleEndian.{four_at, u32_at, signed32, i32_at}
 use Rattle.leap_table.specs.rows.Table.{Row, row, fixed}
-use Rattle.leap_table.specs.rows.Announced.{least, rows_to, announcedSize, table_of, Decision, sizes, order, step, taken, unlessRefused}
+use Rattle.leap_table.specs.rows.Announced.{least, rows_to, announced_size, table_of, Decision, sizes, order, step, taken, unless_refused}
 use Rattle.leap_table.proofs.rows.Tables.{least-right}
 use Rattle.leap_table.proofs.rows.TableLaws.{table-decided}
 use Rattle.leap_table.proofs.rows.TablesTaken.{table_none}
-use Rattle.c_answers.specs.table.TableBytes.{signedFrom, recordIn, ofLength, tableBytes}
+use Rattle.c_answers.specs.table.TableBytes.{signed_from, record_in, of_length, table_bytes}
 use Rattle.c_answers.proofs.table.Reading.{place_of, same-table}
 
 -- ---- the number of a refusal, and a call that goes on with the rows
-module _ {B : Type 0} (rows : List Row) {o : Outcome (List Row)} (n : ℕ) (e : unlessRefused n rows ≡ o) (next : List Row → Outcome B) where
+module _ {B : Type 0} (rows : List Row) {o : Outcome (List Row)} (n : ℕ) (e : unless_refused n rows ≡ o) (next : List Row → Outcome B) where
   pub not_taken : (n ≡ 0 → ⊥) → onward o next ≡ refusal n
   unfolding onward
   not_taken h = sym (go n h ∙ ap (λ (p : Outcome (List Row)). onward p next) e)
     where
-      go : (k : ℕ) → (k ≡ 0 → ⊥) → refusal k ≡ onward (unlessRefused k rows) next
+      go : (k : ℕ) → (k ≡ 0 → ⊥) → refusal k ≡ onward (unless_refused k rows) next
       go zero h = absurd (h refl)
       go (suc k) h = refl
 
   pub gone-on : n ≡ 0 → next rows ≡ onward o next
   unfolding onward
-  gone-on h = ap (λ (k : ℕ). onward (unlessRefused k rows) next) (sym h) ∙ ap (λ (p : Outcome (List Row)). onward p next) e
+  gone-on h = ap (λ (k : ℕ). onward (unless_refused k rows) next) (sym h) ∙ ap (λ (p : Outcome (List Row)). onward p next) e
 
 -- ---- 14, 20, 21 and 22 occur, and no other number
-pub numbers : (s : List ℕ) (k : ℕ) → tableBytes s ≡ refusal k → (k ≡ 14) ⊎ ((k ≡ 20) ⊎ ((k ≡ 21) ⊎ (k ≡ 22)))
-unfolding tableBytes ofLength
+pub numbers : (s : List ℕ) (k : ℕ) → table_bytes s ≡ refusal k → (k ≡ 14) ⊎ ((k ≡ 20) ⊎ ((k ≡ 21) ⊎ (k ≡ 22)))
+unfolding table_bytes of_length
 numbers s k e = go (eqb (length s) 136) e
   where
-    of-table : Decision (recordIn s) → table_of (recordIn s) ≡ refusal k → (k ≡ 14) ⊎ ((k ≡ 20) ⊎ ((k ≡ 21) ⊎ (k ≡ 22)))
-    of-table (sizes h p) q = inr (inl (let z : k ≡ 20 = cc in z))
-    of-table (order a b i h l p) q = inr (inr (inl (let z : k ≡ 21 = cc in z)))
-    of-table (step a b m i h l p) q = inr (inr (inr (let z : k ≡ 22 = cc in z)))
-    of-table (taken a b m l p) q = absurd (let z : ◌≡◌ {A = ℕ} 0 1 = cc in let no : ⊥ = omega arith in no)
+    of_table : Decision (record_in s) → table_of (record_in s) ≡ refusal k → (k ≡ 14) ⊎ ((k ≡ 20) ⊎ ((k ≡ 21) ⊎ (k ≡ 22)))
+    of_table (sizes h p) q = inr (inl (let z : k ≡ 20 = cc in z))
+    of_table (order a b i h l p) q = inr (inr (inl (let z : k ≡ 21 = cc in z)))
+    of_table (step a b m i h l p) q = inr (inr (inr (let z : k ≡ 22 = cc in z)))
+    of_table (taken a b m l p) q = absurd (let z : ◌≡◌ {A = ℕ} 0 1 = cc in let no : ⊥ = omega arith in no)
 
-    go : (b : Bool) → cond b (table_of (recordIn s)) (refusal 14) ≡ refusal k → (k ≡ 14) ⊎ ((k ≡ 20) ⊎ ((k ≡ 21) ⊎ (k ≡ 22)))
-    go true q = of-table (table-decided (recordIn s)) q
+    go : (b : Bool) → cond b (table_of (record_in s)) (refusal 14) ≡ refusal k → (k ≡ 14) ⊎ ((k ≡ 20) ⊎ ((k ≡ 21) ⊎ (k ≡ 22)))
+    go true q = of_table (table-decided (record_in s)) q
     go false q = inl (let z : k ≡ 14 = cc in z)
 
 -- ---- the length comes first
-pub other_length : (s : List ℕ) → (length s ≡ 136 → ⊥) → tableBytes s ≡ refusal 14
-unfolding tableBytes ofLength
+pub other_length : (s : List ℕ) → (length s ≡ 136 → ⊥) → table_bytes s ≡ refusal 14
+unfolding table_bytes of_length
 other_length s h = go (eqb (length s) 136) refl
   where
-    go : (b : Bool) → eqb (length s) 136 ≡ b → cond (eqb (length s) 136) (table_of (recordIn s)) (refusal 14) ≡ refusal 14
+    go : (b : Bool) → eqb (length s) 136 ≡ b → cond (eqb (length s) 136) (table_of (record_in s)) (refusal 14) ≡ refusal 14
     go true p = absurd (h (eqb-true (length s) 136 p))
     go false p = rw p
 
@@ -60,7 +60,7 @@ other_length s h = go (eqb (length s) 136) refl
 -- judged
 module _ (s s' : List ℕ) (same_length : length s ≡ length s') where
   same_number : (at : ℕ) → ((i : ℕ) → i < 4 → get_or s (at + i) 0 ≡ get_or s' (at + i) 0) → u32_at s at ≡ u32_at s' at
-  unfolding u32_at fourAt
+  unfolding u32_at four_at
   same_number at h =
       let p : get_or s at 0 ≡ get_or s' at 0 = ap (λ (n : ℕ). get_or s n 0) (none at) ∙ h 0 (omega arith) ∙ ap (λ (n : ℕ). get_or s' n 0) (sym (none at)) in
       let q = h 1 (omega arith) in
@@ -73,9 +73,9 @@ module _ (s s' : List ℕ) (same_length : length s ≡ length s') where
 
   pub spare-bytes : ((i : ℕ) → i < 8 → get_or s i 0 ≡ get_or s' i 0)
       → ((i : ℕ) → i < 4 * least (u32_at s 0) 16 → (get_or s (8 + i) 0 ≡ get_or s' (8 + i) 0) × (get_or s (72 + i) 0 ≡ get_or s' (72 + i) 0))
-      → tableBytes s ≡ tableBytes s'
-  unfolding tableBytes
-  spare-bytes h g = λ i. ofLength (same_length i) (same i)
+      → table_bytes s ≡ table_bytes s'
+  unfolding table_bytes
+  spare-bytes h g = λ i. of_length (same_length i) (same i)
     where
       within : (n i j : ℕ) → i < n → j < 4 → 4 * i + j < 4 * n
       within n i j a b = omega arith
@@ -83,12 +83,12 @@ module _ (s s' : List ℕ) (same_length : length s ≡ length s') where
       placed : (at i j : ℕ) → at + 4 * i + j ≡ at + (4 * i + j)
       placed at i j = omega arith
 
-      read : (at i : ℕ) → ((j : ℕ) → j < 4 → get_or s (at + (4 * i + j)) 0 ≡ get_or s' (at + (4 * i + j)) 0) → i32At s (at + 4 * i) ≡ i32At s' (at + 4 * i)
+      read : (at i : ℕ) → ((j : ℕ) → j < 4 → get_or s (at + (4 * i + j)) 0 ≡ get_or s' (at + (4 * i + j)) 0) → i32_at s (at + 4 * i) ≡ i32_at s' (at + 4 * i)
       read at i k = ap signed32 (same_number (at + 4 * i)
           (λ j l. ap (λ (n : ℕ). get_or s n 0) (placed at i j) ∙ k j l ∙ ap (λ (n : ℕ). get_or s' n 0) (sym (placed at i j))))
 
-      same : table_of (recordIn s) ≡ table_of (recordIn s')
-      same = same-table s' (recordIn s)
+      same : table_of (record_in s) ≡ table_of (record_in s')
+      same = same-table s' (record_in s)
           (same_number 0 (λ i l. ap (λ (n : ℕ). get_or s n 0) (zeroth i) ∙ h i (omega arith) ∙ ap (λ (n : ℕ). get_or s' n 0) (sym (zeroth i))))
           (same_number 4 (λ i l. h (4 + i) (omega arith)))
           (λ i l. place_of s 8 16 i (omega (arith, least-right (u32_at s 0) 16)) ∙ read 8 i (λ j k. (g (4 * i + j) (within (least (u32_at s 0) 16) i j l k)).0))
@@ -98,34 +98,34 @@ module _ (s s' : List ℕ) (same_length : length s ≡ length s') where
           zeroth i = omega arith
 
 -- ---- two sizes of 0 lend no rows, whatever stands behind them; 136 bytes of 0 are such a table
-pub lends_none : (s : List ℕ) → length s ≡ 136 → u32_at s 0 ≡ 0 → u32_at s 4 ≡ 0 → tableBytes s ≡ answer fixed
-unfolding tableBytes ofLength
-lends_none s e p q = rw (eq-eqb (length s) 136 e) (table_none (recordIn s) p q)
+pub lends_none : (s : List ℕ) → length s ≡ 136 → u32_at s 0 ≡ 0 → u32_at s 4 ≡ 0 → table_bytes s ≡ answer fixed
+unfolding table_bytes of_length
+lends_none s e p q = rw (eq-eqb (length s) 136 e) (table_none (record_in s) p q)
 
-pub no-rows-bytes : tableBytes (replicate 136 0) ≡ answer fixed
-unfolding u32_at fourAt
-no-rows-bytes = lends_none (replicate 136 0) refl refl refl
+pub no_rows_bytes : table_bytes (replicate 136 0) ≡ answer fixed
+unfolding u32_at four_at
+no_rows_bytes = lends_none (replicate 136 0) refl refl refl
 
 -- ---- closed cases: a row of January 2027 with 38 s; its month start read with a sign; its seconds; the length before the sizes
-abbrev pub rowBytes : ℕ → ℕ → ℕ → ℕ → ℕ → List ℕ
-rowBytes size a b c seconds = 1 ∷ 0 ∷ 0 ∷ 0 ∷ size ∷ 0 ∷ 0 ∷ 0 ∷ a ∷ b ∷ c ∷ c ∷ (replicate 60 0 ++ (seconds ∷ 0 ∷ 0 ∷ 0 ∷ replicate 60 0))
+abbrev pub row_bytes : ℕ → ℕ → ℕ → ℕ → ℕ → List ℕ
+row_bytes size a b c seconds = 1 ∷ 0 ∷ 0 ∷ 0 ∷ size ∷ 0 ∷ 0 ∷ 0 ∷ a ∷ b ∷ c ∷ c ∷ (replicate 60 0 ++ (seconds ∷ 0 ∷ 0 ∷ 0 ∷ replicate 60 0))
 
-pub one-row : tableBytes (rowBytes 1 0x04 0x5f 0 38) ≡ answer (fixed ++ (row 2027 1 380000000 0 0 ∷ []))
-unfolding tableBytes ofLength table_of announcedSize rows_to fixed signedFrom signed32 u32_at fourAt
+pub one-row : table_bytes (row_bytes 1 0x04 0x5f 0 38) ≡ answer (fixed ++ (row 2027 1 380000000 0 0 ∷ []))
+unfolding table_bytes of_length table_of announced_size rows_to fixed signed_from signed32 u32_at four_at
 one-row = refl
 
-pub month-below-zero : tableBytes (rowBytes 1 0xff 0xff 0xff 38) ≡ refusal 21
-unfolding tableBytes ofLength table_of announcedSize rows_to fixed signedFrom signed32 u32_at fourAt
+pub month-below-zero : table_bytes (row_bytes 1 0xff 0xff 0xff 38) ≡ refusal 21
+unfolding table_bytes of_length table_of announced_size rows_to fixed signed_from signed32 u32_at four_at
 month-below-zero = refl
 
-pub two-seconds : tableBytes (rowBytes 1 0x04 0x5f 0 39) ≡ refusal 22
-unfolding tableBytes ofLength table_of announcedSize rows_to fixed signedFrom signed32 u32_at fourAt
+pub two-seconds : table_bytes (row_bytes 1 0x04 0x5f 0 39) ≡ refusal 22
+unfolding table_bytes of_length table_of announced_size rows_to fixed signed_from signed32 u32_at four_at
 two-seconds = refl
 
-pub unequal-sizes : tableBytes (rowBytes 2 0x04 0x5f 0 38) ≡ refusal 20
-unfolding tableBytes ofLength table_of announcedSize rows_to fixed signedFrom signed32 u32_at fourAt
-unequal-sizes = refl
+pub unequal_sizes : table_bytes (row_bytes 2 0x04 0x5f 0 38) ≡ refusal 20
+unfolding table_bytes of_length table_of announced_size rows_to fixed signed_from signed32 u32_at four_at
+unequal_sizes = refl
 
-pub one-byte-more : tableBytes (rowBytes 2 0x04 0x5f 0 38 ++ (0 ∷ [])) ≡ refusal 14
-unfolding tableBytes ofLength
+pub one-byte-more : table_bytes (row_bytes 2 0x04 0x5f 0 38 ++ (0 ∷ [])) ≡ refusal 14
+unfolding table_bytes of_length
 one-byte-more = refl

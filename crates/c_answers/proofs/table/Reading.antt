@@ -12,36 +12,36 @@ use lib.Seq.{get_or-set_same, get_or-set_other}
 use borrow.Author.Count.{below_more}
 use borrow.Author.Tests.{eq-eqb, ne_eqb, eqb-true, leb-true, leb-false}
 use Rattle.refusals.specs.Outcome.{Outcome, answer}
-use Rattle.numerals.specs.little_endian.LittleEndian.{u32_at, i32At}
+use Rattle.numerals.specs.little_endian.LittleEndian.{u32_at, i32_at}
 use Rattle.leap_table.specs.declared.rows.AnnouncedRows.{AnnouncedRows}
 use Rattle.leap_table.specs.rows.Table.{Row, fixed}
-use Rattle.leap_table.specs.rows.Announced.{least, announcedSize, rows_of, rowsIn, announcedTable, table_of, unlessRefused, Judged}
+use Rattle.leap_table.specs.rows.Announced.{least, announced_size, rows_of, rows_in, announced_table, table_of, unless_refused, Judged}
 use Rattle.leap_table.proofs.rows.Tables.{least-right}
 use Rattle.leap_table.proofs.rows.TableLaws.{spare-unread}
-use Rattle.leap_table.proofs.rows.ByParts.{least-low, rows_in}
-use Rattle.leap_table.proofs.rows.TablesTaken.{table_none, none_rows, when-taken}
-use Rattle.c_answers.specs.table.TableBytes.{signedFrom, recordIn, ofLength, tableBytes, sizeIn, ReadFrom}
+use Rattle.leap_table.proofs.rows.ByParts.{least-low, rows_in_lem}
+use Rattle.leap_table.proofs.rows.TablesTaken.{table_none, none_rows, when_taken}
+use Rattle.c_answers.specs.table.TableBytes.{signed_from, record_in, of_length, table_bytes, size_in, ReadFrom}
 
 -- ---- the numbers of an array by their places
-pub place_of : (s : List ℕ) (at n i : ℕ) → i < n → get_or (signedFrom s at n) i (pos 0) ≡ i32At s (at + 4 * i)
-unfolding signedFrom
+pub place_of : (s : List ℕ) (at n i : ℕ) → i < n → get_or (signed_from s at n) i (pos 0) ≡ i32_at s (at + 4 * i)
+unfolding signed_from
 place_of s at zero i h = absurd (not-suc-le-zero h)
-place_of s at (suc n) zero h = ap (i32At s) (first at)
+place_of s at (suc n) zero h = ap (i32_at s) (first at)
   where
     first : (a : ℕ) → a ≡ a + 4 * 0
     first a = omega arith
-place_of s at (suc n) (suc i) h = place_of s (at + 4) n i (omega arith) ∙ ap (i32At s) (later at i)
+place_of s at (suc n) (suc i) h = place_of s (at + 4) n i (omega arith) ∙ ap (i32_at s) (later at i)
   where
     later : (a j : ℕ) → a + 4 + 4 * j ≡ a + 4 * suc j
     later a j = omega arith
 
 -- one place more is read
-pub one-more-read : (s : List ℕ) (at i : ℕ) (l : List ℤ) (z : ℤ) → length l ≡ 16 → i < 16 → z ≡ i32At s (at + 4 * i)
-    → ((k : ℕ) → k < i → get_or l k (pos 0) ≡ i32At s (at + 4 * k))
-    → (length (set l i z) ≡ 16) × ((k : ℕ) → k < i + 1 → get_or (set l i z) k (pos 0) ≡ i32At s (at + 4 * k))
+pub one-more-read : (s : List ℕ) (at i : ℕ) (l : List ℤ) (z : ℤ) → length l ≡ 16 → i < 16 → z ≡ i32_at s (at + 4 * i)
+    → ((k : ℕ) → k < i → get_or l k (pos 0) ≡ i32_at s (at + 4 * k))
+    → (length (set l i z) ≡ 16) × ((k : ℕ) → k < i + 1 → get_or (set l i z) k (pos 0) ≡ i32_at s (at + 4 * k))
 one-more-read s at i l z n h e all = (
   length-set l i z ∙ n,
-  below_more (λ k. get_or (set l i z) k (pos 0) ≡ i32At s (at + 4 * k)) i (λ k g. get_or-set_other l i k z (pos 0) (λ (p : k ≡ i). omega arith) ∙ all k g)
+  below_more (λ k. get_or (set l i z) k (pos 0) ≡ i32_at s (at + 4 * k)) i (λ k g. get_or-set_other l i k z (pos 0) (λ (p : k ≡ i). omega arith) ∙ all k g)
       (get_or-set_same l i z (pos 0) (omega arith) ∙ e),
 )
 
@@ -64,98 +64,98 @@ fewer m n = go (leb m n) refl (leb m 16) refl
         other false r = omega arith
 
 abbrev Reads : List ℕ → ℕ → ℕ → List ℤ → Type 0
-Reads s at n l = (i : ℕ) → i < n → get_or l i (pos 0) ≡ i32At s (at + 4 * i)
+Reads s at n l = (i : ℕ) → i < n → get_or l i (pos 0) ≡ i32_at s (at + 4 * i)
 
 pub same-table : (s : List ℕ) (t : AnnouncedRows) → t.months_size ≡ u32_at s 0 → t.seconds_size ≡ u32_at s 4
-    → Reads s 8 (least t.months_size 16) t.months → Reads s 72 (least t.months_size 16) t.seconds → table_of t ≡ table_of (recordIn s)
-unfolding announcedSize
+    → Reads s 8 (least t.months_size 16) t.months → Reads s 72 (least t.months_size 16) t.seconds → table_of t ≡ table_of (record_in s)
+unfolding announced_size
 same-table s t p q ms ss =
-    let most : announcedSize t ≤ least t.months_size 16 = fewer t.months_size t.seconds_size in
+    let most : announced_size t ≤ least t.months_size 16 = fewer t.months_size t.seconds_size in
     let few : least t.months_size 16 ≤ 16 = least-right t.months_size 16 in
-    spare-unread t (recordIn s) p q (λ i h.
+    spare-unread t (record_in s) p q (λ i h.
     let k : i < least t.months_size 16 = omega arith in
     (ms i k ∙ sym (place_of s 8 16 i (omega arith)), ss i k ∙ sym (place_of s 72 16 i (omega arith))))
 
 -- ---- by the length
-pub of-136 : (s : List ℕ) (t : AnnouncedRows) → length s ≡ 136 → table_of t ≡ table_of (recordIn s) → ofLength (length s) (table_of t) ≡ tableBytes s
-unfolding tableBytes
-of-136 s t e p = ap (ofLength (length s)) p
+pub of_136 : (s : List ℕ) (t : AnnouncedRows) → length s ≡ 136 → table_of t ≡ table_of (record_in s) → of_length (length s) (table_of t) ≡ table_bytes s
+unfolding table_bytes
+of_136 s t e p = ap (of_length (length s)) p
 
-pub of-another : (s : List ℕ) (o : Outcome (List Row)) → (length s ≡ 136 → ⊥) → ofLength (length s) o ≡ tableBytes s
-unfolding tableBytes ofLength
-of-another s o h = rw (ne_eqb (length s) 136 h)
+pub of_another : (s : List ℕ) (o : Outcome (List Row)) → (length s ≡ 136 → ⊥) → of_length (length s) o ≡ table_bytes s
+unfolding table_bytes of_length
+of_another s o h = rw (ne_eqb (length s) 136 h)
 
 -- ---- two sizes of 0 lend no rows
-both-none : (a b : ℕ) → eqb a 0 && eqb b 0 ≡ true → (a ≡ 0) × (b ≡ 0)
-both-none a b e = go (eqb a 0) refl e
+both_none : (a b : ℕ) → eqb a 0 && eqb b 0 ≡ true → (a ≡ 0) × (b ≡ 0)
+both_none a b e = go (eqb a 0) refl e
   where
     go : (x : Bool) → eqb a 0 ≡ x → x && eqb b 0 ≡ true → (a ≡ 0) × (b ≡ 0)
     go true p q = (eqb-true a 0 p, eqb-true b 0 q)
     go false p q = absurd (true≢false (sym q))
 
 pub reads_none : (s : List ℕ) (t : AnnouncedRows) (a b : ℕ) → a ≡ u32_at s 0 → b ≡ u32_at s 4 → eqb a 0 && eqb b 0 ≡ true → table_of t ≡ answer fixed
-    → table_of t ≡ table_of (recordIn s)
+    → table_of t ≡ table_of (record_in s)
 reads_none s t a b p q e f =
-    let (x, y) = both-none a b e in
-    f ∙ sym (table_none (recordIn s) (sym p ∙ x) (sym q ∙ y))
+    let (x, y) = both_none a b e in
+    f ∙ sym (table_none (record_in s) (sym p ∙ x) (sym q ∙ y))
 
 pub refuses-none : (n : ℕ) (t : AnnouncedRows) → n ≡ 136 → eqb t.months_size 0 && eqb t.seconds_size 0 ≡ true
-    → answer (rows_of t) ≡ ofLength n (table_of t)
-unfolding ofLength
+    → answer (rows_of t) ≡ of_length n (table_of t)
+unfolding of_length
 refuses-none n t h e =
-    let (x, y) = both-none t.months_size t.seconds_size e in
+    let (x, y) = both_none t.months_size t.seconds_size e in
     let f = table_none t x y in
     ap answer (none_rows t f) ∙ sym f ∙ rw (eq-eqb n 136 h)
 
 -- ---- a size and two arrays: where the table is taken, their rows are its rows
-pub by-arrays : (t : AnnouncedRows) (n : ℕ) → unlessRefused n (rows_of t) ≡ table_of t
-    → unlessRefused n (rowsIn (least t.months_size 16) t.months t.seconds) ≡ table_of t
+pub by-arrays : (t : AnnouncedRows) (n : ℕ) → unless_refused n (rows_of t) ≡ table_of t
+    → unless_refused n (rows_in (least t.months_size 16) t.months t.seconds) ≡ table_of t
 by-arrays t (suc k) e = e
 by-arrays t zero e =
-    let k = when-taken t (rows_of t) (sym e) in
-    ap answer (rows_in t (least t.months_size 16)
+    let k = when_taken t (rows_of t) (sym e) in
+    ap answer (rows_in_lem t (least t.months_size 16)
     (least-low t.months_size 16 k.most ∙ sym (least-low t.months_size t.seconds_size (omega (arith, k.one_size))))) ∙ e
 
-of-length-136 : (n : ℕ) (o : Outcome (List Row)) → n ≡ 136 → o ≡ ofLength n o
-unfolding ofLength
-of-length-136 n o h = rw (eq-eqb n 136 h)
+of_length_136 : (n : ℕ) (o : Outcome (List Row)) → n ≡ 136 → o ≡ of_length n o
+unfolding of_length
+of_length_136 n o h = rw (eq-eqb n 136 h)
 
 -- by the sizes a and b that were read
 module _ (n a b a' b' : ℕ) (m l : List ℤ) (p : a ≡ a') (q : b ≡ b') (h : n ≡ 136) where
-  pub arrays-judged : (number : ℕ) → Judged number (announcedTable a b m l)
-      → unlessRefused number (rowsIn (least a' 16) m l) ≡ ofLength n (table_of (announcedTable a' b' m l))
-  arrays-judged number e =
-      by-arrays (announcedTable a' b' m l) number
-      (subst (λ (x : ℕ). Judged number (announcedTable x b' m l)) p (subst (λ (y : ℕ). Judged number (announcedTable a y m l)) q e))
-      ∙ of-length-136 n (table_of (announcedTable a' b' m l)) h
+  pub arrays_judged : (number : ℕ) → Judged number (announced_table a b m l)
+      → unless_refused number (rows_in (least a' 16) m l) ≡ of_length n (table_of (announced_table a' b' m l))
+  arrays_judged number e =
+      by-arrays (announced_table a' b' m l) number
+      (subst (λ (x : ℕ). Judged number (announced_table x b' m l)) p (subst (λ (y : ℕ). Judged number (announced_table a y m l)) q e))
+      ∙ of_length_136 n (table_of (announced_table a' b' m l)) h
 
 -- what was read of the bytes is their table
-pub arrays-of-bytes : (s : List ℕ) (m l : List ℤ) → ReadFrom s 8 m → ReadFrom s 72 l
-    → ofLength (length s) (table_of (announcedTable (u32_at s 0) (u32_at s 4) m l)) ≡ tableBytes s
-unfolding tableBytes
-arrays-of-bytes s m l p q = ap (ofLength (length s)) (same-table s (announcedTable (u32_at s 0) (u32_at s 4) m l) refl refl p q)
+pub arrays_of_bytes : (s : List ℕ) (m l : List ℤ) → ReadFrom s 8 m → ReadFrom s 72 l
+    → of_length (length s) (table_of (announced_table (u32_at s 0) (u32_at s 4) m l)) ≡ table_bytes s
+unfolding table_bytes
+arrays_of_bytes s m l p q = ap (of_length (length s)) (same-table s (announced_table (u32_at s 0) (u32_at s 4) m l) refl refl p q)
 
 -- ---- what is read into two arrays and judged is the table of the bytes
-pub read-14 : (s : List ℕ) (rows : List Row) → (length s ≡ 136 → ⊥) → unlessRefused 14 rows ≡ tableBytes s
-unfolding tableBytes ofLength
+pub read-14 : (s : List ℕ) (rows : List Row) → (length s ≡ 136 → ⊥) → unless_refused 14 rows ≡ table_bytes s
+unfolding table_bytes of_length
 read-14 s rows h = rw (ne_eqb (length s) 136 h)
 
 module _ (s : List ℕ) (a b : ℕ) (m l : List ℤ) (p : a ≡ u32_at s 0) (q : b ≡ u32_at s 4) (h : length s ≡ 136) where
-  pub read-judged : (size number : ℕ) → size ≡ least a 16 → ((i : ℕ) → i < size → get_or m i (pos 0) ≡ i32At s (8 + 4 * i))
-      → ((i : ℕ) → i < size → get_or l i (pos 0) ≡ i32At s (72 + 4 * i))
-      → Judged number (announcedTable a b m l) → unlessRefused number (rowsIn size m l) ≡ tableBytes s
+  pub read-judged : (size number : ℕ) → size ≡ least a 16 → ((i : ℕ) → i < size → get_or m i (pos 0) ≡ i32_at s (8 + 4 * i))
+      → ((i : ℕ) → i < size → get_or l i (pos 0) ≡ i32_at s (72 + 4 * i))
+      → Judged number (announced_table a b m l) → unless_refused number (rows_in size m l) ≡ table_bytes s
   read-judged size number e ms ss j =
-      let k : size ≡ sizeIn s = e ∙ ap (λ (x : ℕ). least x 16) p in
-      ap (λ (x : ℕ). unlessRefused number (rowsIn x m l)) k
-      ∙ arrays-judged (length s) a b (u32_at s 0) (u32_at s 4) m l p q h number j
-      ∙ arrays-of-bytes s m l (λ i g. ms i (subst (λ (x : ℕ). i < x) (sym k) g)) (λ i g. ss i (subst (λ (x : ℕ). i < x) (sym k) g))
+      let k : size ≡ size_in s = e ∙ ap (λ (x : ℕ). least x 16) p in
+      ap (λ (x : ℕ). unless_refused number (rows_in x m l)) k
+      ∙ arrays_judged (length s) a b (u32_at s 0) (u32_at s 4) m l p q h number j
+      ∙ arrays_of_bytes s m l (λ i g. ms i (subst (λ (x : ℕ). i < x) (sym k) g)) (λ i g. ss i (subst (λ (x : ℕ). i < x) (sym k) g))
 
-  pub read_none : eqb a 0 && eqb b 0 ≡ true → unlessRefused 0 (rowsIn 0 m l) ≡ tableBytes s
+  pub read_none : eqb a 0 && eqb b 0 ≡ true → unless_refused 0 (rows_in 0 m l) ≡ table_bytes s
   read_none e =
-      let (x, y) = both-none a b e in
-      let f = table_none (announcedTable a b m l) x y in
+      let (x, y) = both_none a b e in
+      let f = table_none (announced_table a b m l) x y in
       read-judged 0 0 (none_of x) (λ i g. absurd (not-suc-le-zero g)) (λ i g. absurd (not-suc-le-zero g))
-      (ap answer (none_rows (announcedTable a b m l) f) ∙ sym f)
+      (ap answer (none_rows (announced_table a b m l) f) ∙ sym f)
     where
       none_of : a ≡ 0 → 0 ≡ least a 16
       none_of x = ap (λ (k : ℕ). least k 16) (sym x)

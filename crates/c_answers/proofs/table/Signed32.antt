@@ -20,7 +20,7 @@ signed_back (negsuc k) f = simp (le-ltb (4294967295 - k) 2147483648 (above k f.s
     back : (k : ℕ) → k < 2147483648 → 4294967295 - (4294967295 - k) ≡ k
     back k h = omega arith
 
-pub pattern-small : (z : ℤ) → SFits w32 z → pattern32 z < 4294967296
+pub pattern_small : (z : ℤ) → SFits w32 z → pattern32 z < 4294967296
 unfolding pattern32
-pattern-small (pos n) f = omega (arith, f.sfits)
-pattern-small (negsuc k) f = omega arith
+pattern_small (pos n) f = omega (arith, f.sfits)
+pattern_small (negsuc k) f = omega arith

@@ -4,26 +4,26 @@ use Rattle.std.specs.Prelude.{ℕ, List, ◌++◌, Float}
 use Rattle.julian.specs.declared.JulianDate.{JulianDate}
 use Rattle.leap_table.specs.declared.offsets.Rule.{Rule}
 use Rattle.leap_table.specs.declared.offsets.Rule.TheVariants.{Absent, Drifting, Whole}
-use Rattle.c_answers.specs.Fields.{fourBytes, floatBytes, julianBytes}
+use Rattle.c_answers.specs.Fields.{four_bytes, float_bytes, julian_bytes}
 
-unfoldable pub ruleNumber : Rule → ℕ
-ruleNumber Absent = 0
-ruleNumber (Drifting i) = 1
-ruleNumber (Whole i) = 2
+unfoldable pub rule_number : Rule → ℕ
+rule_number Absent = 0
+rule_number (Drifting i) = 1
+rule_number (Whole i) = 2
 
 -- in two's complement: -1 is all ones
-unfoldable pub rowPattern : Rule → ℕ
-rowPattern Absent = 0xffff_ffff
-rowPattern (Drifting i) = i
-rowPattern (Whole i) = i
+unfoldable pub row_pattern : Rule → ℕ
+row_pattern Absent = 0xffff_ffff
+row_pattern (Drifting i) = i
+row_pattern (Whole i) = i
 
-abbrev pub ruleBytes : Rule → List ℕ
-ruleBytes r = fourBytes (ruleNumber r) ++ fourBytes (rowPattern r)
+abbrev pub rule_bytes : Rule → List ℕ
+rule_bytes r = four_bytes (rule_number r) ++ four_bytes (row_pattern r)
 
 -- 16 bytes: an offset and its rule
-unfoldable pub offsetRuleBytes : Float × Rule → List ℕ
-offsetRuleBytes p = floatBytes p.0 ++ ruleBytes p.1
+unfoldable pub offset_rule_bytes : Float × Rule → List ℕ
+offset_rule_bytes p = float_bytes p.0 ++ rule_bytes p.1
 
 -- 24 bytes: a date's two parts and its rule
-unfoldable pub julianRuleBytes : JulianDate × Rule → List ℕ
-julianRuleBytes p = julianBytes p.0 ++ ruleBytes p.1
+unfoldable pub julian_rule_bytes : JulianDate × Rule → List ℕ
+julian_rule_bytes p = julian_bytes p.0 ++ rule_bytes p.1

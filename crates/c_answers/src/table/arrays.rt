@@ -1,8 +1,8 @@
 // The same table as a size and two arrays, for calls that lend these on: a record of 136 bytes is copied wherever it is handed on by value.
 ghost use Rattle.std.specs.Prelude.{◌≡◌, ℕ, ◌+◌, ◌*◌, ◌<◌, ◌≤◌, pos, get_or, length};
-ghost use Rattle.numerals.specs.little_endian.LittleEndian.{i32At};
-ghost use Rattle.leap_table.specs.rows.Announced.{rowsIn, unlessRefused};
-ghost use Rattle.c_answers.specs.table.TableBytes.{tableBytes};
+ghost use Rattle.numerals.specs.little_endian.LittleEndian.{i32_at};
+ghost use Rattle.leap_table.specs.rows.Announced.{rows_in, unless_refused};
+ghost use Rattle.c_answers.specs.table.TableBytes.{table_bytes};
 
 use super::{lend_none, places_of};
 
@@ -17,7 +17,7 @@ pub struct Announced {
 pub(crate) fn put_numbers(bytes: &[u8], at: usize, size: usize, numbers: &mut [i32; 16])
     requires { (at < 100) × (size ≤ 16) }
     ensures { length numbers.old ≡ 16 → (i : ℕ) → i < size
-        → get_or numbers.new i (pos 0) ≡ i32At bytes.now (at + 4 * i) }
+        → get_or numbers.new i (pos 0) ≡ i32_at bytes.now (at + 4 * i) }
 {
     let mut i = 0;
     while i < size {
@@ -30,7 +30,7 @@ pub(crate) fn put_numbers(bytes: &[u8], at: usize, size: usize, numbers: &mut [i
 // read but the sizes. That each array has 16 places its type says.
 pub fn read_table(bytes: &[u8], months: &mut [i32; 16], seconds: &mut [i32; 16]) -> Announced
     ensures { (length months.old ≡ 16 → length seconds.old ≡ 16
-        → unlessRefused result.number (rowsIn result.size months.new seconds.new) ≡ tableBytes bytes.now) × (result.size ≤ 16) }
+        → unless_refused result.number (rows_in result.size months.new seconds.new) ≡ table_bytes bytes.now) × (result.size ≤ 16) }
 {
     if bytes.len() != 136 {
         return Announced {

@@ -6,7 +6,7 @@ use lib.IntN.{ℤ}
 use mir.Syntax.{w32}
 use mir.Facts.{to_z-of_z}
 use Rattle.calendar.specs.Calendar.{date}
-use Rattle.calendar.proofs.Gregorian.{shifts-give-date, year-of-shifts-fits}
+use Rattle.calendar.proofs.Gregorian.{shifts_give_date, year-of-shifts-fits}
 use borrow.Author.Rules.{rules}
 use Rattle.calendar.proofs.date_of_shifted_day.Statement.{statement}
 use Rattle.calendar.proofs.date_of_shifted_day.Tie as tie
@@ -17,13 +17,13 @@ add-lowered-year-2 c = record { fits = omega (arith, year-of-shifts-fits c.args.
 lowered-year-requires : tie.Need-lowered-year-requires
 lowered-year-requires c κs = year-of-shifts-fits c.args.l _ _ _ _ _ refl refl refl refl refl c.requires
 
-year-is : (m d : ℕ) (y z : ℤ) → y ≡ z → date y m d ≡ date z m d
-year-is m d y z e = ap (λ (x : ℤ). date x m d) e
+year_is : (m d : ℕ) (y z : ℤ) → y ≡ z → date y m d ≡ date z m d
+year_is m d y z e = ap (λ (x : ℤ). date x m d) e
 
 returns : tie.Need-returns
 returns c =
-    year-is _ _ _ _ (to_z-of_z {w = w32} {z = c.lowered-year.result} (record { sfits = c.lowered-year.type-inv }) ∙ c.lowered-year.ensures)
-    ∙ shifts-give-date c.before.args.l _ _ _ _ _ refl refl refl refl refl
+    year_is _ _ _ _ (to_z-of_z {w = w32} {z = c.lowered-year.result} (record { sfits = c.lowered-year.type-inv }) ∙ c.lowered-year.ensures)
+    ∙ shifts_give_date c.before.args.l _ _ _ _ _ refl refl refl refl refl
 
 pub date-of-shifted-day-spec : {M : Type 1} → statement M
 date-of-shifted-day-spec =

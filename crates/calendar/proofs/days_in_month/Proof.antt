@@ -4,8 +4,8 @@ use mathlib.Core.Bool.{true, false}
 use lib.IntN.{nat_abs}
 use mir.Facts.{to_z-of_z}
 use borrow.Author.Rules.{rules}
-use Rattle.calendar.specs.Calendar.{monthLength}
-use Rattle.calendar.proofs.Signs.{lt-left, to-unsigned}
+use Rattle.calendar.specs.Calendar.{month_length}
+use Rattle.calendar.proofs.Signs.{lt_left, to-unsigned}
 use Rattle.calendar.proofs.Accepted.{month-days, below_one}
 use Rattle.calendar.proofs.days_in_month.Statement.{statement}
 use Rattle.calendar.proofs.days_in_month.Tie as tie
@@ -13,19 +13,19 @@ use Rattle.calendar.proofs.days_in_month.Tie as tie
 returns : tie.Need-returns
 returns c =
     let s = c.before in
-    below_one s.args.year s.args.month (lt-left s.args.month _ true s.ranges.month c.if1.true)
+    below_one s.args.year s.args.month (lt_left s.args.month _ true s.ranges.month c.if1.true)
 
 cast-month-length : tie.Need-overflow-cast-month-length
 cast-month-length c =
     let s = c.before in
-    to-unsigned s.args.month s.ranges.month (lt-left s.args.month _ false s.ranges.month c.if1.false)
+    to-unsigned s.args.month s.ranges.month (lt_left s.args.month _ false s.ranges.month c.if1.false)
 
 returns-2 : tie.Need-returns-2
 returns-2 c =
     let s = c.before.before in
     c.month-length.ensures
-    ∙ (λ i. monthLength (to_z-of_z s.ranges.year i) (nat_abs (to_z-of_z s.ranges.month i)))
-    ∙ sym (month-days s.args.year s.args.month (lt-left s.args.month _ false s.ranges.month c.before.if1.false))
+    ∙ (λ i. month_length (to_z-of_z s.ranges.year i) (nat_abs (to_z-of_z s.ranges.month i)))
+    ∙ sym (month-days s.args.year s.args.month (lt_left s.args.month _ false s.ranges.month c.before.if1.false))
 
 pub days-in-month-spec : {M : Type 1} → statement M
 days-in-month-spec = tie.close (tie.spec returns cast-month-length (λ c κs. search rules) returns-2)

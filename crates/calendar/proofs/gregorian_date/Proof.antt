@@ -4,33 +4,33 @@ use mathlib.Core.Bool.{true, false}
 use lib.IntN.{ℤ, pos, ◌+ℤ◌}
 use mir.Facts.{to_z-of_z}
 use borrow.Author.Rules.{rules}
-use Rattle.calendar.specs.Calendar.{dateOf}
-use Rattle.calendar.proofs.Signs.{lt-left, lt-right}
-use Rattle.calendar.proofs.Gregorian.{shifted-day-is, gregorian-is-date-of-day, gregorian-above, gregorian-below}
+use Rattle.calendar.specs.Calendar.{date_of}
+use Rattle.calendar.proofs.Signs.{lt_left, lt_right}
+use Rattle.calendar.proofs.Gregorian.{shifted_day_is, gregorian_is_date_of_day, gregorian_above, gregorian_below}
 use Rattle.calendar.proofs.gregorian_date.Statement.{statement}
 use Rattle.calendar.proofs.gregorian_date.Tie as tie
 
 returns : tie.Need-returns
-returns c = sym (gregorian-below c.before.args.jd (lt-left c.before.args.jd _ true c.before.ranges.jd c.if1.true))
+returns c = sym (gregorian_below c.before.args.jd (lt_left c.before.args.jd _ true c.before.ranges.jd c.if1.true))
 
 returns-2 : tie.Need-returns-2
-unfolding dateOf
+unfolding date_of
 returns-2 c =
     let s = c.before.before.before in
     c.date-of-shifted-day.ensures
     ∙ sym
-    (gregorian-above s.args.jd (lt-left s.args.jd _ false s.ranges.jd c.before.before.if1.false)
-    (lt-right (pos 1000000000) s.args.jd true s.ranges.jd c.before.if2.true))
+    (gregorian_above s.args.jd (lt_left s.args.jd _ false s.ranges.jd c.before.before.if1.false)
+    (lt_right (pos 1000000000) s.args.jd true s.ranges.jd c.before.if2.true))
 
 returns-3 : tie.Need-returns-3
 returns-3 c =
     let g = c.before in
     let s = g.before.before.before in
     c.date-of-shifted-day2.ensures
-    ∙ sym (shifted-day-is s.args.jd g.shifted-day.result (g.shifted-day.ensures.0 ∙ ap (λ (z : ℤ). z +ℤ pos 68569) (to_z-of_z s.ranges.jd)))
+    ∙ sym (shifted_day_is s.args.jd g.shifted-day.result (g.shifted-day.ensures.0 ∙ ap (λ (z : ℤ). z +ℤ pos 68569) (to_z-of_z s.ranges.jd)))
     ∙ sym
-    (gregorian-is-date-of-day s.args.jd (lt-left s.args.jd _ false s.ranges.jd g.before.before.if1.false)
-    (lt-right (pos 1000000000) s.args.jd false s.ranges.jd g.before.if2.false))
+    (gregorian_is_date_of_day s.args.jd (lt_left s.args.jd _ false s.ranges.jd g.before.before.if1.false)
+    (lt_right (pos 1000000000) s.args.jd false s.ranges.jd g.before.if2.false))
 
 pub gregorian-date-spec : {M : Type 1} → statement M
 gregorian-date-spec =

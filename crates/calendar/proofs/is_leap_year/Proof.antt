@@ -9,8 +9,8 @@ use lib.Signed.{rem_z}
 use mir.Syntax.{w32}
 use mir.Val.{SFits, to_z, of_z}
 use borrow.Author.Tests.{eqb-false, eq-eqb, ne_eqb}
-use Rattle.calendar.specs.Calendar.{leapSize, leapYear}
-use Rattle.calendar.proofs.Signs.{quot_fits, rem-zero}
+use Rattle.calendar.specs.Calendar.{leap_size, leap_year}
+use Rattle.calendar.proofs.Signs.{quot_fits, rem_zero}
 use Rattle.calendar.proofs.is_leap_year.Statement.{statement}
 use Rattle.calendar.proofs.is_leap_year.Tie as tie
 
@@ -42,19 +42,19 @@ other a b c p q = rw (p, q)
 
 module _ (z : ℤ) (f : SFits w32 z) where
   is : (k : ℕ) {t : Bool} → Zero z k ≡ t → eqb (nat_abs z % k) 0 ≡ t
-  is k e = sym (rem-zero z k f) ∙ e
+  is k e = sym (rem_zero z k f) ∙ e
 
-  yes-common : Zero z 4 ≡ true → Zero z 100 ≡ false → not (Zero z 100) ≡ leapYear z
-  unfolding leapSize
-  yes-common p q = ap not (rem-zero z 100 f) ∙ common (eqb (nat_abs z % 400) 0) _ _ (is 4 p) (is 100 q)
+  yes-common : Zero z 4 ≡ true → Zero z 100 ≡ false → not (Zero z 100) ≡ leap_year z
+  unfolding leap_size
+  yes-common p q = ap not (rem_zero z 100 f) ∙ common (eqb (nat_abs z % 400) 0) _ _ (is 4 p) (is 100 q)
 
-  at-century : Zero z 4 ≡ true → Zero z 100 ≡ true → Zero z 400 ≡ leapYear z
-  unfolding leapSize
-  at-century p q = rem-zero z 400 f ∙ century (eqb (nat_abs z % 400) 0) _ _ (is 4 p) (is 100 q)
+  at-century : Zero z 4 ≡ true → Zero z 100 ≡ true → Zero z 400 ≡ leap_year z
+  unfolding leap_size
+  at-century p q = rem_zero z 400 f ∙ century (eqb (nat_abs z % 400) 0) _ _ (is 4 p) (is 100 q)
 
-  not-four : Zero z 4 ≡ false → Zero z 4 ≡ leapYear z
-  unfolding leapSize
-  not-four p = rem-zero z 4 f ∙ other _ _ (eqb (nat_abs z % 100) 0) (four (nat_abs z) (is 4 p)) (is 4 p)
+  not-four : Zero z 4 ≡ false → Zero z 4 ≡ leap_year z
+  unfolding leap_size
+  not-four p = rem_zero z 4 f ∙ other _ _ (eqb (nat_abs z % 100) 0) (four (nat_abs z) (is 4 p)) (is 4 p)
 
 returns : tie.Need-returns
 returns c =

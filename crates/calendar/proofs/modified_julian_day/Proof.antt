@@ -7,9 +7,9 @@ use mir.Syntax.{w64}
 use mir.Facts.{to_z-of_z}
 use borrow.Author.Rules.{rules}
 use Rattle.refusals.specs.Outcome.{answer}
-use Rattle.calendar.specs.Calendar.{leapYear}
-use Rattle.calendar.specs.Refusals.{validDate}
-use Rattle.calendar.specs.Answers.{mjdOutcome}
+use Rattle.calendar.specs.Calendar.{leap_year}
+use Rattle.calendar.specs.Refusals.{valid_date}
+use Rattle.calendar.specs.Answers.{mjd_outcome}
 use Rattle.calendar.proofs.Signs.{to-unsigned, read_back}
 use Rattle.calendar.proofs.Accepted.{Accepted, date-accepted, short, is-valid, is-refused}
 use Rattle.calendar.proofs.Mjd.{mjd-refused, mjd-given, number_is}
@@ -18,7 +18,7 @@ use Rattle.calendar.proofs.modified_julian_day.Tie as tie
 
 -- where the date is not refused
 module _ (c : tie.After-enum-told) where
-  valid : validDate c.before.before.before.args.year c.before.before.before.args.month c.before.before.before.args.day ≡ answer tt
+  valid : valid_date c.before.before.before.args.year c.before.before.before.args.month c.before.before.before.args.day ≡ answer tt
   valid =
       let v = c.before.before in
       let s = v.before in
@@ -35,7 +35,7 @@ cast-civil-count : tie.Need-overflow-cast-civil-count
 cast-civil-count c = to-unsigned _ c.before.before.before.before.ranges.month (ok c.before).m-sign
 
 cast-civil-count-2 : tie.Need-overflow-cast-civil-count-2
-cast-civil-count-2 c = to-unsigned _ c.before.before.before.before.ranges.day (ok c.before).d-sign
+cast-civil-count-2 c = to-unsigned _ c.before.before.before.before.ranges.day (ok c.before).d_sign
 
 civil-count-requires : tie.Need-civil-count-requires
 civil-count-requires c κs =
@@ -43,11 +43,11 @@ civil-count-requires c κs =
     let a = ok c.before in
     let m = read_back s.args.month s.ranges.month in
     let d = read_back s.args.day s.ranges.day in
-    let b = short (leapYear s.args.year) (nat_abs s.args.month) a.m-low a.m-high in
-    (c.raised-year.ensures.1, c.raised-year.ensures.2, omega (arith, m, a.m-low), omega (arith, m, a.m-high), omega (arith, d, a.d-high, b))
+    let b = short (leap_year s.args.year) (nat_abs s.args.month) a.m_low a.m_high in
+    (c.raised_year.ensures.1, c.raised_year.ensures.2, omega (arith, m, a.m_low), omega (arith, m, a.m_high), omega (arith, d, a.d_high, b))
 
 returns : tie.Need-returns
-unfolding mjdOutcome
+unfolding mjd_outcome
 returns c =
     let v = c.before.before.before in
     let s = v.before in
@@ -57,15 +57,15 @@ returns c =
     c.before.number.given.1))
 
 returns-2 : tie.Need-returns-2
-unfolding mjdOutcome
+unfolding mjd_outcome
 returns-2 c =
     let r = c.before.before in
     let s = r.before.before.before.before in
     ap answer
     (to_z-of_z {w = w64} {z = c.count-to-mjd.result} (record { sfits = c.count-to-mjd.type-inv })
     ∙ c.count-to-mjd.ensures
-    ∙ number_is s.args.year s.args.month s.args.day r.raised-year.result c.before.civil-count.result _ _
-    (r.raised-year.ensures.0 ∙ ap (λ (z : ℤ). z +ℤ pos 4800) (to_z-of_z s.ranges.year))
+    ∙ number_is s.args.year s.args.month s.args.day r.raised_year.result c.before.civil-count.result _ _
+    (r.raised_year.ensures.0 ∙ ap (λ (z : ℤ). z +ℤ pos 4800) (to_z-of_z s.ranges.year))
     c.before.civil-count.ensures.0 (read_back s.args.month s.ranges.month) (read_back s.args.day s.ranges.day))
     ∙ sym (mjd-given _ _ _ (valid r.before))
 

@@ -7,7 +7,7 @@ use Prim.Native.Nat.{ℕ}
 use types.Run.{OneOf}
 use mir.Facts.{to_z-of_z}
 use borrow.Author.Rules.{rules}
-use Rattle.calendar.specs.Calendar.{leapYear, lengths}
+use Rattle.calendar.specs.Calendar.{leap_year, lengths}
 use Rattle.calendar.proofs.Months.{numbers}
 use Rattle.calendar.proofs.month_length.Statement.{statement}
 use Rattle.calendar.proofs.month_length.Tie as tie
@@ -18,7 +18,7 @@ at b m k v p e = p ∙ ap (lengths b) (sym e)
 returns : tie.Need-returns
 unfolding lengths
 returns c =
-    let b = leapYear c.before.args.year in
+    let b = leap_year c.before.args.year in
     let m = c.before.args.month in
     ⊎_elim (at b m 1 31 refl) (⊎_elim (at b m 3 31 refl)
     (⊎_elim (at b m 5 31 refl) (⊎_elim (at b m 7 31 refl) (⊎_elim (at b m 10 31 refl) (at b m 12 31 refl)))))
@@ -26,12 +26,12 @@ returns c =
 
 returns-2 : tie.Need-returns-2
 unfolding lengths
-returns-2 c = at (leapYear c.before.args.year) c.before.args.month 8 31 refl c.match.keys2
+returns-2 c = at (leap_year c.before.args.year) c.before.args.month 8 31 refl c.match.keys2
 
 returns-3 : tie.Need-returns-3
 unfolding lengths
 returns-3 c =
-    let b = leapYear c.before.args.year in
+    let b = leap_year c.before.args.year in
     let m = c.before.args.month in
     ⊎_elim (at b m 4 30 refl) (⊎_elim (at b m 6 30 refl) (⊎_elim (at b m 9 30 refl) (at b m 11 30 refl))) c.match.keys3
 
@@ -39,8 +39,8 @@ feb : (b t : Bool) (m v : ℕ) → b ≡ t → m ≡ 2 → v ≡ lengths t 2 →
 feb b t m v e f p = p ∙ ap (λ (s : Bool). lengths s 2) (sym e) ∙ ap (lengths b) (sym f)
 
 -- the year's rule, as it was computed
-is-leap : (c : tie.After-is-leap-year) → leapYear c.before.before.args.year ≡ c.is-leap-year.result
-is-leap c = sym (c.is-leap-year.ensures ∙ ap leapYear (to_z-of_z c.before.before.ranges.year))
+is-leap : (c : tie.After-is-leap-year) → leap_year c.before.before.args.year ≡ c.is-leap-year.result
+is-leap c = sym (c.is-leap-year.ensures ∙ ap leap_year (to_z-of_z c.before.before.ranges.year))
 
 returns-4 : tie.Need-returns-4
 unfolding lengths
@@ -74,7 +74,7 @@ none t =
 returns-6 : tie.Need-returns-6
 returns-6 c =
     let r = c.match.rest in
-    none (leapYear c.before.args.year) c.before.args.month r.0.0.0.1 r.0.0.1 r.0.1 r.1
+    none (leap_year c.before.args.year) c.before.args.month r.0.0.0.1 r.0.0.1 r.0.1 r.1
 
 pub month-length-spec : {M : Type 1} → statement M
 month-length-spec =

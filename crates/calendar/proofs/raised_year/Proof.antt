@@ -6,12 +6,12 @@ use lib.IntN.{ℤ, pos, nat_abs, ◌+ℤ◌}
 use mir.Syntax.{w32, w64}
 use mir.Val.{SFits, to_z, of_z}
 use mir.Facts.{to_z-of_z, sfits_widen}
-use Rattle.calendar.proofs.Signs.{Raised, raised, at-most-i32, sum_fits, sum_is, cast_fits}
+use Rattle.calendar.proofs.Signs.{Raised, raised, at_most_i32, sum_fits, sum_is, cast_fits}
 use Rattle.calendar.proofs.raised_year.Statement.{statement}
 use Rattle.calendar.proofs.raised_year.Tie as tie
 
 up : (c : tie.Start) → Raised c.args.year 4798 4800 2147483647
-up c = raised c.args.year 4798 4800 2147483647 (omega arith) c.requires (at-most-i32 c.args.year c.ranges.year)
+up c = raised c.args.year 4798 4800 2147483647 (omega arith) c.requires (at_most_i32 c.args.year c.ranges.year)
 
 small : (c : tie.Start) → (up c).r < 2 ^ 63
 small c = omega (arith, (up c).high)

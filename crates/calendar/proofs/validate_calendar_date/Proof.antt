@@ -5,62 +5,62 @@ use Prim.Native.Nat.{ℕ, ◌≤◌, ◌<◌}
 use lib.IntN.{pos, negsuc}
 use lib.Signed.{lt_z}
 use borrow.Author.Rules.{rules}
-use Rattle.calendar.specs.Calendar.{daysInMonth}
-use Rattle.calendar.specs.Answers.{checkOutcome}
-use Rattle.calendar.proofs.Signs.{lt-left, to-unsigned, read_back}
-use Rattle.calendar.proofs.Accepted.{year-refused, month-refused, low-day-refused, high-day-refused, not-refused, past-last, up-to-last, read-two}
+use Rattle.calendar.specs.Calendar.{days_in_month}
+use Rattle.calendar.specs.Answers.{check_outcome}
+use Rattle.calendar.proofs.Signs.{lt_left, to-unsigned, read_back}
+use Rattle.calendar.proofs.Accepted.{year-refused, month-refused, low-day-refused, high-day-refused, not_refused, past-last, up_to_last, read-two}
 use Rattle.calendar.proofs.validate_calendar_date.Statement.{statement}
 use Rattle.calendar.proofs.validate_calendar_date.Tie as tie
 
 year-ok : (c : tie.Else1) → lt_z c.before.args.year (negsuc 4798) ≡ false
-year-ok c = lt-left _ _ false c.before.ranges.year c.if1.false
+year-ok c = lt_left _ _ false c.before.ranges.year c.if1.false
 
-last-is : (c : tie.After-days-in-month) → c.days-in-month.result ≡ daysInMonth c.before.before.args.year c.before.before.args.month
-last-is c =
+last_is : (c : tie.After-days-in-month) → c.days-in-month.result ≡ days_in_month c.before.before.args.year c.before.before.args.month
+last_is c =
     let s = c.before.before in
     c.days-in-month.ensures ∙ read-two s.args.year s.args.month s.ranges.year s.ranges.month
 
-some-days : (c : tie.Else2) → daysInMonth c.before.before.before.args.year c.before.before.before.args.month ≡ 0 → ⊥
-some-days c e = c.if2.false (last-is c.before ∙ e)
+some-days : (c : tie.Else2) → days_in_month c.before.before.before.args.year c.before.before.before.args.month ≡ 0 → ⊥
+some-days c e = c.if2.false (last_is c.before ∙ e)
 
 day-low : (c : tie.Else3) → lt_z c.before.before.before.before.args.day (pos 1) ≡ false
-day-low c = lt-left _ _ false c.before.before.before.before.ranges.day c.if3.false
+day-low c = lt_left _ _ false c.before.before.before.before.ranges.day c.if3.false
 
 returns : tie.Need-returns
-unfolding checkOutcome
-returns c = year-refused _ _ _ (lt-left _ _ true c.before.ranges.year c.if1.true)
+unfolding check_outcome
+returns c = year-refused _ _ _ (lt_left _ _ true c.before.ranges.year c.if1.true)
 
 returns-2 : tie.Need-returns-2
-unfolding checkOutcome
-returns-2 c = month-refused _ _ _ (year-ok c.before.before) (sym (last-is c.before) ∙ c.if2.true)
+unfolding check_outcome
+returns-2 c = month-refused _ _ _ (year-ok c.before.before) (sym (last_is c.before) ∙ c.if2.true)
 
 returns-3 : tie.Need-returns-3
-unfolding checkOutcome
+unfolding check_outcome
 returns-3 c =
     low-day-refused _ _ _ (year-ok c.before.before.before) (some-days c.before)
-    (lt-left _ _ true c.before.before.before.before.ranges.day c.if3.true)
+    (lt_left _ _ true c.before.before.before.before.ranges.day c.if3.true)
 
 cast-if4 : tie.Need-overflow-cast-if4
 cast-if4 c = to-unsigned _ c.before.before.before.before.ranges.day (day-low c)
 
 returns-4 : tie.Need-returns-4
-unfolding checkOutcome
+unfolding check_outcome
 returns-4 c =
     let e = c.before in
     let g = e.before.before in
     let s = g.before.before in
     high-day-refused _ _ _ (year-ok g.before) (some-days e.before) (day-low e)
-    (past-last _ g.days-in-month.result s.args.day (day-low e) (last-is g)
+    (past-last _ g.days-in-month.result s.args.day (day-low e) (last_is g)
     (subst (λ (n : ℕ). g.days-in-month.result < n) (read_back s.args.day s.ranges.day) c.if4.true))
 
 returns-5 : tie.Need-returns-5
-unfolding checkOutcome
+unfolding check_outcome
 returns-5 c =
     let e = c.before in
     let g = e.before.before in
     let s = g.before.before in
-    not-refused _ _ _ (year-ok g.before) (some-days e.before) (day-low e)
-    (up-to-last _ g.days-in-month.result s.args.day (day-low e) (last-is g)
+    not_refused _ _ _ (year-ok g.before) (some-days e.before) (day-low e)
+    (up_to_last _ g.days-in-month.result s.args.day (day-low e) (last_is g)
     (subst (λ (n : ℕ). n ≤ g.days-in-month.result) (read_back s.args.day s.ranges.day) c.if4.false))
 
 pub validate-calendar-date-spec : {M : Type 1} → statement M

@@ -14,24 +14,24 @@ abbrev pub centuries : ℤ → ℤ
 centuries l = quot_z (pos 4 *ℤ l) (pos 146097)
 
 -- l -= (146097 * n + 3) / 4
-abbrev pub dayOfCentury : ℤ → ℤ → ℤ
-dayOfCentury l n = l -ℤ quot_z (pos 146097 *ℤ n +ℤ pos 3) (pos 4)
+abbrev pub day_of_century : ℤ → ℤ → ℤ
+day_of_century l n = l -ℤ quot_z (pos 146097 *ℤ n +ℤ pos 3) (pos 4)
 
 -- let i = (4000 * (l + 1)) / 1461001
-abbrev pub rustYears : ℤ → ℤ
-rustYears l = quot_z (pos 4000 *ℤ (l +ℤ pos 1)) (pos 1461001)
+abbrev pub rust_years : ℤ → ℤ
+rust_years l = quot_z (pos 4000 *ℤ (l +ℤ pos 1)) (pos 1461001)
 
 -- l -= (1461 * i) / 4 - 31
-abbrev pub dayOfYear : ℤ → ℤ → ℤ
-dayOfYear l i = l -ℤ (quot_z (pos 1461 *ℤ i) (pos 4) -ℤ pos 31)
+abbrev pub day_of_year : ℤ → ℤ → ℤ
+day_of_year l i = l -ℤ (quot_z (pos 1461 *ℤ i) (pos 4) -ℤ pos 31)
 
 -- let k = (80 * l) / 2447
-abbrev pub rustMonths : ℤ → ℤ
-rustMonths l = quot_z (pos 80 *ℤ l) (pos 2447)
+abbrev pub rust_months : ℤ → ℤ
+rust_months l = quot_z (pos 80 *ℤ l) (pos 2447)
 
 -- let day = l - (2447 * k) / 80; l_final = k / 11; month = k + 2 - 12 * l_final; year = 100 * (n - 49) + i + l_final
-abbrev pub rustTriple : ℤ → ℤ → ℤ → ℤ → RustTriple
-rustTriple n i l k =
+abbrev pub rust_triple : ℤ → ℤ → ℤ → ℤ → RustTriple
+rust_triple n i l k =
     record {
       year = pos 100 *ℤ (n -ℤ pos 49) +ℤ i +ℤ quot_z k (pos 11);
       month = k +ℤ pos 2 -ℤ pos 12 *ℤ quot_z k (pos 11);
@@ -39,15 +39,15 @@ rustTriple n i l k =
     }
 
 -- the lines in their order, each with the `l` of the line before it
-unfoldable pub fromDayOfYear : ℤ → ℤ → ℤ → RustTriple
-fromDayOfYear n i l = rustTriple n i l (rustMonths l)
+unfoldable pub from_day_of_year : ℤ → ℤ → ℤ → RustTriple
+from_day_of_year n i l = rust_triple n i l (rust_months l)
 
-unfoldable pub fromDayOfCentury : ℤ → ℤ → RustTriple
-fromDayOfCentury n l = fromDayOfYear n (rustYears l) (dayOfYear l (rustYears l))
+unfoldable pub from_day_of_century : ℤ → ℤ → RustTriple
+from_day_of_century n l = from_day_of_year n (rust_years l) (day_of_year l (rust_years l))
 
-unfoldable pub fromShifted : ℤ → RustTriple
-fromShifted l = fromDayOfCentury (centuries l) (dayOfCentury l (centuries l))
+unfoldable pub from_shifted : ℤ → RustTriple
+from_shifted l = from_day_of_century (centuries l) (day_of_century l (centuries l))
 
 -- let mut l = jd + 68569
-unfoldable pub rustDate : ℤ → RustTriple
-rustDate jd = fromShifted (jd +ℤ pos 68569)
+unfoldable pub rust_date : ℤ → RustTriple
+rust_date jd = from_shifted (jd +ℤ pos 68569)

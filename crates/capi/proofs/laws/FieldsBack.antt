@@ -6,25 +6,25 @@ use lib.Dec.{T}
 use lib.Ieee.{binary64, fits}
 use mir.Syntax.{w32}
 use mir.Val.{SFits}
-use Rattle.numerals.specs.little_endian.LittleEndian.{fourAt, u32_at, u64At}
+use Rattle.numerals.specs.little_endian.LittleEndian.{four_at, u32_at, u64_at}
 use Rattle.numerals.proofs.little_endian.RoundTrip.{read-written, read-written-4}
 use Rattle.scales.specs.declared.gps_weeks.WeekTime.{WeekTime}
 use Rattle.parsing.specs.declared.ParsedDateTime.{ParsedDateTime}
 use Rattle.parsing.specs.declared.ParsedUtc.{ParsedUtc}
 use Rattle.standby.specs.declared.Bill.{Bill}
-use Rattle.c_answers.specs.Fields.{julianBytes}
+use Rattle.c_answers.specs.Fields.{julian_bytes}
 use Rattle.c_answers.proofs.FieldsBack.{float_back, year-back}
-use Rattle.capi.specs.WeekBytes.{weekBytes}
-use Rattle.capi.specs.ReaderFields.{parsedBytes, parsedUtcBytes}
-use Rattle.capi.specs.BillBytes.{billBytes}
+use Rattle.capi.specs.WeekBytes.{week_bytes}
+use Rattle.capi.specs.ReaderFields.{parsed_bytes, parsed_utc_bytes}
+use Rattle.capi.specs.BillBytes.{bill_bytes}
 use Rattle.capi.specs.laws.FieldsBack.{WeekBack, ReaderBack, UtcReaderBack, BillBack}
 
-pub week-back : (t : WeekTime) → t.week < 4294967296 → t.millis < 4294967296 → WeekBack t (weekBytes t)
-unfolding weekBytes u32_at fourAt
+pub week-back : (t : WeekTime) → t.week < 4294967296 → t.millis < 4294967296 → WeekBack t (week_bytes t)
+unfolding week_bytes u32_at four_at
 week-back t h k = record { week = read-written-4 t.week h; millis = read-written-4 t.millis k }
 
-pub bill-back : (b : Bill) → b.quarters < 18446744073709551616 → b.first < 18446744073709551616 → b.second < 18446744073709551616 → BillBack b (billBytes b)
-unfolding billBytes u64At fourAt
+pub bill-back : (b : Bill) → b.quarters < 18446744073709551616 → b.first < 18446744073709551616 → b.second < 18446744073709551616 → BillBack b (bill_bytes b)
+unfolding bill_bytes u64_at four_at
 bill-back b h k l = record { quarters = read-written b.quarters h; first = read-written b.first k; second = read-written b.second l }
 
 -- a text's fields by their types' widths
@@ -36,9 +36,9 @@ pub record OfWidth (p : ParsedDateTime) : Type 0 where
   pub minute : p.minute < 4294967296
   pub second : T (fits binary64 p.second)
 
-pub reader-back : (p : ParsedDateTime) → OfWidth p → ReaderBack p (parsedBytes p)
-unfolding parsedBytes u32_at u64At fourAt
-reader-back p w = record {
+pub reader_back : (p : ParsedDateTime) → OfWidth p → ReaderBack p (parsed_bytes p)
+unfolding parsed_bytes u32_at u64_at four_at
+reader_back p w = record {
   year = year-back p.year w.year;
   month = read-written-4 p.month w.month;
   day = read-written-4 p.day w.day;
@@ -48,8 +48,8 @@ reader-back p w = record {
 }
 
 module _ (r : ParsedUtc) (w : OfWidth r.fields) (fits-first : T (fits binary64 r.date.0.jd1)) (fits-second : T (fits binary64 r.date.0.jd2)) where
-  pub utc-reader-back : UtcReaderBack r (parsedUtcBytes r)
-  unfolding parsedUtcBytes parsedBytes julianBytes u32_at u64At fourAt
+  pub utc-reader-back : UtcReaderBack r (parsed_utc_bytes r)
+  unfolding parsed_utc_bytes parsed_bytes julian_bytes u32_at u64_at four_at
   utc-reader-back = record {
     fields = record {
       year = year-back r.fields.year w.year;

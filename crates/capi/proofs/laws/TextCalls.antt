@@ -15,46 +15,46 @@ use Rattle.julian.specs.declared.JulianDate.{JulianDate}
 use Rattle.leap_table.specs.declared.offsets.Rule.{Rule}
 use Rattle.leap_table.specs.rows.Table.{Row}
 use Rattle.leap_table.specs.offsets.Rule.{forget}
-use Rattle.utc.specs.text.Answer.{textWritten, bufferAfter}
-use Rattle.utc.specs.iso_texts.TextCall.{written, bufferHolds}
+use Rattle.utc.specs.text.Answer.{text_written, buffer_after}
+use Rattle.utc.specs.iso_texts.TextCall.{written, buffer_holds}
 use Rattle.utc.specs.iso_texts.TextForm.{TextForm}
-use Rattle.utc.specs.iso_texts.IsoText.{isoTextBy}
-use Rattle.utc.specs.iso_texts.ByRule.{textByRule}
+use Rattle.utc.specs.iso_texts.IsoText.{iso_text_by}
+use Rattle.utc.specs.iso_texts.ByRule.{text_by_rule}
 use Rattle.utc.proofs.iso_texts.TextRules.{text-forgets}
 use Rattle.c_answers.specs.Delivery.{code, Delivered}
-use Rattle.c_answers.specs.TwoBuffers.{bothFit, DeliveredTwo}
-use Rattle.capi.specs.TextRule.{askedRule, ruled}
+use Rattle.c_answers.specs.TwoBuffers.{both_fit, DeliveredTwo}
+use Rattle.capi.specs.TextRule.{asked_rule, ruled}
 
 abbrev both : List ℕ → List ℕ → List ℕ × List ℕ
 both t u = (t, u)
 
-module _ (before second : List ℕ) (r : ℤ) (after after-second : List ℕ) (room : (length second ≡ 0) ⊎ (8 ≤ length second)) where
+module _ (before second : List ℕ) (r : ℤ) (after after_second : List ℕ) (room : (length second ≡ 0) ⊎ (8 ≤ length second)) where
   fits_both : (t u : List ℕ) (b : Bool) → leb (length t) (length before) ≡ b → leb (length u) (length second) ≡ true
       → r ≡ code (onward (cond (b && leb (length u) (length second)) (answer (both t u)) (refusal 11)) (λ p. answer (length p.0)))
-      → after ≡ bufferHolds (onward (cond (b && leb (length u) (length second)) (answer (both t u)) (refusal 11)) (λ p. answer p.0)) before
+      → after ≡ buffer_holds (onward (cond (b && leb (length u) (length second)) (answer (both t u)) (refusal 11)) (λ p. answer p.0)) before
       → Delivered (answer t) before r after
-  unfolding written onward bufferHolds textWritten bufferAfter
+  unfolding written onward buffer_holds text_written buffer_after
   fits_both t u true e f p q = record { returned = p ∙ rw (e, f); holds = q ∙ rw f }
   fits_both t u false e f p q = record { returned = p ∙ rw e; holds = q ∙ rw e }
 
-  rule_fits : (n : ℕ) (rule : Rule) → (n ≡ 0) ⊎ (8 ≤ n) → leb (length (askedRule n rule)) n ≡ true
-  unfolding askedRule
+  rule_fits : (n : ℕ) (rule : Rule) → (n ≡ 0) ⊎ (8 ≤ n) → leb (length (asked_rule n rule)) n ≡ true
+  unfolding asked_rule
   rule_fits zero rule h = refl
   rule_fits (suc n) rule (inl e) = absurd (let no : ⊥ = omega (arith, e) in no)
   rule_fits (suc n) rule (inr h) = le-leb 8 (suc n) h
 
-  pub text-delivered : (o : Outcome (List ℕ × Rule)) → DeliveredTwo (ruled (length second) o) before second r after after-second
+  pub text-delivered : (o : Outcome (List ℕ × Rule)) → DeliveredTwo (ruled (length second) o) before second r after after_second
       → Delivered (forget o) before r after
-  unfolding ruled forget onward bothFit written bufferHolds
-  text-delivered (answer t) d = fits_both t.0 (askedRule (length second) t.1) (leb (length t.0) (length before)) refl
+  unfolding ruled forget onward both_fit written buffer_holds
+  text-delivered (answer t) d = fits_both t.0 (asked_rule (length second) t.1) (leb (length t.0) (length before)) refl
       (rule_fits (length second) t.1 room) d.returned d.holds
   text-delivered (refusal k) d = record { returned = d.returned; holds = d.holds }
 
   -- by the rows of a table, or with what it is refused by
-  pub iso-delivered : (textForm : TextForm) (table : Outcome (List Row)) (jd : JulianDate)
-      → DeliveredTwo (ruled (length second) (onward table (λ rows. textByRule textForm rows jd))) before second r after after-second
-      → Delivered (onward table (λ rows. isoTextBy textForm rows jd)) before r after
+  pub iso_delivered : (textForm : TextForm) (table : Outcome (List Row)) (jd : JulianDate)
+      → DeliveredTwo (ruled (length second) (onward table (λ rows. text_by_rule textForm rows jd))) before second r after after_second
+      → Delivered (onward table (λ rows. iso_text_by textForm rows jd)) before r after
   unfolding onward forget
-  iso-delivered textForm (answer rows) jd d =
-      subst (λ (o : Outcome (List ℕ)). Delivered o before r after) (text-forgets textForm rows jd) (text-delivered (textByRule textForm rows jd) d)
-  iso-delivered textForm (refusal k) jd d = text-delivered (refusal k) d
+  iso_delivered textForm (answer rows) jd d =
+      subst (λ (o : Outcome (List ℕ)). Delivered o before r after) (text-forgets textForm rows jd) (text-delivered (text_by_rule textForm rows jd) d)
+  iso_delivered textForm (refusal k) jd d = text-delivered (refusal k) d

@@ -1,7 +1,7 @@
 -- The fields of a week, of a text that was read and of a bill, read back by a C caller at the offsets of include/celestial_time.h. Written from
 -- include/celestial_time.h. Assumes nothing.
 use Rattle.std.specs.Prelude.{ℕ, ◌≡◌, List}
-use Rattle.numerals.specs.little_endian.LittleEndian.{u32_at, u64At, i32At}
+use Rattle.numerals.specs.little_endian.LittleEndian.{u32_at, u64_at, i32_at}
 use Rattle.scales.specs.declared.gps_weeks.WeekTime.{WeekTime}
 use Rattle.parsing.specs.declared.ParsedDateTime.{ParsedDateTime}
 use Rattle.parsing.specs.declared.ParsedUtc.{ParsedUtc}
@@ -13,7 +13,7 @@ pub record WeekBack (t : WeekTime) (bytes : List ℕ) : Type 0 where
   pub millis : u32_at bytes 4 ≡ t.millis
 
 pub record ReaderBack (p : ParsedDateTime) (bytes : List ℕ) : Type 0 where
-  pub year : i32At bytes 0 ≡ p.year
+  pub year : i32_at bytes 0 ≡ p.year
   pub month : u32_at bytes 4 ≡ p.month
   pub day : u32_at bytes 8 ≡ p.day
   pub hour : u32_at bytes 12 ≡ p.hour
@@ -26,6 +26,6 @@ pub record UtcReaderBack (r : ParsedUtc) (bytes : List ℕ) : Type 0 where
   pub date : JulianBack r.date.0 bytes 28
 
 pub record BillBack (b : Bill) (bytes : List ℕ) : Type 0 where
-  pub quarters : u64At bytes 0 ≡ b.quarters
-  pub first : u64At bytes 8 ≡ b.first
-  pub second : u64At bytes 16 ≡ b.second
+  pub quarters : u64_at bytes 0 ≡ b.quarters
+  pub first : u64_at bytes 8 ≡ b.first
+  pub second : u64_at bytes 16 ≡ b.second

@@ -13,9 +13,9 @@ use Rattle.floats.proofs.Fields.{sign, expo, digits, of_bits_is}
 use Rattle.floats.proofs.fabs.Statement.{statement}
 use Rattle.floats.proofs.fabs.Tie as tie
 
-nan-stays : (x : Float) → x ≡ nan → x ≡ abs x
+nan_stays : (x : Float) → x ≡ nan → x ≡ abs x
 unfolding abs
-nan-stays x h = h ∙ sym (ap abs h)
+nan_stays x h = h ∙ sym (ap abs h)
 
 abs-odd : (d : ℕ) (s : Bool) (q k l : ℕ) → odd d false q k l ≡ abs (odd d s q k l)
 unfolding odd abs
@@ -55,14 +55,14 @@ abs-no-nan (inf s) h = tt
 abs-no-nan (fin s m e) h = tt
 
 returns : tie.Need-returns
-returns c = nan-stays c.before.args.x (differs_from_itself c.before.args.x (yes c.if1.true))
+returns c = nan_stays c.before.args.x (differs_from_itself c.before.args.x (yes c.if1.true))
 
 float-from-bits-result : tie.Need-float-from-bits-result
 float-from-bits-result c =
     let x = c.before.args.x in
     subst (λ (z : Bool). T (not z)) (sym (nan_bits_is binary64 (bit_and (to_bits binary64 x) (2 ^ 63 - 1))))
-    (subst (λ (v : Float). T (not (is_nan v))) (sym (is x (yes c.before.well-formed.0.1))) (abs-no-nan x (equals_itself x c.if1.false)))
+    (subst (λ (v : Float). T (not (is_nan v))) (sym (is x (yes c.before.well_formed.0.1))) (abs-no-nan x (equals_itself x c.if1.false)))
 
 pub fabs-spec : {M : Type 1} → statement M
 fabs-spec = tie.close (tie.spec returns (λ c. equals_itself c.before.args.x c.if1.false) float-from-bits-result
-    (λ c. is c.before.args.x (yes c.before.well-formed.0.1)))
+    (λ c. is c.before.args.x (yes c.before.well_formed.0.1)))

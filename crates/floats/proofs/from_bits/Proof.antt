@@ -1,7 +1,7 @@
 -- `floats::from_bits` meets its contract: a NaN's pattern gives the NaN 0.0 / 0.0.
 use lib.Ieee.{div, of_bits}
 use Rattle.std.proofs.Common.{rules}
-use Rattle.floats.proofs.Patterns.{no-nan-pattern, nan_pattern}
+use Rattle.floats.proofs.Patterns.{no_nan_pattern, nan_pattern}
 use Rattle.floats.proofs.from_bits.Statement.{statement}
 use Rattle.floats.proofs.from_bits.Tie as tie
 
@@ -10,4 +10,4 @@ unfolding div of_bits
 returns c = nan_pattern _ c.if1.true
 
 pub from-bits-spec : {M : Type 1} → statement M
-from-bits-spec = tie.close (tie.spec returns (λ c. no-nan-pattern _ c.if1.false) (λ c. search rules))
+from-bits-spec = tie.close (tie.spec returns (λ c. no_nan_pattern _ c.if1.false) (λ c. search rules))

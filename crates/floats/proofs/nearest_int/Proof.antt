@@ -1,7 +1,7 @@
 -- `floats::nearest_int` meets its contract: the definition by the same two tests.
 use Rattle.std.proofs.Common.{◌≡◌, Bool, true, false, cond, sym, ap, ◌∙◌, rules}
 use lib.Ieee.{Float, lt, add, sub, of_bits, binary64}
-use Rattle.floats.specs.Whole.{abs, half, nought, toWhole, upward, downward, nearestInt}
+use Rattle.floats.specs.Whole.{abs, half, nought, to_whole, upward, downward, nearest_int}
 use Rattle.floats.proofs.nearest_int.Statement.{statement}
 use Rattle.floats.proofs.nearest_int.Tie as tie
 
@@ -12,21 +12,21 @@ other : (p q r : Bool) (a b c : Float) → p ≡ false → q ≡ r → cond r b 
 other p q r a b c h k = sym (ap (λ (t : Bool). cond t a (cond q b c)) h ∙ ap (λ (t : Bool). cond t b c) k)
 
 returns : tie.Need-returns
-unfolding of_bits nearestInt
+unfolding of_bits nearest_int
 returns c =
     let a = c.before.before.args.a in
-    first (lt (abs a) half) (lt a nought) nought (toWhole upward (sub binary64 a half)) (toWhole downward (add binary64 a half))
+    first (lt (abs a) half) (lt a nought) nought (to_whole upward (sub binary64 a half)) (to_whole downward (add binary64 a half))
     (ap (λ (v : Float). lt v half) (sym c.before.fabs.ensures) ∙ c.if1.true)
 
 returns-2 : tie.Need-returns-2
-unfolding of_bits nearestInt
+unfolding of_bits nearest_int
 returns-2 c =
     let b = c.before in
     let e = b.before in
     c.ceil.ensures ∙ other _ _ true _ _ _ (ap (λ (v : Float). lt v half) (sym e.before.fabs.ensures) ∙ e.if1.false) b.if2.true
 
 returns-3 : tie.Need-returns-3
-unfolding of_bits nearestInt
+unfolding of_bits nearest_int
 returns-3 c =
     let b = c.before in
     let e = b.before in

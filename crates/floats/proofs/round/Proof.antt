@@ -3,10 +3,10 @@ use Rattle.std.proofs.Common.{◌+◌, ◌^◌, not, T, lit≤, rules}
 use lib.Ieee.{Float, binary64, fits, is_nan, to_bits}
 use lib.Ieee.Compare.{differs_from_itself}
 use Rattle.floats.specs.Whole.{away}
-use Rattle.floats.proofs.Laws.{yes, equals_itself, nan-stays, away-one, away-same}
+use Rattle.floats.proofs.Laws.{yes, equals_itself, nan_stays, away-one, away-same}
 use Rattle.floats.proofs.Fields.{digits}
-use Rattle.floats.proofs.Ranges.{high, low, low-no-nan, sum_lt, mid, mid-no-nan}
-use Rattle.floats.proofs.Halves.{under-half, half_up, half_down, unit-half-lt, taken-nearer}
+use Rattle.floats.proofs.Ranges.{high, low, low-no-nan, sum_lt, mid, mid_no_nan}
+use Rattle.floats.proofs.Halves.{under-half, half_up, half_down, unit_half_lt, taken-nearer}
 use Rattle.floats.proofs.round.Statement.{statement}
 use Rattle.floats.proofs.round.Tie as tie
 
@@ -14,13 +14,13 @@ abbrev x : tie.Start → Float
 x c = c.args.x
 
 held : (c : tie.Start) → T (fits binary64 (x c))
-held c = yes c.well-formed.0.1
+held c = yes c.well_formed.0.1
 
 number : (c : tie.Else1) → T (not (is_nan (x c.before)))
 number c = equals_itself (x c.before) c.if1.false
 
 returns : tie.Need-returns
-returns c = nan-stays away (x c.before) (differs_from_itself (x c.before) (yes c.if1.true))
+returns c = nan_stays away (x c.before) (differs_from_itself (x c.before) (yes c.if1.true))
 
 float-from-bits-result : tie.Need-float-from-bits-result
 float-from-bits-result c =
@@ -32,14 +32,14 @@ add-result c =
     let n = c.before.before.before in
     record {
       fits = sum_lt (x n.before) (held n.before) (number n) c.if4.false c.before.before.if2.false _
-          (unit-half-lt _ c.if4.false c.before.before.if2.false);
+          (unit_half_lt _ c.if4.false c.before.before.if2.false);
     }
 
 float-from-bits-result-2 : tie.Need-float-from-bits-result-2
 float-from-bits-result-2 c =
     let n = c.before.before.before in
-    mid-no-nan (x n.before) (held n.before) (number n) c.if4.false c.before.before.if2.false _
-    (unit-half-lt _ c.if4.false c.before.before.if2.false)
+    mid_no_nan (x n.before) (held n.before) (number n) c.if4.false c.before.before.if2.false _
+    (unit_half_lt _ c.if4.false c.before.before.if2.false)
 
 returns-2 : tie.Need-returns-2
 returns-2 c =
@@ -66,7 +66,7 @@ returns-6 c =
     let n = c.before.before.before in
     let lo = c.if4.false in
     let hi = c.before.before.if2.false in
-    mid (x n.before) (held n.before) (number n) lo hi _ (unit-half-lt _ lo hi) away away-same
+    mid (x n.before) (held n.before) (number n) lo hi _ (unit_half_lt _ lo hi) away away-same
     (taken-nearer _ lo hi (2 ^ 52 + digits (to_bits binary64 (x n.before))))
 
 pub round-spec : {M : Type 1} → statement M

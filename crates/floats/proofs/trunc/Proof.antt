@@ -4,10 +4,10 @@ use native.Mathlib.Nat.{div-eq_of_lt}
 use lib.Bits.{bit_and}
 use lib.Ieee.{Float, binary64, fits, is_nan, of_bits, to_bits, nan_bits}
 use lib.Ieee.Compare.{differs_from_itself}
-use Rattle.floats.specs.Whole.{toWhole, cut}
-use Rattle.floats.proofs.Laws.{yes, equals_itself, nan-stays, cut-one, cut-same}
+use Rattle.floats.specs.Whole.{to_whole, cut}
+use Rattle.floats.proofs.Laws.{yes, equals_itself, nan_stays, cut-one, cut-same}
 use Rattle.floats.proofs.Fields.{digits}
-use Rattle.floats.proofs.Ranges.{high, low, low-no-nan, mid, mid-no-nan}
+use Rattle.floats.proofs.Ranges.{high, low, low-no-nan, mid, mid_no_nan}
 use Rattle.floats.proofs.trunc.Statement.{statement}
 use Rattle.floats.proofs.trunc.Tie as tie
 
@@ -20,25 +20,25 @@ module _ (x : Float) (F : T (fits binary64 x)) (N : T (not (is_nan x))) (lo : 10
   abbrev k : ℕ
   k = 1075 - bit_and (b / 2 ^ 52) 2047
 
-  middle : of_bits binary64 (b / 2 ^ k * 2 ^ k % 2 ^ 64) ≡ toWhole cut x
+  middle : of_bits binary64 (b / 2 ^ k * 2 ^ k % 2 ^ 64) ≡ to_whole cut x
   middle =
-      subst (λ (z : ℕ). of_bits binary64 (z / 2 ^ k * 2 ^ k % 2 ^ 64) ≡ toWhole cut x) (add-zero b)
+      subst (λ (z : ℕ). of_bits binary64 (z / 2 ^ k * 2 ^ k % 2 ^ 64) ≡ to_whole cut x) (add-zero b)
       (mid x F N lo hi 0 (pow_pos k) cut cut-same (λ s. ap (λ (z : ℕ). z / 2 ^ k) (add-zero (2 ^ 52 + digits b))))
 
   middle-no-nan : T (not (nan_bits binary64 (b / 2 ^ k * 2 ^ k % 2 ^ 64)))
-  middle-no-nan = subst (λ (z : ℕ). T (not (nan_bits binary64 (z / 2 ^ k * 2 ^ k % 2 ^ 64)))) (add-zero b) (mid-no-nan x F N lo hi 0 (pow_pos k))
+  middle-no-nan = subst (λ (z : ℕ). T (not (nan_bits binary64 (z / 2 ^ k * 2 ^ k % 2 ^ 64)))) (add-zero b) (mid_no_nan x F N lo hi 0 (pow_pos k))
 
 abbrev x : tie.Start → Float
 x c = c.args.x
 
 held : (c : tie.Start) → T (fits binary64 (x c))
-held c = yes c.well-formed.0.1
+held c = yes c.well_formed.0.1
 
 number : (c : tie.Else1) → T (not (is_nan (x c.before)))
 number c = equals_itself (x c.before) c.if1.false
 
 returns : tie.Need-returns
-returns c = nan-stays cut (x c.before) (differs_from_itself (x c.before) (yes c.if1.true))
+returns c = nan_stays cut (x c.before) (differs_from_itself (x c.before) (yes c.if1.true))
 
 float-from-bits-result : tie.Need-float-from-bits-result
 float-from-bits-result c =

@@ -9,16 +9,16 @@ use lib.Ieee.Exact.{HasValue}
 use Rattle.rounding.specs.Value.{L}
 use Rattle.rounding.proofs.Signed.{plus-of, minus-of}
 use Rattle.rounding.proofs.Own.{Rep, own}
-use Rattle.floats.specs.Whole.{nearestInt}
+use Rattle.floats.specs.Whole.{nearest_int}
 use Rattle.julian.specs.day_number.DayNumber.{accepted}
 use Rattle.julian.proofs.day_number.Units.{S, C, E-L, E_pos}
 use Rattle.julian.proofs.day_number.SignedUnits.{has-val}
 use Rattle.julian.proofs.day_number.NearestNumber.{Numbers}
 use Rattle.julian.proofs.day_number.NearestInt.{Whole, whole}
 use Rattle.julian.proofs.day_number.JulianRange.{SumInRange, exact-sum, accepted-lo, accepted-hi, accepted-finite}
-use Rattle.julian.proofs.day_number.Parts.{grid-numbers, on-grid}
+use Rattle.julian.proofs.day_number.Parts.{grid_numbers, on-grid}
 use Rattle.julian.proofs.day_number.Pair.{AcceptedSum, off}
-use Rattle.julian.proofs.day_number.PairOnGrid.{grid, grid-range}
+use Rattle.julian.proofs.day_number.PairOnGrid.{grid, grid_range}
 
 -- where one part is 2 ^ 50 or more, the other is 2 ^ 49 or more
 other : (s t : Bool) (X Y : ℕ) → SumInRange (plus-of s X + plus-of t Y) (minus-of s X + minus-of t Y) → 2 ^ 50 * L ≤ X → 2 ^ 49 * L ≤ Y
@@ -31,15 +31,15 @@ swap : (s t : Bool) (X Y : ℕ) → SumInRange (plus-of s X + plus-of t Y) (minu
     → SumInRange (plus-of t Y + plus-of s X) (minus-of t Y + minus-of s X)
 swap s t X Y r = record { high = omega (arith, r.high); low = omega (arith, r.low) }
 
-large : (x y : Float) (s t : Bool) (X Y A B : ℕ) → HasValue x s X L → HasValue y t Y L → Rep X → Rep Y → Whole (nearestInt x) s X A → Whole (nearestInt y) t Y B
+large : (x y : Float) (s t : Bool) (X Y A B : ℕ) → HasValue x s X L → HasValue y t Y L → Rep X → Rep Y → Whole (nearest_int x) s X A → Whole (nearest_int y) t Y B
     → SumInRange (plus-of s X + plus-of t Y) (minus-of s X + minus-of t Y) → 2 ^ 49 * L ≤ X → 2 ^ 49 * L ≤ Y → AcceptedSum x y
 large x y s t X Y A B vx vy rx ry wx wy r hx hy = go (on-grid x s X vx rx hx) (on-grid y t Y vy ry hy)
   where
     go : (P : ℕ) × (X ≡ P * C) × HasValue x s P S → (Q : ℕ) × (Y ≡ Q * C) × HasValue y t Q S → AcceptedSum x y
     go (P, e, u) (Q, d, v) =
-        grid x y s t X Y P Q A B u v wx wy e d (grid-numbers P A (subst (λ (z : ℕ). Numbers z A) e wx.numbers))
-        (grid-numbers Q B (subst (λ (z : ℕ). Numbers z B) d wy.numbers))
-        (grid-range s t P Q (subst (λ (z : ℕ). SumInRange (plus-of s (P * C) + plus-of t z) (minus-of s (P * C) + minus-of t z)) d
+        grid x y s t X Y P Q A B u v wx wy e d (grid_numbers P A (subst (λ (z : ℕ). Numbers z A) e wx.numbers))
+        (grid_numbers Q B (subst (λ (z : ℕ). Numbers z B) d wy.numbers))
+        (grid_range s t P Q (subst (λ (z : ℕ). SumInRange (plus-of s (P * C) + plus-of t z) (minus-of s (P * C) + minus-of t z)) d
         (subst (λ (z : ℕ). SumInRange (plus-of s z + plus-of t Y) (minus-of s z + minus-of t Y)) e r)))
 
 pub accepted-pair : (x y : Float) → T (fits binary64 x) → T (fits binary64 y) → accepted x y ≡ true → AcceptedSum x y
@@ -52,7 +52,7 @@ accepted-pair x y fx fy e =
     (exact-sum x y (plus-of o.sign o.size) (minus-of o.sign o.size) (plus-of p.sign p.size) (minus-of p.sign p.size)
     (has-val x o.sign o.size L o.has) (has-val y p.sign p.size L p.has) (accepted-lo x y e) (accepted-hi x y e))
   where
-    go : (s t : Bool) (X Y A B : ℕ) → HasValue x s X L → HasValue y t Y L → Rep X → Rep Y → Whole (nearestInt x) s X A → Whole (nearestInt y) t Y B
+    go : (s t : Bool) (X Y A B : ℕ) → HasValue x s X L → HasValue y t Y L → Rep X → Rep Y → Whole (nearest_int x) s X A → Whole (nearest_int y) t Y B
         → SumInRange (plus-of s X + plus-of t Y) (minus-of s X + minus-of t Y) → AcceptedSum x y
     go s t X Y A B vx vy rx ry wx wy r =
         pick (leb (2 ^ 50 * L) X) (leb→le (2 ^ 50 * L) X) (nleb→lt (2 ^ 50 * L) X) (leb (2 ^ 50 * L) Y) (leb→le (2 ^ 50 * L) Y) (nleb→lt (2 ^ 50 * L) Y)

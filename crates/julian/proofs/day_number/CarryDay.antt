@@ -11,15 +11,15 @@ use lib.Ieee.{Float, binary64, add, sub, lt, fits}
 use Rattle.floats.specs.Whole.{nought, one}
 use Rattle.rounding.specs.Value.{Val, L}
 use Rattle.rounding.proofs.Value.{L-pos, val-move, val-scale, val-unscale}
-use Rattle.rounding.proofs.Exact.{add-exact, sub-exact}
-use Rattle.rounding.proofs.Compare.{lt-true, lt-false}
-use Rattle.rounding.proofs.Near.{sub-near}
+use Rattle.rounding.proofs.Exact.{add_exact, sub_exact}
+use Rattle.rounding.proofs.Compare.{lt_true, lt_false}
+use Rattle.rounding.proofs.Near.{sub_near}
 use Rattle.rounding.proofs.Optimal.{multiple}
 use Rattle.rounding.proofs.Signed.{dist}
 use Rattle.rounding.proofs.Own.{val-rep}
 use Rattle.julian.specs.declared.day_number.Kahan.{Kahan}
 use Rattle.julian.specs.declared.day_number.Carried.{Carried}
-use Rattle.julian.specs.day_number.DayNumber.{c-minus-eps-4, c-minus-eps-2, kahanOf, carryDay, carryEnd}
+use Rattle.julian.specs.day_number.DayNumber.{c_minus_eps_4, c_minus_eps_2, kahan_of, carry_day, carry_end}
 use Rattle.julian.proofs.day_number.Units.{G, W, L-W, W-pos, one-L, minus-eps-4-L, one-G, nought-G, minus-eps-2-G, minus-eps-4}
 
 -- of a fraction z = p - n: `up` days carried
@@ -43,22 +43,22 @@ four-W : 2 ^ 1022 ≡ 4 * W
 unfolding W
 four-W = refl
 
-pub less_one : (z : Float) (p n : ℕ) → Val z p n L → n ≤ p → p < n + 13510798882111488 * W → lt (sub binary64 z one) c-minus-eps-4 ≡ false → ⊥
+pub less_one : (z : Float) (p n : ℕ) → Val z p n L → n ≤ p → p < n + 13510798882111488 * W → lt (sub binary64 z one) c_minus_eps_4 ≡ false → ⊥
 less_one z p n v h k test =
-    let t = sub-near 1022 (lit≤ tt) (subst (λ (x : ℕ). p + 0 < n + L + x) (sym two-L) (omega (arith, L-W)))
+    let t = sub_near 1022 (lit≤ tt) (subst (λ (x : ℕ). p + 0 < n + L + x) (sym two-L) (omega (arith, L-W)))
     (subst (λ (x : ℕ). n + L < p + 0 + x) (sym two-L) (omega (arith, L-W))) v one-L in
-    let e : 0 + t.n ≤ t.p + W = lt-false L-pos t.val minus-eps-4-L test in
+    let e : 0 + t.n ≤ t.p + W = lt_false L-pos t.val minus-eps-4-L test in
     let o : 2 * (t.p + (n + L)) ≤ 2 * (t.n + (p + 0)) + 4 * W = subst (λ (x : ℕ). 2 * (t.p + (n + L)) ≤ 2 * (t.n + (p + 0)) + x) four-W t.over in
     fin t.p t.n o e
   where
     fin : (x y : ℕ) → 2 * (x + (n + L)) ≤ 2 * (y + (p + 0)) + 4 * W → 0 + y ≤ x + W → ⊥
     fin x y o e = omega (arith, L-W)
 
-low-case : (κ : Kahan) (z : Float) (p n : ℕ) → Val z p n L → n ≤ p → p < n + 13510798882111488 * W → Settled (carryDay κ z) z p n
-unfolding carryDay
-low-case κ z p n v h k = go (lt (sub binary64 z one) c-minus-eps-4) refl _
+low-case : (κ : Kahan) (z : Float) (p n : ℕ) → Val z p n L → n ≤ p → p < n + 13510798882111488 * W → Settled (carry_day κ z) z p n
+unfolding carry_day
+low-case κ z p n v h k = go (lt (sub binary64 z one) c_minus_eps_4) refl _
   where
-    go : (u : Bool) → lt (sub binary64 z one) c-minus-eps-4 ≡ u → (r : Carried) → Settled (cond u (record { carry = 0; fraction = z }) r) z p n
+    go : (u : Bool) → lt (sub binary64 z one) c_minus_eps_4 ≡ u → (r : Carried) → Settled (cond u (record { carry = 0; fraction = z }) r) z p n
     go true test r = kept z p n v h (omega (arith, L-W))
     go false test r = absurd (less_one z p n v h k test)
 
@@ -99,7 +99,7 @@ minus_one z p n f v h k = go (to-grid z p n f v (omega (arith, L-W)))
     go : (d : ℕ) × (p ≡ n + d * (2 * W)) × Val z d 0 G → Val (sub binary64 z one) p (n + L) L
     go (d, e, x) =
         let b : d < 2 * G = cancel d (2 * G) (omega (arith, L-W)) in
-        val-move (back (sub binary64 z one) p n d e (val-move (sub-exact 53 (lit≤ tt) (omega arith) (omega arith) x one-G) (omega arith))) (plain p n L)
+        val-move (back (sub binary64 z one) p n d e (val-move (sub_exact 53 (lit≤ tt) (omega arith) (omega arith) x one-G) (omega arith))) (plain p n L)
       where
         plain : (p n l : ℕ) → p + (n + l) ≡ p + (n + 1 * l)
         plain p n l = omega arith
@@ -109,51 +109,51 @@ record Ended (d : ℕ) (r : Carried) : Type 0 where
   carry : r.carry ≡ 1
   val : Val r.fraction d G G
 
-end : (f : Float) (d : ℕ) → Val f d G G → G ≤ d → (r : Carried) → r ≡ carryEnd f → Ended d r
-unfolding carryEnd
-end f d v h r e = subst (λ (r : Carried). Ended d r) (sym e) (go (lt c-minus-eps-2 f) refl (lt nought f) refl)
+end : (f : Float) (d : ℕ) → Val f d G G → G ≤ d → (r : Carried) → r ≡ carry_end f → Ended d r
+unfolding carry_end
+end f d v h r e = subst (λ (r : Carried). Ended d r) (sym e) (go (lt c_minus_eps_2 f) refl (lt nought f) refl)
   where
-    go : (a : Bool) → lt c-minus-eps-2 f ≡ a → (b : Bool) → lt nought f ≡ b
+    go : (a : Bool) → lt c_minus_eps_2 f ≡ a → (b : Bool) → lt nought f ≡ b
         → Ended d (cond a (record { carry = 1; fraction = cond b f nought }) (record { carry = 0; fraction = f }))
     go true x true y = record { carry = refl; val = v }
-    go true x false y = let w : d + 0 ≤ 0 + G = lt-false (pow_pos 53) nought-G v y in record { carry = refl; val = val-move nought-G (omega arith) }
-    go false x b y = let w : d + 1 ≤ 0 + G = lt-false (pow_pos 53) minus-eps-2-G v x in let z : ⊥ = omega arith in absurd z
+    go true x false y = let w : d + 0 ≤ 0 + G = lt_false (pow_pos 53) nought-G v y in record { carry = refl; val = val-move nought-G (omega arith) }
+    go false x b y = let w : d + 1 ≤ 0 + G = lt_false (pow_pos 53) minus-eps-2-G v x in let z : ⊥ = omega arith in absurd z
 
-grid-case : (s z : Float) (d d' : ℕ) → Val z d 0 G → Val s d' 0 G → d < G + 1024 → d ≤ d' + 1024 → d' ≤ d + 1024 → G ≤ 2 * d
-    → (r : Carried) → r ≡ carryDay (kahanOf s z) z → ((d < G) × (r ≡ record { carry = 0; fraction = z })) ⊎ ((G ≤ d) × Ended d r)
-unfolding carryDay
-grid-case s z d d' v w h1 h2 h3 h4 r e = go (lt (sub binary64 z one) c-minus-eps-4) refl e
+grid_case : (s z : Float) (d d' : ℕ) → Val z d 0 G → Val s d' 0 G → d < G + 1024 → d ≤ d' + 1024 → d' ≤ d + 1024 → G ≤ 2 * d
+    → (r : Carried) → r ≡ carry_day (kahan_of s z) z → ((d < G) × (r ≡ record { carry = 0; fraction = z })) ⊎ ((G ≤ d) × Ended d r)
+unfolding carry_day
+grid_case s z d d' v w h1 h2 h3 h4 r e = go (lt (sub binary64 z one) c_minus_eps_4) refl e
   where
     t : Val (sub binary64 z one) (d + 0) (0 + G) G
-    t = sub-exact 53 (lit≤ tt) (omega arith) (omega arith) v one-G
+    t = sub_exact 53 (lit≤ tt) (omega arith) (omega arith) v one-G
 
-    go : (u : Bool) → lt (sub binary64 z one) c-minus-eps-4 ≡ u
+    go : (u : Bool) → lt (sub binary64 z one) c_minus_eps_4 ≡ u
         → r ≡ cond u (record { carry = 0; fraction = z })
-        (carryEnd (add binary64 (sub binary64 s one) (add binary64 (sub binary64 z s) (sub binary64 (sub binary64 s (sub binary64 s one)) one))))
+        (carry_end (add binary64 (sub binary64 s one) (add binary64 (sub binary64 z s) (sub binary64 (sub binary64 s (sub binary64 s one)) one))))
         → ((d < G) × (r ≡ record { carry = 0; fraction = z })) ⊎ ((G ≤ d) × Ended d r)
-    go true test q = let y : (d + 0) * 2 + 1 < 0 + (0 + G) * 2 = lt-true (pow_pos 54) (val-scale 2 t) minus-eps-4 test in inl (omega arith, q)
+    go true test q = let y : (d + 0) * 2 + 1 < 0 + (0 + G) * 2 = lt_true (pow_pos 54) (val-scale 2 t) minus-eps-4 test in inl (omega arith, q)
     go false test q =
-        let y : 0 + (0 + G) * 2 ≤ (d + 0) * 2 + 1 = lt-false (pow_pos 54) (val-scale 2 t) minus-eps-4 test in
+        let y : 0 + (0 + G) * 2 ≤ (d + 0) * 2 + 1 = lt_false (pow_pos 54) (val-scale 2 t) minus-eps-4 test in
         let b : G ≤ d = omega arith in
-        let s4 : Val (sub binary64 s one) (d' + 0) (0 + G) G = sub-exact 53 (lit≤ tt) (omega arith) (omega arith) w one-G in
-        let x1 : Val (sub binary64 s (sub binary64 s one)) G 0 G = val-move (sub-exact 53 (lit≤ tt) (omega arith) (omega arith) w s4) (omega arith) in
+        let s4 : Val (sub binary64 s one) (d' + 0) (0 + G) G = sub_exact 53 (lit≤ tt) (omega arith) (omega arith) w one-G in
+        let x1 : Val (sub binary64 s (sub binary64 s one)) G 0 G = val-move (sub_exact 53 (lit≤ tt) (omega arith) (omega arith) w s4) (omega arith) in
         let x2 : Val (sub binary64 (sub binary64 s (sub binary64 s one)) one) 0 0 G =
-        val-move (sub-exact 53 (lit≤ tt) (omega arith) (omega arith) x1 one-G) (omega arith) in
-        let k : Val (sub binary64 z s) (d + 0) (0 + d') G = sub-exact 53 (lit≤ tt) (omega arith) (omega arith) v w in
-        let f = add-exact 53 (lit≤ tt) (omega arith) (omega arith) s4 (add-exact 53 (lit≤ tt) (omega arith) (omega arith) k x2) in
+        val-move (sub_exact 53 (lit≤ tt) (omega arith) (omega arith) x1 one-G) (omega arith) in
+        let k : Val (sub binary64 z s) (d + 0) (0 + d') G = sub_exact 53 (lit≤ tt) (omega arith) (omega arith) v w in
+        let f = add_exact 53 (lit≤ tt) (omega arith) (omega arith) s4 (add_exact 53 (lit≤ tt) (omega arith) (omega arith) k x2) in
         inr (b, end _ d (val-move f (omega arith)) b r q)
 
 high-case : (s z : Float) (p n a b : ℕ) → T (fits binary64 s) → T (fits binary64 z) → Val z p n L → Val s a b L → n + 13510798882111488 * W ≤ p
-    → p < n + L + 2048 * W → p + b ≤ n + a + 2048 * W → n + a ≤ p + b + 2048 * W → Settled (carryDay (kahanOf s z) z) z p n
+    → p < n + L + 2048 * W → p + b ≤ n + a + 2048 * W → n + a ≤ p + b + 2048 * W → Settled (carry_day (kahan_of s z) z) z p n
 high-case s z p n a b fs fz v w h1 h2 h3 h4 = go (to-grid z p n fz v (omega arith)) (to-grid s a b fs w (omega arith))
   where
-    go : (d : ℕ) × (p ≡ n + d * (2 * W)) × Val z d 0 G → (d' : ℕ) × (a ≡ b + d' * (2 * W)) × Val s d' 0 G → Settled (carryDay (kahanOf s z) z) z p n
+    go : (d : ℕ) × (p ≡ n + d * (2 * W)) × Val z d 0 G → (d' : ℕ) × (a ≡ b + d' * (2 * W)) × Val s d' 0 G → Settled (carry_day (kahan_of s z) z) z p n
     go (d, e, x) (d', e', x') =
         let b1 : d < G + 1024 = cancel d (G + 1024) (omega (arith, L-W)) in
         let b2 : d < d' + 1025 = cancel d (d' + 1025) (rw add-mul (omega (arith, W-pos))) in
         let b3 : d' < d + 1025 = cancel d' (d + 1025) (rw add-mul (omega (arith, W-pos))) in
         let b4 : G < 2 * d + 1 = cancel G (2 * d + 1) (simp (add-mul, mul_assoc) (omega (arith, W-pos))) in
-        fin (grid-case s z d d' x x' b1 (less d d' b2) (less d' d b3) (less' G (2 * d) b4) (carryDay (kahanOf s z) z) refl)
+        fin (grid_case s z d d' x x' b1 (less d d' b2) (less d' d b3) (less' G (2 * d) b4) (carry_day (kahan_of s z) z) refl)
       where
         less : (x y : ℕ) → x < y + 1025 → x ≤ y + 1024
         less x y h = omega arith
@@ -164,8 +164,8 @@ high-case s z p n a b fs fz v w h1 h2 h3 h4 = go (to-grid z p n fz v (omega arit
         W2 : 0 < 2 * W
         W2 = omega (arith, W-pos)
 
-        fin : ((d < G) × (carryDay (kahanOf s z) z ≡ record { carry = 0; fraction = z })) ⊎ ((G ≤ d) × Ended d (carryDay (kahanOf s z) z))
-            → Settled (carryDay (kahanOf s z) z) z p n
+        fin : ((d < G) × (carry_day (kahan_of s z) z ≡ record { carry = 0; fraction = z })) ⊎ ((G ≤ d) × Ended d (carry_day (kahan_of s z) z))
+            → Settled (carry_day (kahan_of s z) z) z p n
         fin (inl (l, q)) = subst (λ (r : Carried). Settled r z p n) (sym q)
             (kept z p n v (omega arith) (let m : d * (2 * W) < G * (2 * W) = mul-lt-mul_of_pos_right l W2 in omega (arith, L-W)))
         fin (inr (l, q)) = record {
@@ -179,10 +179,10 @@ high-case s z p n a b fs fz v w h1 h2 h3 h4 = go (to-grid z p n fz v (omega arit
 
 -- ---- a fraction z that is 0 or more, and near the sum s that it was made of
 pub settled : (s z : Float) (p n a b : ℕ) → T (fits binary64 s) → T (fits binary64 z) → Val z p n L → Val s a b L → n ≤ p
-    → p < n + L + 2048 * W → p + b ≤ n + a + 2048 * W → n + a ≤ p + b + 2048 * W → Settled (carryDay (kahanOf s z) z) z p n
+    → p < n + L + 2048 * W → p + b ≤ n + a + 2048 * W → n + a ≤ p + b + 2048 * W → Settled (carry_day (kahan_of s z) z) z p n
 settled s z p n a b fs fz v w h1 h2 h3 h4 =
     go (leb (n + 13510798882111488 * W) p) (leb→le (n + 13510798882111488 * W) p) (nleb→lt (n + 13510798882111488 * W) p)
   where
-    go : (u : Bool) → (T u → n + 13510798882111488 * W ≤ p) → (T (not u) → p < n + 13510798882111488 * W) → Settled (carryDay (kahanOf s z) z) z p n
+    go : (u : Bool) → (T u → n + 13510798882111488 * W ≤ p) → (T (not u) → p < n + 13510798882111488 * W) → Settled (carry_day (kahan_of s z) z) z p n
     go true f g = high-case s z p n a b fs fz v w (f tt) h2 h3 h4
-    go false f g = low-case (kahanOf s z) z p n v h1 (g tt)
+    go false f g = low-case (kahan_of s z) z p n v h1 (g tt)

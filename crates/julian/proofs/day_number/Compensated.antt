@@ -10,15 +10,15 @@ use lib.Ieee.Fits.{add-fits}
 use Rattle.floats.specs.Whole.{nought, one}
 use Rattle.rounding.specs.Value.{Val, L}
 use Rattle.rounding.proofs.Value.{L-pos, val-unique, add_rounds}
-use Rattle.rounding.proofs.Signed.{dist-le}
-use Rattle.rounding.proofs.Compare.{lt-true, le-true}
-use Rattle.rounding.proofs.Near.{add-near}
-use Rattle.rounding.proofs.Chain.{ValClose, exactly, close-move, close-neg}
+use Rattle.rounding.proofs.Signed.{dist_le}
+use Rattle.rounding.proofs.Compare.{lt_true, le_true}
+use Rattle.rounding.proofs.Near.{add_near}
+use Rattle.rounding.proofs.Chain.{ValClose, exactly, close_move, close_neg}
 use Rattle.rounding.proofs.TwoSumFloat.{Exact}
-use Rattle.rounding.proofs.Compensated.{compensated-either}
+use Rattle.rounding.proofs.Compensated.{compensated_either}
 use Rattle.julian.specs.declared.day_number.Kahan.{Kahan}
 use Rattle.julian.specs.declared.day_number.Summed.{Summed}
-use Rattle.julian.specs.day_number.DayNumber.{compensation, addFraction, borrowSum, borrowFraction}
+use Rattle.julian.specs.day_number.DayNumber.{compensation, add_fraction, borrow_sum, borrow_fraction}
 use Rattle.julian.proofs.day_number.Units.{W, L-W, W-pos, Z, Z-W, one-L, nought-L}
 use Rattle.julian.proofs.day_number.CarryDay.{minus_one}
 
@@ -28,7 +28,7 @@ Law K w = (x y : Float) (p n q m : ℕ) → p + q < n + m + K → n + m < p + q 
 
 near : (j K w : ℕ) → j ≤ 2044 → 2 ^ (53 + j) ≡ K → 2 ^ j ≡ 2 * w → Law K w
 near j K w b e d x y p n q m u l v z =
-    let k = add-near j b (subst (λ (i : ℕ). p + q < n + m + i) (sym e) u) (subst (λ (i : ℕ). n + m < p + q + i) (sym e) l) v z in
+    let k = add_near j b (subst (λ (i : ℕ). p + q < n + m + i) (sym e) u) (subst (λ (i : ℕ). n + m < p + q + i) (sym e) l) v z in
     record {
       p = k.p;
       n = k.n;
@@ -78,7 +78,7 @@ module _ (κ : Kahan) (f : Float) (fs : T (fits binary64 κ.sum)) (ff : T (fits 
   -- what is lost is found exactly
   lost : Exact temp (compensation κ.sum f temp) (p + Q) (n + M)
   unfolding compensation
-  lost = compensated-either fs ff vs vf (dist-le p n (2 * L) s1 s2) (dist-le Q M (2 * L) f1 f2) far (add_rounds binary64 L-pos vs vf)
+  lost = compensated_either fs ff vs vf (dist_le p n (2 * L) s1 s2) (dist_le Q M (2 * L) f1 f2) far (add_rounds binary64 L-pos vs vf)
 
   -- and it is small, as is the correction
   fixed : (x y u v : ℕ) → Val temp x y L → Val (compensation κ.sum f temp) u v L → x + u + (n + M) ≡ y + v + (p + Q) → (x < y + 2 * L)
@@ -98,7 +98,7 @@ module _ (κ : Kahan) (f : Float) (fs : T (fits binary64 κ.sum)) (ff : T (fits 
       (record { carry = c; kahan = record { sum = temp; correction = add binary64 κ.correction (compensation κ.sum f temp) } })
       → (up : ℕ) × (r.carry ≡ c + up) × Tot r up (p + a + Q) (n + b + M) Z
   settle true c x y u v test w h e k r q =
-      let o : L + y ≤ x + 0 = le-true L-pos one-L w test in (
+      let o : L + y ≤ x + 0 = le_true L-pos one-L w test in (
         1,
         ap (λ (z : Summed). z.carry) q,
         subst (λ (z : Summed). Tot z 1 (p + a + Q) (n + b + M) Z) (sym q) (record {
@@ -130,16 +130,16 @@ module _ (κ : Kahan) (f : Float) (fs : T (fits binary64 κ.sum)) (ff : T (fits 
       plain : (c : ℕ) → c ≡ c + 0
       plain c = omega arith
 
-  pub tight : (c : ℕ) → (up : ℕ) × ((addFraction c κ f).carry ≡ c + up) × Tot (addFraction c κ f) up (p + a + Q) (n + b + M) Z
-  unfolding addFraction
+  pub tight : (c : ℕ) → (up : ℕ) × ((add_fraction c κ f).carry ≡ c + up) × Tot (add_fraction c κ f) up (p + a + Q) (n + b + M) Z
+  unfolding add_fraction
   tight c =
       let k = fixed lost.sp lost.sn lost.ep lost.en lost.sum lost.err lost.total in
-      settle (le one temp) c lost.sp lost.sn lost.ep lost.en refl lost.sum k.0 lost.total k.1 (addFraction c κ f) refl
+      settle (le one temp) c lost.sp lost.sn lost.ep lost.en refl lost.sum k.0 lost.total k.1 (add_fraction c κ f) refl
 
 -- ---- into [0, 1)
-add-with : (K w : ℕ) → Law K w → {x y : Float} {P N Q M e e' : ℕ} → ValClose L x P N e → ValClose L y Q M e' → P + Q + (e + e') < N + M + K
+add_with : (K w : ℕ) → Law K w → {x y : Float} {P N Q M e e' : ℕ} → ValClose L x P N e → ValClose L y Q M e' → P + Q + (e + e') < N + M + K
     → N + M + (e + e') < P + Q + K → ValClose L (add binary64 x y) (P + Q) (N + M) (e + e' + w)
-add-with K w law {x} {y} {P} {N} {Q} {M} {e} {e'} a b u l =
+add_with K w law {x} {y} {P} {N} {Q} {M} {e} {e'} a b u l =
     let k = law x y a.p a.n b.p b.n (room a.p a.n b.p b.n P N Q M a.over b.over u)
     (room a.n a.p b.n b.p N P M Q a.under b.under l) a.val b.val in
     record {
@@ -157,24 +157,24 @@ add-with K w law {x} {y} {P} {N} {Q} {M} {e} {e'} a b u l =
     grow : (s t p n q m P N Q M : ℕ) → s + (n + m) ≤ t + (p + q) + w → p + N ≤ n + P + e → q + M ≤ m + Q + e' → s + (N + M) ≤ t + (P + Q) + (e + e' + w)
     grow s t p n q m P N Q M x y z = omega arith
 
-sub-with : (K w : ℕ) → Law K w → {x y : Float} {P N Q M e e' : ℕ} → ValClose L x P N e → ValClose L y Q M e' → P + M + (e + e') < N + Q + K
+sub_with : (K w : ℕ) → Law K w → {x y : Float} {P N Q M e e' : ℕ} → ValClose L x P N e → ValClose L y Q M e' → P + M + (e + e') < N + Q + K
     → N + Q + (e + e') < P + M + K → ValClose L (sub binary64 x y) (P + M) (N + Q) (e + e' + w)
 unfolding sub
-sub-with K w law a b u l = add-with K w law a (close-neg b) u l
+sub_with K w law a b u l = add_with K w law a (close_neg b) u l
 
 -- one day borrowed, with s + 1 rounded to x - y
-borrow-of : (s z : Float) (p n a b x y : ℕ) → Val s p n L → ValClose L z (p + a) (n + b) W → Val (borrowSum s) x y L → a ≤ b + 64 * W → b ≤ a + 64 * W
+borrow_of : (s z : Float) (p n a b x y : ℕ) → Val s p n L → ValClose L z (p + a) (n + b) W → Val (borrow_sum s) x y L → a ≤ b + 64 * W → b ≤ a + 64 * W
     → x + n ≤ y + (p + L) + 2 * W → y + (p + L) ≤ x + n + 2 * W
-    → p < n + 100 * W → n + 100 * W < p + L → ValClose L (borrowFraction s (sub binary64 z s)) (p + a + L) (n + b) (4 * W + 3 * Z)
-borrow-of s z p n a b x y vs cz v3 k1 k2 x1 x2 s1 s2 =
+    → p < n + 100 * W → n + 100 * W < p + L → ValClose L (borrow_fraction s (sub binary64 z s)) (p + a + L) (n + b) (4 * W + 3 * Z)
+borrow_of s z p n a b x y vs cz v3 k1 k2 x1 x2 s1 s2 =
     let r : ValClose L (sub binary64 z s) a b (W + Z) =
-    close-move (sub-with (32768 * W) Z law0 cz (exactly vs) (omega (arith, W-pos)) (omega (arith, W-pos))) (omega arith) (omega arith) in
-    let i : ValClose L (sub binary64 one (borrowSum s)) (L + y) (0 + x) W =
-    close-move (sub-with L W law1 (exactly one-L) (exactly v3) (omega (arith, W-pos, L-W)) (omega (arith, W-pos, L-W))) refl (omega arith) in
-    let c : ValClose L (add binary64 (sub binary64 one (borrowSum s)) s) (L + y + p) (x + n) (W + Z) =
-    close-move (add-with (32768 * W) Z law0 i (exactly vs) (omega (arith, W-pos)) (omega (arith, W-pos))) (omega arith) (omega arith) in
-    let k = add-with (32768 * W) Z law0 r c (omega (arith, W-pos, Z-W)) (omega (arith, W-pos, Z-W)) in
-    close-move (add-with (2 * L) (2 * W) law2 (exactly v3) k (omega (arith, W-pos, Z-W, L-W)) (omega (arith, W-pos, Z-W, L-W))) (omega arith) (omega arith)
+    close_move (sub_with (32768 * W) Z law0 cz (exactly vs) (omega (arith, W-pos)) (omega (arith, W-pos))) (omega arith) (omega arith) in
+    let i : ValClose L (sub binary64 one (borrow_sum s)) (L + y) (0 + x) W =
+    close_move (sub_with L W law1 (exactly one-L) (exactly v3) (omega (arith, W-pos, L-W)) (omega (arith, W-pos, L-W))) refl (omega arith) in
+    let c : ValClose L (add binary64 (sub binary64 one (borrow_sum s)) s) (L + y + p) (x + n) (W + Z) =
+    close_move (add_with (32768 * W) Z law0 i (exactly vs) (omega (arith, W-pos)) (omega (arith, W-pos))) (omega arith) (omega arith) in
+    let k = add_with (32768 * W) Z law0 r c (omega (arith, W-pos, Z-W)) (omega (arith, W-pos, Z-W)) in
+    close_move (add_with (2 * L) (2 * W) law2 (exactly v3) k (omega (arith, W-pos, Z-W, L-W)) (omega (arith, W-pos, Z-W, L-W))) (omega arith) (omega arith)
 
 module _ (s k : Float) (p n a b : ℕ) (vs : Val s p n L) (vk : Val k a b L) (k1 : a ≤ b + 64 * W) (k2 : b ≤ a + 64 * W) (s1 : p < n + L + 64 * W)
     (s2 : n + 100 * W < p + L) where
@@ -182,18 +182,18 @@ module _ (s k : Float) (p n a b : ℕ) (vs : Val s p n L) (vk : Val k a b L) (k1
   kept_near = law2 s k p n a b (omega (arith, L-W, W-pos)) (omega (arith, L-W, W-pos)) vs vk
 
   small : lt (add binary64 s k) nought ≡ true → p + a < n + b + 2 * W
-  small test = go kept_near.p kept_near.n kept_near.under (lt-true L-pos kept_near.val nought-L test)
+  small test = go kept_near.p kept_near.n kept_near.under (lt_true L-pos kept_near.val nought-L test)
     where
       go : (x y : ℕ) → y + (p + a) ≤ x + (n + b) + 2 * W → x + 0 < 0 + y → p + a < n + b + 2 * W
       go x y u o = omega arith
 
-  pub borrowed-near : lt (add binary64 s k) nought ≡ true
-      → ValClose L (borrowFraction s (sub binary64 (add binary64 s k) s)) (p + a + L) (n + b) (4 * W + 3 * Z)
-  borrowed-near test =
+  pub borrowed_near : lt (add binary64 s k) nought ≡ true
+      → ValClose L (borrow_fraction s (sub binary64 (add binary64 s k) s)) (p + a + L) (n + b) (4 * W + 3 * Z)
+  borrowed_near test =
       let low : p + a < n + b + 2 * W = small test in
       let z = law1 s k p n a b (omega (arith, L-W, W-pos)) (omega (arith, L-W, W-pos)) vs vk in
       let s3 = law2 s one p n L 0 (omega (arith, L-W, W-pos)) (omega (arith, L-W, W-pos)) vs one-L
-      in borrow-of s (add binary64 s k) p n a b s3.p s3.n vs z s3.val k1 k2 (plain s3.p s3.n s3.over) (plain' s3.p s3.n s3.under)
+      in borrow_of s (add binary64 s k) p n a b s3.p s3.n vs z s3.val k1 k2 (plain s3.p s3.n s3.over) (plain' s3.p s3.n s3.under)
       (omega (arith, W-pos)) s2
     where
       plain : (x y : ℕ) → x + (n + 0) ≤ y + (p + L) + 2 * W → x + n ≤ y + (p + L) + 2 * W

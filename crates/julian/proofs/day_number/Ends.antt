@@ -9,8 +9,8 @@ use lib.IntN.{pos, negsuc}
 use lib.Ieee.{Float, fin, binary64, fits, round}
 use Rattle.refusals.specs.Outcome.{answer}
 use Rattle.floats.specs.Whole.{nought, half}
-use Rattle.julian.specs.day_number.Answer.{dayNumberAndFraction}
-use Rattle.julian.specs.day_number.ExactDay.{OnGrid, OnWideGrid, gridSum, GridSumInRange, wholeDays, unitsLeft, fractionOf}
+use Rattle.julian.specs.day_number.Answer.{day_number_and_fraction}
+use Rattle.julian.specs.day_number.ExactDay.{OnGrid, OnWideGrid, grid_sum, GridSumInRange, whole_days, units_left, fraction_of}
 use Rattle.julian.proofs.day_number.ExactDay.{exact, exact-to-2-62}
 
 -- ---- the floats
@@ -30,21 +30,21 @@ largest = fin false 9007199254740991 (negsuc 0)
 abbrev pub opposite : Float
 opposite = fin true 4503599627370495 (pos 0)
 
-pub lowest-fits : T (fits binary64 lowest)
+pub lowest_fits : T (fits binary64 lowest)
 unfolding fits
-lowest-fits = tt
+lowest_fits = tt
 
-pub highest-fits : T (fits binary64 highest)
+pub highest_fits : T (fits binary64 highest)
 unfolding fits
-highest-fits = tt
+highest_fits = tt
 
-pub largest-fits : T (fits binary64 largest)
+pub largest_fits : T (fits binary64 largest)
 unfolding fits
-largest-fits = tt
+largest_fits = tt
 
-pub opposite-fits : T (fits binary64 opposite)
+pub opposite_fits : T (fits binary64 opposite)
 unfolding fits
-opposite-fits = tt
+opposite_fits = tt
 
 pub nought-fits : T (fits binary64 nought)
 unfolding fits
@@ -52,8 +52,8 @@ nought-fits = tt
 
 -- ---- each is on the grid
 
-unfoldable pub lowest-grid : OnGrid lowest
-lowest-grid = record {
+unfoldable pub lowest_grid : OnGrid lowest
+lowest_grid = record {
   units = negsuc (137139 * 2 ^ 51 - 1);
   val = record { sign = true; size = 137139 * 2 ^ 51; has = (refl, refl); is = refl };
   high =
@@ -61,8 +61,8 @@ lowest-grid = record {
   low = lit< tt;
 }
 
-unfoldable pub highest-grid : OnGrid highest
-highest-grid = record {
+unfoldable pub highest_grid : OnGrid highest
+highest_grid = record {
   units = pos (1000000000 * 2 ^ 52);
   val = record { sign = false; size = 1000000000 * 2 ^ 52; has = (refl, refl); is = refl };
   high =
@@ -70,8 +70,8 @@ highest-grid = record {
   low = lit< tt;
 }
 
-unfoldable pub largest-grid : OnGrid largest
-largest-grid = record {
+unfoldable pub largest_grid : OnGrid largest
+largest_grid = record {
   units = pos (9007199254740991 * 2 ^ 51);
   val =
       record { sign = false; size = 9007199254740991 * 2 ^ 51; has = (refl, refl); is = refl };
@@ -79,8 +79,8 @@ largest-grid = record {
   low = lit< tt;
 }
 
-unfoldable pub opposite-grid : OnGrid opposite
-opposite-grid = record {
+unfoldable pub opposite_grid : OnGrid opposite
+opposite_grid = record {
   units = negsuc (4503599627370495 * 2 ^ 52 - 1);
   val =
       record { sign = true; size = 4503599627370495 * 2 ^ 52; has = (refl, refl); is = refl };
@@ -93,31 +93,31 @@ nought-grid = record { units = pos 0; val = record { sign = false; size = 0; has
 
 -- ---- each sum is in the range: the first and the last of it, and 0.5
 
-pub lowest-range : GridSumInRange (gridSum lowest-grid nought-grid)
-unfolding lowest-grid nought-grid
-lowest-range = record { low = lit≤ tt; high = lit≤ tt }
+pub lowest_range : GridSumInRange (grid_sum lowest_grid nought-grid)
+unfolding lowest_grid nought-grid
+lowest_range = record { low = lit≤ tt; high = lit≤ tt }
 
-pub highest-range : GridSumInRange (gridSum highest-grid nought-grid)
-unfolding highest-grid nought-grid
-highest-range = record { low = lit≤ tt; high = lit≤ tt }
+pub highest_range : GridSumInRange (grid_sum highest_grid nought-grid)
+unfolding highest_grid nought-grid
+highest_range = record { low = lit≤ tt; high = lit≤ tt }
 
-pub largest-range : GridSumInRange (gridSum largest-grid opposite-grid)
-unfolding largest-grid opposite-grid
-largest-range = record { low = lit≤ tt; high = lit≤ tt }
+pub largest_range : GridSumInRange (grid_sum largest_grid opposite_grid)
+unfolding largest_grid opposite_grid
+largest_range = record { low = lit≤ tt; high = lit≤ tt }
 
 -- ---- DEMAND 3 there: the midnight that begins day -68569, the noon of day 10 ^ 9, and the midnight that begins day 1
 
-pub exact-at-lowest : dayNumberAndFraction lowest nought ≡ answer (record { day = negsuc 68568; fraction = nought })
-unfolding lowest-grid nought-grid wholeDays unitsLeft fractionOf round
-exact-at-lowest = exact lowest nought lowest-fits nought-fits lowest-grid nought-grid lowest-range
+pub exact-at-lowest : day_number_and_fraction lowest nought ≡ answer (record { day = negsuc 68568; fraction = nought })
+unfolding lowest_grid nought-grid whole_days units_left fraction_of round
+exact-at-lowest = exact lowest nought lowest_fits nought-fits lowest_grid nought-grid lowest_range
 
-pub exact-at-highest : dayNumberAndFraction highest nought ≡ answer (record { day = pos 1000000000; fraction = half })
-unfolding highest-grid nought-grid wholeDays unitsLeft fractionOf round
-exact-at-highest = exact highest nought highest-fits nought-fits highest-grid nought-grid highest-range
+pub exact-at-highest : day_number_and_fraction highest nought ≡ answer (record { day = pos 1000000000; fraction = half })
+unfolding highest_grid nought-grid whole_days units_left fraction_of round
+exact-at-highest = exact highest nought highest_fits nought-fits highest_grid nought-grid highest_range
 
-pub exact-at-largest : dayNumberAndFraction largest opposite ≡ answer (record { day = pos 1; fraction = nought })
-unfolding largest-grid opposite-grid wholeDays unitsLeft fractionOf round
-exact-at-largest = exact largest opposite largest-fits opposite-fits largest-grid opposite-grid largest-range
+pub exact-at-largest : day_number_and_fraction largest opposite ≡ answer (record { day = pos 1; fraction = nought })
+unfolding largest_grid opposite_grid whole_days units_left fraction_of round
+exact-at-largest = exact largest opposite largest_fits opposite_fits largest_grid opposite_grid largest_range
 
 -- ---- and at the end of the wide grid: (2 ^ 62, -2 ^ 62) is the noon of day 0
 
@@ -143,6 +143,6 @@ wide-end-below-grid = record {
   low = lit≤ tt;
 }
 
-pub exact-at-wide-end : dayNumberAndFraction wide-end wide-end-below ≡ answer (record { day = pos 0; fraction = half })
-unfolding wide-end-grid wide-end-below-grid wholeDays unitsLeft fractionOf round fits
+pub exact-at-wide-end : day_number_and_fraction wide-end wide-end-below ≡ answer (record { day = pos 0; fraction = half })
+unfolding wide-end-grid wide-end-below-grid whole_days units_left fraction_of round fits
 exact-at-wide-end = exact-to-2-62 wide-end wide-end-below tt tt wide-end-grid wide-end-below-grid (record { low = lit≤ tt; high = lit≤ tt })

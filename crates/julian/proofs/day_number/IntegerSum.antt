@@ -6,9 +6,9 @@ use native.Mathlib.Nat.{add-mul, le_of_eq, lt_of_le_of_lt, lt_of_lt_of_le, lt_of
 use native.Mathlib.Omega.{arith}
 use lib.IntN.{ℤ}
 use Rattle.rounding.proofs.Signed.{plus-of, minus-of}
-use Rattle.rounding.proofs.Casts.{plusZ, minusZ}
+use Rattle.rounding.proofs.Casts.{plus_z, minus_z}
 use Rattle.julian.specs.day_number.Sums.{Sums}
-use Rattle.julian.proofs.day_number.NearestInt.{sat-plus, sat-minus}
+use Rattle.julian.proofs.day_number.NearestInt.{sat_plus, sat_minus}
 
 -- I D ≤ K D + b, and b below (M + 1) D
 fewer : (I K M D b : ℕ) → I * D ≤ K * D + b → b < (M + 1) * D → I ≤ K + M
@@ -52,7 +52,7 @@ bounded D h e8 e p n q m i k j l up more down units two eight ep small below ove
     two' i j u w k l d o = omega arith
 
 -- the casts saturate, and the sum stays: of two signs, min (A, 2 ^ 63 - 1) - min (B, 2 ^ 63) is between A - B and -1
-pub sums : (a b : ℤ) (s t : Bool) (A B up more down : ℕ) → plusZ a ≡ sat-plus s A → minusZ a ≡ sat-minus s A → plusZ b ≡ sat-plus t B → minusZ b ≡ sat-minus t B
+pub sums : (a b : ℤ) (s t : Bool) (A B up more down : ℕ) → plus_z a ≡ sat_plus s A → minus_z a ≡ sat_minus s A → plus_z b ≡ sat_plus t B → minus_z b ≡ sat_minus t B
     → up ≤ 2 → more ≤ 1 → down ≤ 1 → Bounded (plus-of s A + plus-of t B + up + more) (minus-of s A + minus-of t B + down) → Sums a b up more down
 sums a b false false A B up more down e1 e2 e3 e4 h1 h2 h3 k =
     record {

@@ -14,23 +14,23 @@ use lib.Ieee.Order.{drop, kept}
 use lib.Ieee.Scale.{finite, overflow}
 use Rattle.rounding.specs.Value.{Val, Rounds, L}
 use Rattle.rounding.proofs.Value.{L-pos, add_rounds}
-use Rattle.rounding.proofs.Signed.{plus-of, minus-of, signed_of, dist, dist-zero}
-use Rattle.rounding.proofs.Own.{Rep, rep-flip}
+use Rattle.rounding.proofs.Signed.{plus-of, minus-of, signed_of, dist, dist_zero}
+use Rattle.rounding.proofs.Own.{Rep, rep_flip}
 use Rattle.rounding.proofs.Optimal.{step}
-use Rattle.rounding.proofs.Relative.{grid-step, step-has}
-use Rattle.rounding.proofs.Nearest.{RN, rn-le, rn-ge}
+use Rattle.rounding.proofs.Relative.{grid_step, step-has}
+use Rattle.rounding.proofs.Nearest.{RN, rn_le, rn_ge}
 use Rattle.rounding.proofs.TwoSumFloat.{At, rounds-at}
-use Rattle.rounding.proofs.Compare.{le-true, le-show}
-use Rattle.julian.specs.day_number.DayNumber.{c-djmin, c-djmax, inJulianRange, accepted}
-use Rattle.julian.proofs.day_number.Units.{E, E-L, E_pos, min-L, max-L}
+use Rattle.rounding.proofs.Compare.{le_true, le_show}
+use Rattle.julian.specs.day_number.DayNumber.{c_djmin, c_djmax, in_julian_range, accepted}
+use Rattle.julian.proofs.day_number.Units.{E, E-L, E_pos, min_L, max_L}
 
 -- ---- finite
-in-range : (z : Float) → T (le c-djmin z) → T (le z c-djmax) → T (finite z)
+in_range : (z : Float) → T (le c_djmin z) → T (le z c_djmax) → T (finite z)
 unfolding le lt eq of_bits
-in-range nan a b = absurd a
-in-range (inf true) a b = absurd a
-in-range (inf false) a b = absurd b
-in-range (fin s m e) a b = tt
+in_range nan a b = absurd a
+in_range (inf true) a b = absurd a
+in_range (inf false) a b = absurd b
+in_range (fin s m e) a b = tt
 
 sum-finite : (x y : Float) → T (finite (add binary64 x y)) → T (finite x) × T (finite y)
 unfolding add
@@ -56,7 +56,7 @@ units_under s q k = go (ltb (q * 2 ^ k) (overflow binary64)) (ltb→lt (q * 2 ^ 
     go false h t = absurd t
 
 pub round_under : (s : Bool) (a : ℕ) → T (finite (round binary64 s a L)) → step a < 2 ^ 2098
-round_under s a t = lt_of_le_of_lt (le_of_eq (sym (grid-step a)))
+round_under s a t = lt_of_le_of_lt (le_of_eq (sym (grid_step a)))
     (units_under s (kept 53 (a * 2 ^ 1074) L) (drop 53 (a * 2 ^ 1074) L) (subst (λ (z : Float). T (finite z)) (round_is binary64 s a L) t))
 
 -- ---- a finite sum, rounded
@@ -80,30 +80,30 @@ sum_of {z} {P} {N} t r =
     }
 
 -- the bounds, in eighths
-rep-eighths : (c : ℕ) → c < 2 ^ 53 → Rep (c * E)
+rep_eighths : (c : ℕ) → c < 2 ^ 53 → Rep (c * E)
 unfolding E
-rep-eighths c h = record { q = c; j = 1071; is = refl; small = h }
+rep_eighths c h = record { q = c; j = 1071; is = refl; small = h }
 
-eighths-up : (c : ℕ) → c < 2 ^ 53 → Rep (dist (c * E) 0)
-eighths-up c h = subst Rep (sym (dist-zero (c * E))) (rep-eighths c h)
+eighths_up : (c : ℕ) → c < 2 ^ 53 → Rep (dist (c * E) 0)
+eighths_up c h = subst Rep (sym (dist_zero (c * E))) (rep_eighths c h)
 
-eighths-down : (c : ℕ) → c < 2 ^ 53 → Rep (dist 0 (c * E))
-eighths-down c h = rep-flip (c * E) 0 (eighths-up c h)
+eighths_down : (c : ℕ) → c < 2 ^ 53 → Rep (dist 0 (c * E))
+eighths_down c h = rep_flip (c * E) 0 (eighths_up c h)
 
 -- the exact sum of the parts
 pub record SumInRange (P N : ℕ) : Type 0 where
   pub high : P < N + 8000000001 * E
   pub low : N < P + 548557 * E
 
-module _ (x y : Float) (p n q m : ℕ) (vx : Val x p n L) (vy : Val y q m L) (lo : T (le c-djmin (add binary64 x y)))
-    (hi : T (le (add binary64 x y) c-djmax)) where
+module _ (x y : Float) (p n q m : ℕ) (vx : Val x p n L) (vy : Val y q m L) (lo : T (le c_djmin (add binary64 x y)))
+    (hi : T (le (add binary64 x y) c_djmax)) where
   s : Sum (add binary64 x y) (p + q) (n + m)
-  s = sum_of (in-range (add binary64 x y) lo hi) (add_rounds binary64 L-pos vx vy)
+  s = sum_of (in_range (add binary64 x y) lo hi) (add_rounds binary64 L-pos vx vy)
 
   pub exact-sum : SumInRange (p + q) (n + m)
   exact-sum =
-      let u : s.p + 0 ≤ 8000000000 * E + s.n = le-true L-pos s.val max-L (is_true (le (add binary64 x y) c-djmax) hi) in
-      let l : 0 + s.n ≤ s.p + 548556 * E = le-true L-pos min-L s.val (is_true (le c-djmin (add binary64 x y)) lo) in
+      let u : s.p + 0 ≤ 8000000000 * E + s.n = le_true L-pos s.val max_L (is_true (le (add binary64 x y) c_djmax) hi) in
+      let l : 0 + s.n ≤ s.p + 548556 * E = le_true L-pos min_L s.val (is_true (le c_djmin (add binary64 x y)) lo) in
       record {
         high = top (leb (8000000001 * E + (n + m)) (p + q)) (leb→le (8000000001 * E + (n + m)) (p + q)) (nleb→lt (8000000001 * E + (n + m)) (p + q)) s.p
             s.n s.rn u;
@@ -113,7 +113,7 @@ module _ (x y : Float) (p n q m : ℕ) (vx : Val x p n L) (vy : Val y q m L) (lo
       top : (b : Bool) → (T b → 8000000001 * E + (n + m) ≤ p + q) → (T (not b) → p + q < 8000000001 * E + (n + m)) → (a c : ℕ) → RN (p + q) (n + m) a c
           → a + 0 ≤ 8000000000 * E + c → p + q < n + m + 8000000001 * E
       top true f g a c r u =
-          let w : 8000000001 * E + c ≤ a + 0 = rn-ge (8000000001 * E) 0 (eighths-up 8000000001 (lit< tt)) r (plain (f tt)) in
+          let w : 8000000001 * E + c ≤ a + 0 = rn_ge (8000000001 * E) 0 (eighths_up 8000000001 (lit< tt)) r (plain (f tt)) in
           let z : ⊥ = omega (arith, E_pos) in absurd z
         where
           plain : 8000000001 * E + (n + m) ≤ p + q → 8000000001 * E + (n + m) ≤ p + q + 0
@@ -123,7 +123,7 @@ module _ (x y : Float) (p n q m : ℕ) (vx : Val x p n L) (vy : Val y q m L) (lo
       bottom : (b : Bool) → (T b → p + q + 548557 * E ≤ n + m) → (T (not b) → n + m < p + q + 548557 * E) → (a c : ℕ) → RN (p + q) (n + m) a c
           → 0 + c ≤ a + 548556 * E → n + m < p + q + 548557 * E
       bottom true f g a c r u =
-          let w : a + 548557 * E ≤ 0 + c = rn-le 0 (548557 * E) (eighths-down 548557 (lit< tt)) r (plain (f tt)) in
+          let w : a + 548557 * E ≤ 0 + c = rn_le 0 (548557 * E) (eighths_down 548557 (lit< tt)) r (plain (f tt)) in
           let z : ⊥ = omega (arith, E_pos) in absurd z
         where
           plain : p + q + 548557 * E ≤ n + m → p + q + 548557 * E ≤ 0 + (n + m)
@@ -131,16 +131,16 @@ module _ (x y : Float) (p n q m : ℕ) (vx : Val x p n L) (vy : Val y q m L) (lo
       bottom false f g a c r u = g tt
 
 -- ---- from the test
-pub accepted-lo : (x y : Float) → accepted x y ≡ true → T (le c-djmin (add binary64 x y))
-unfolding accepted inJulianRange
-accepted-lo x y e = and_l (le c-djmin (add binary64 x y)) (le (add binary64 x y) c-djmax) (subst T (sym e) tt)
+pub accepted-lo : (x y : Float) → accepted x y ≡ true → T (le c_djmin (add binary64 x y))
+unfolding accepted in_julian_range
+accepted-lo x y e = and_l (le c_djmin (add binary64 x y)) (le (add binary64 x y) c_djmax) (subst T (sym e) tt)
 
-pub accepted-hi : (x y : Float) → accepted x y ≡ true → T (le (add binary64 x y) c-djmax)
-unfolding accepted inJulianRange
-accepted-hi x y e = and_r (le c-djmin (add binary64 x y)) (le (add binary64 x y) c-djmax) (subst T (sym e) tt)
+pub accepted-hi : (x y : Float) → accepted x y ≡ true → T (le (add binary64 x y) c_djmax)
+unfolding accepted in_julian_range
+accepted-hi x y e = and_r (le c_djmin (add binary64 x y)) (le (add binary64 x y) c_djmax) (subst T (sym e) tt)
 
 pub accepted-finite : (x y : Float) → accepted x y ≡ true → T (finite x) × T (finite y)
-accepted-finite x y e = sum-finite x y (in-range (add binary64 x y) (accepted-lo x y e) (accepted-hi x y e))
+accepted-finite x y e = sum-finite x y (in_range (add binary64 x y) (accepted-lo x y e) (accepted-hi x y e))
 
 -- ---- and back: an exact sum from -68569.5 to 1e9, of parts that are not too large, is accepted
 pub far : 2 * (2 ^ 64 * L) < 2 ^ 2098
@@ -152,9 +152,9 @@ module _ (x y : Float) (p n q m : ℕ) (vx : Val x p n L) (vy : Val y q m L) (h1
   rounded = rounds-at far (omega (arith, E-L)) (omega (arith, E-L)) (add_rounds binary64 L-pos vx vy)
 
   pub accepts : accepted x y ≡ true
-  unfolding accepted inJulianRange
+  unfolding accepted in_julian_range
   accepts =
-      let u : rounded.p + 0 ≤ 8000000000 * E + rounded.n = rn-le (8000000000 * E) 0 (eighths-up 8000000000 (lit< tt)) rounded.rn (omega arith) in
-      let l : 0 + rounded.n ≤ rounded.p + 548556 * E = rn-ge 0 (548556 * E) (eighths-down 548556 (lit< tt)) rounded.rn (omega arith) in
-      ap (λ (b : Bool). b && le (add binary64 x y) c-djmax) (is_true (le c-djmin (add binary64 x y)) (le-show L-pos min-L rounded.val l))
-      ∙ is_true (le (add binary64 x y) c-djmax) (le-show L-pos rounded.val max-L u)
+      let u : rounded.p + 0 ≤ 8000000000 * E + rounded.n = rn_le (8000000000 * E) 0 (eighths_up 8000000000 (lit< tt)) rounded.rn (omega arith) in
+      let l : 0 + rounded.n ≤ rounded.p + 548556 * E = rn_ge 0 (548556 * E) (eighths_down 548556 (lit< tt)) rounded.rn (omega arith) in
+      ap (λ (b : Bool). b && le (add binary64 x y) c_djmax) (is_true (le c_djmin (add binary64 x y)) (le_show L-pos min_L rounded.val l))
+      ∙ is_true (le (add binary64 x y) c_djmax) (le_show L-pos rounded.val max_L u)

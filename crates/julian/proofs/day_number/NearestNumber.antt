@@ -11,8 +11,8 @@ use Rattle.rounding.specs.Value.{L}
 use Rattle.rounding.proofs.Value.{L-pos}
 use Rattle.rounding.proofs.Grid.{drop_le}
 use Rattle.rounding.proofs.Own.{Rep, rep_zero}
-use Rattle.rounding.proofs.Optimal.{step, digitsDropped, step-near, step-fix, step-le, step-optimal, multiple}
-use Rattle.rounding.proofs.Sterbenz.{rep-diff}
+use Rattle.rounding.proofs.Optimal.{step, digits_dropped, step-near, step-fix, step-le, step-optimal, multiple}
+use Rattle.rounding.proofs.Sterbenz.{rep_diff}
 use Rattle.julian.proofs.day_number.Units.{H, H-L, W, L-W, H-W}
 
 -- X units, and A whole ones
@@ -39,9 +39,9 @@ small-numbers X r h =
     none : (x : ℕ) → 0 - x ≡ 0
     none x = omega arith
 
-rep-whole : (n : ℕ) → n < 2 ^ 53 → Rep (n * L)
+rep_whole : (n : ℕ) → n < 2 ^ 53 → Rep (n * L)
 unfolding L
-rep-whole n h = record { q = n; j = 1074; is = refl; small = h }
+rep_whole n h = record { q = n; j = 1074; is = refl; small = h }
 
 whole_of : (X : ℕ) → Rep X → 2 ^ 52 * L ≤ X → (d : ℕ) × (X ≡ d * L)
 unfolding L
@@ -116,7 +116,7 @@ module _ (X : ℕ) (r : Rep X) (h : H ≤ X) where
   reached n k = (le-div_iff_mul-le L-pos).1 k
 
   some : 1 ≤ (found X)
-  some = reached 1 (le_trans (le_of_eq (sym (step-fix (1 * L) (rep-whole 1 (lit< tt))))) (step-le (1 * L) (X + H) (omega (arith, one-mul L, H-L))))
+  some = reached 1 (le_trans (le_of_eq (sym (step-fix (1 * L) (rep_whole 1 (lit< tt))))) (step-le (1 * L) (X + H) (omega (arith, one-mul L, H-L))))
 
   near-low : X ≤ (found X) * L + H
   near-low = go (leb (2 ^ 53 * L) (X + H)) (leb→le (2 ^ 53 * L) (X + H)) (nleb→lt (2 ^ 53 * L) (X + H))
@@ -131,13 +131,13 @@ module _ (X : ℕ) (r : Rep X) (h : H ≤ X) where
           let a : n * L ≤ X + H = div-mul-le_self (X + H) L in
           let b : n < 2 ^ 53 = (div-lt_iff_lt-mul L-pos).1 (g tt) in
           let c : n * L ≤ (found X) * L =
-          mul-le-mul_right L (reached n (le_trans (le_of_eq (sym (step-fix (n * L) (rep-whole n b)))) (step-le (n * L) (X + H) a))) in
+          mul-le-mul_right L (reached n (le_trans (le_of_eq (sym (step-fix (n * L) (rep_whole n b)))) (step-le (n * L) (X + H) a))) in
           omega (arith, div-add-mod' (X + H) L, mod-lt (X + H) L-pos, H-L)
 
   near-high : X < 2 ^ 50 * L → 8 * ((found X) * L) ≤ 8 * X + 5 * L
   near-high k =
-      let c : digitsDropped (X + H) ≤ 1072 = drop_le 53 (X + H) 1 1072 (lit< tt) (subst (λ (z : ℕ). X + H < z * 1) (sym two-51) (omega (arith, L-W, H-W))) in
-      let d : 2 ^ digitsDropped (X + H) ≤ 4503599627370496 * W = le_trans (pow_mono c) (le_of_eq a-quarter) in
+      let c : digits_dropped (X + H) ≤ 1072 = drop_le 53 (X + H) 1 1072 (lit< tt) (subst (λ (z : ℕ). X + H < z * 1) (sym two-51) (omega (arith, L-W, H-W))) in
+      let d : 2 ^ digits_dropped (X + H) ≤ 4503599627370496 * W = le_trans (pow_mono c) (le_of_eq a-quarter) in
       omega (arith, (step-near (X + H)).0, down_to, L-W, H-W)
 
   few : X < 2 ^ 50 * L → (found X) < 2 ^ 53
@@ -148,8 +148,8 @@ module _ (X : ℕ) (r : Rep X) (h : H ≤ X) where
     high = omega (arith, down_to, bounds.1, H-L);
     low = near-low;
     tight = near-high;
-    less = λ k. rep-diff X ((found X) * L) r (rep-whole (found X) (few k)) (omega (arith, near-low, two_up (found X) some, H-L));
-    more = λ k. rep-diff ((found X) * L) X (rep-whole (found X) (few k)) r (twice (found X) X some h (near-high k));
+    less = λ k. rep_diff X ((found X) * L) r (rep_whole (found X) (few k)) (omega (arith, near-low, two_up (found X) some, H-L));
+    more = λ k. rep_diff ((found X) * L) X (rep_whole (found X) (few k)) r (twice (found X) X some h (near-high k));
   }
 
   -- the largest f64 has room

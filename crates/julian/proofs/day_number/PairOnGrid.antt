@@ -11,8 +11,8 @@ use lib.Ieee.Exact.{HasValue}
 use Rattle.rounding.specs.Value.{L}
 use Rattle.rounding.proofs.Value.{val-scale, has-scale}
 use Rattle.rounding.proofs.Signed.{plus-of, minus-of}
-use Rattle.floats.specs.Whole.{nearestInt}
-use Rattle.julian.specs.day_number.DayNumber.{rest, sumFractions, joinedFractions}
+use Rattle.floats.specs.Whole.{nearest_int}
+use Rattle.julian.specs.day_number.DayNumber.{rest, sum_fractions, joined_fractions}
 use Rattle.julian.proofs.day_number.Units.{S, C, H, W, E}
 use Rattle.julian.proofs.day_number.Split.{Split}
 use Rattle.julian.proofs.day_number.SplitOnGrid.{split-grid}
@@ -70,8 +70,8 @@ sizes true false P Q A B a b r =
     }
 
 -- the same in the smaller units
-times-C : (a b : ℕ) → a ≤ b + 0 → a * C ≤ b * C
-times-C a b h = mul-le-mul_right C (plain a b h)
+times_C : (a b : ℕ) → a ≤ b + 0 → a * C ≤ b * C
+times_C a b h = mul-le-mul_right C (plain a b h)
   where
     plain : (a b : ℕ) → a ≤ b + 0 → a ≤ b
     plain a b h = omega arith
@@ -86,13 +86,13 @@ left-C u n i m j up more = simp (add-mul, mul_assoc)
 right-C : (p k q l down : ℕ) → (2 ^ 51 + (p + k * S) + (q + l * S) + down * S) * C ≡ 2 ^ 51 * C + (p * C + k * (S * C)) + (q * C + l * (S * C)) + down * (S * C)
 right-C p k q l down = simp (add-mul, mul_assoc)
 
-sideP : (s : Bool) (P : ℕ) → plus-of s P * C ≡ plus-of s (P * C)
-sideP false P = refl
-sideP true P = refl
+side_p : (s : Bool) (P : ℕ) → plus-of s P * C ≡ plus-of s (P * C)
+side_p false P = refl
+side_p true P = refl
 
-sideM : (s : Bool) (P : ℕ) → minus-of s P * C ≡ minus-of s (P * C)
-sideM false P = refl
-sideM true P = refl
+side_m : (s : Bool) (P : ℕ) → minus-of s P * C ≡ minus-of s (P * C)
+side_m false P = refl
+side_m true P = refl
 
 scaled : (s t : Bool) (P Q A B up more down u e : ℕ)
     → u + (minus-of s P + plus-of s A * S + (minus-of t Q + plus-of t B * S) + up * S) + more * S ≤ 2 ^ 51 + (plus-of s P + minus-of s A * S) +
@@ -106,37 +106,37 @@ scaled : (s t : Bool) (P Q A B up more down u e : ℕ)
 unfolding L H
 scaled s t P Q A B up more down u e h k =
     let x = left-C u (minus-of s P) (plus-of s A) (minus-of t Q) (plus-of t B) up more
-    ∙ ap (λ (z : ℕ). u * C + (z + plus-of s A * L + (minus-of t Q * C + plus-of t B * L) + up * L) + more * L) (sideM s P)
-    ∙ ap (λ (z : ℕ). u * C + (minus-of s (P * C) + plus-of s A * L + (z + plus-of t B * L) + up * L) + more * L) (sideM t Q) in
+    ∙ ap (λ (z : ℕ). u * C + (z + plus-of s A * L + (minus-of t Q * C + plus-of t B * L) + up * L) + more * L) (side_m s P)
+    ∙ ap (λ (z : ℕ). u * C + (minus-of s (P * C) + plus-of s A * L + (z + plus-of t B * L) + up * L) + more * L) (side_m t Q) in
     let y = right-C (plus-of s P) (minus-of s A) (plus-of t Q) (minus-of t B) down
-    ∙ ap (λ (z : ℕ). H + (z + minus-of s A * L) + (plus-of t Q * C + minus-of t B * L) + down * L) (sideP s P)
-    ∙ ap (λ (z : ℕ). H + (plus-of s (P * C) + minus-of s A * L) + (z + minus-of t B * L) + down * L) (sideP t Q) in (
-      slack _ _ e (le_trans (le_of_eq (sym x)) (le_trans (times-C _ _ h) (le_of_eq y))),
-      slack _ _ e (le_trans (le_of_eq (sym y)) (le_trans (times-C _ _ k) (le_of_eq x))),
+    ∙ ap (λ (z : ℕ). H + (z + minus-of s A * L) + (plus-of t Q * C + minus-of t B * L) + down * L) (side_p s P)
+    ∙ ap (λ (z : ℕ). H + (plus-of s (P * C) + minus-of s A * L) + (z + minus-of t B * L) + down * L) (side_p t Q) in (
+      slack _ _ e (le_trans (le_of_eq (sym x)) (le_trans (times_C _ _ h) (le_of_eq y))),
+      slack _ _ e (le_trans (le_of_eq (sym y)) (le_trans (times_C _ _ k) (le_of_eq x))),
     )
 
-module _ (x y : Float) (s t : Bool) (X Y P Q A B : ℕ) (vx : HasValue x s P S) (vy : HasValue y t Q S) (wx : Whole (nearestInt x) s X A)
-    (wy : Whole (nearestInt y) t Y B)
+module _ (x y : Float) (s t : Bool) (X Y P Q A B : ℕ) (vx : HasValue x s P S) (vy : HasValue y t Q S) (wx : Whole (nearest_int x) s X A)
+    (wy : Whole (nearest_int y) t Y B)
     (ex : X ≡ P * C) (ey : Y ≡ Q * C) (a : GridNumbers P A) (b : GridNumbers Q B)
     (r : GridRange (plus-of s P + plus-of t Q) (minus-of s P + minus-of t Q)) where
-  pub grid-split : Split S 0 (sumFractions (rest x) (rest y)) (joinedFractions (rest x) (rest y))
+  pub grid_split : Split S 0 (sum_fractions (rest x) (rest y)) (joined_fractions (rest x) (rest y))
       (2 ^ 51 + (plus-of s P + minus-of s A * S) + (plus-of t Q + minus-of t B * S)) (minus-of s P + plus-of s A * S + (minus-of t Q + plus-of t B * S))
-  grid-split =
+  grid_split =
       let z = sizes s t P Q A B a b r in
       split-grid (rest x) (rest y) (plus-of s P + minus-of s A * S) (minus-of s P + plus-of s A * S) (plus-of t Q + minus-of t B * S)
       (minus-of t Q + plus-of t B * S)
       (left-grid x s X P A vx wx a) (left-grid y t Y Q B vy wy b) z.f1 z.f2 z.g1 z.g2 z.fg
 
-  grid-bounded : Bounded (plus-of s A + plus-of t B + grid-split.up + grid-split.more) (minus-of s A + minus-of t B + grid-split.down)
-  grid-bounded =
-      let k = grid-split in
+  grid_bounded : Bounded (plus-of s A + plus-of t B + grid_split.up + grid_split.more) (minus-of s A + minus-of t B + grid_split.down)
+  grid_bounded =
+      let k = grid_split in
       bounded S (2 ^ 51) (2 ^ 49) 0 (plus-of s P) (minus-of s P) (plus-of t Q) (minus-of t Q) (plus-of s A) (minus-of s A) (plus-of t B) (minus-of t B)
       k.up k.more k.down k.units refl refl (lit< tt) (lit≤ tt) k.below k.over k.under r.high r.low
 
   pub grid : AcceptedSum x y
   unfolding L
   grid =
-      let k = grid-split in
+      let k = grid_split in
       record {
         up = k.up;
         few = k.few;
@@ -147,8 +147,8 @@ module _ (x y : Float) (s t : Bool) (X Y P Q A B : ℕ) (vx : HasValue x s P S) 
         down = k.down;
         least = k.least;
         borrow = k.borrow;
-        ints = sums (to_signed 63 (nearestInt x)) (to_signed 63 (nearestInt y)) s t A B k.up k.more k.down wx.plus wx.minus wy.plus
-            wy.minus k.few k.one k.least grid-bounded;
+        ints = sums (to_signed 63 (nearest_int x)) (to_signed 63 (nearest_int y)) s t A B k.up k.more k.down wx.plus wx.minus wy.plus
+            wy.minus k.few k.one k.least grid_bounded;
         units = k.units * C;
         val = val-scale C k.val;
         below = mul-lt-mul_of_pos_right k.below (pow_pos 1022);
@@ -161,8 +161,8 @@ module _ (x y : Float) (s t : Bool) (X Y P Q A B : ℕ) (vx : HasValue x s P S) 
           B = B;
           vx = has-scale x s P S C vx;
           vy = has-scale y t Q S C vy;
-          wx = subst (λ (z : ℕ). Whole (nearestInt x) s z A) ex wx;
-          wy = subst (λ (z : ℕ). Whole (nearestInt y) t z B) ey wy;
+          wx = subst (λ (z : ℕ). Whole (nearest_int x) s z A) ex wx;
+          wy = subst (λ (z : ℕ). Whole (nearest_int y) t z B) ey wy;
           over = (scaled s t P Q A B k.up k.more k.down k.units (8 * W) k.over k.under).0;
           under = (scaled s t P Q A B k.up k.more k.down k.units (8 * W) k.over k.under).1;
         };
@@ -176,23 +176,23 @@ wide P N r = record {
   low = lt_of_mul-lt-mul_right C (lt_of_lt_of_le r.low (le_of_eq (sym (add-mul P (548557 * 2 ^ 49) C))));
 }
 
-side-plus : (s t : Bool) (P Q : ℕ) → plus-of s (P * C) + plus-of t (Q * C) ≡ (plus-of s P + plus-of t Q) * C
-side-plus false false P Q = sym (add-mul P Q C)
-side-plus false true P Q = plain P
+side_plus : (s t : Bool) (P Q : ℕ) → plus-of s (P * C) + plus-of t (Q * C) ≡ (plus-of s P + plus-of t Q) * C
+side_plus false false P Q = sym (add-mul P Q C)
+side_plus false true P Q = plain P
   where
     plain : (P : ℕ) → P * C + 0 ≡ (P + 0) * C
     plain P = sym (add-mul P 0 C)
-side-plus true false P Q = sym (add-mul 0 Q C)
-side-plus true true P Q = refl
+side_plus true false P Q = sym (add-mul 0 Q C)
+side_plus true true P Q = refl
 
-side-minus : (s t : Bool) (P Q : ℕ) → minus-of s (P * C) + minus-of t (Q * C) ≡ (minus-of s P + minus-of t Q) * C
-side-minus false false P Q = refl
-side-minus false true P Q = sym (add-mul 0 Q C)
-side-minus true false P Q = sym (add-mul P 0 C)
-side-minus true true P Q = sym (add-mul P Q C)
+side_minus : (s t : Bool) (P Q : ℕ) → minus-of s (P * C) + minus-of t (Q * C) ≡ (minus-of s P + minus-of t Q) * C
+side_minus false false P Q = refl
+side_minus false true P Q = sym (add-mul 0 Q C)
+side_minus true false P Q = sym (add-mul P 0 C)
+side_minus true true P Q = sym (add-mul P Q C)
 
-pub grid-range : (s t : Bool) (P Q : ℕ) → SumInRange (plus-of s (P * C) + plus-of t (Q * C)) (minus-of s (P * C) + minus-of t (Q * C))
+pub grid_range : (s t : Bool) (P Q : ℕ) → SumInRange (plus-of s (P * C) + plus-of t (Q * C)) (minus-of s (P * C) + minus-of t (Q * C))
     → GridRange (plus-of s P + plus-of t Q) (minus-of s P + minus-of t Q)
-grid-range s t P Q r = wide (plus-of s P + plus-of t Q) (minus-of s P + minus-of t Q)
-    (subst (λ (z : ℕ). SumInRange z ((minus-of s P + minus-of t Q) * C)) (side-plus s t P Q)
-    (subst (λ (z : ℕ). SumInRange (plus-of s (P * C) + plus-of t (Q * C)) z) (side-minus s t P Q) r))
+grid_range s t P Q r = wide (plus-of s P + plus-of t Q) (minus-of s P + minus-of t Q)
+    (subst (λ (z : ℕ). SumInRange z ((minus-of s P + minus-of t Q) * C)) (side_plus s t P Q)
+    (subst (λ (z : ℕ). SumInRange (plus-of s (P * C) + plus-of t (Q * C)) z) (side_minus s t P Q) r))

@@ -4,13 +4,13 @@ use mathlib.Core.Bool.{Bool, true, false, cond}
 use Prim.Native.Nat.{ℕ, ◌+◌, ◌*◌, ◌≤◌, ◌<◌}
 use lib.Dec.{T}
 use lib.Ieee.{Float, binary64, add, le, fits}
-use lib.Ieee.Fits.{add-fits, sub-fits}
+use lib.Ieee.Fits.{add-fits, sub_fits}
 use Rattle.floats.specs.Whole.{one}
 use Rattle.rounding.specs.Value.{Val}
 use Rattle.julian.specs.declared.day_number.Kahan.{Kahan}
 use Rattle.julian.specs.declared.day_number.Summed.{Summed}
 use Rattle.julian.specs.declared.day_number.Normalized.{Normalized}
-use Rattle.julian.specs.day_number.DayNumber.{kahanStart, addFraction, sumFractions}
+use Rattle.julian.specs.day_number.DayNumber.{kahan_start, add_fraction, sum_fractions}
 
 -- A - B is `up` and `more` days carried, less `down` borrowed, and the fraction, to within e
 pub record Split (D e : ℕ) (k : Summed) (r : Normalized) (A B : ℕ) : Type 0 where
@@ -35,10 +35,10 @@ fit : (u : Bool) (a b : Summed) → T (fits binary64 a.kahan.sum) → T (fits bi
 fit true a b h k = h
 fit false a b h k = k
 
-pub sum_fits : (c : ℕ) (κ : Kahan) (f : Float) → T (fits binary64 (addFraction c κ f).kahan.sum)
-unfolding addFraction
-sum_fits c κ f = fit (le one (add binary64 κ.sum f)) _ _ (sub-fits binary64 (add binary64 κ.sum f) one) (add-fits binary64 κ.sum f)
+pub sum_fits : (c : ℕ) (κ : Kahan) (f : Float) → T (fits binary64 (add_fraction c κ f).kahan.sum)
+unfolding add_fraction
+sum_fits c κ f = fit (le one (add binary64 κ.sum f)) _ _ (sub_fits binary64 (add binary64 κ.sum f) one) (add-fits binary64 κ.sum f)
 
-pub both-fits : (f g : Float) → T (fits binary64 (sumFractions f g).kahan.sum)
-unfolding sumFractions
-both-fits f g = sum_fits (addFraction 0 kahanStart f).carry (addFraction 0 kahanStart f).kahan g
+pub both_fits : (f g : Float) → T (fits binary64 (sum_fractions f g).kahan.sum)
+unfolding sum_fractions
+both_fits f g = sum_fits (add_fraction 0 kahan_start f).carry (add_fraction 0 kahan_start f).kahan g

@@ -9,8 +9,8 @@ use Rattle.julian.specs.declared.day_number.Kahan.{Kahan}
 use Rattle.julian.specs.declared.day_number.Summed.{Summed}
 use Rattle.julian.specs.declared.day_number.Borrowed.{Borrowed}
 use Rattle.julian.specs.declared.day_number.Carried.{Carried}
-use Rattle.julian.specs.day_number.DayNumber.{c-minus-eps-4, c-minus-eps-2, c-djmin, c-djmax, inJulianRange, compensation, kahanStart}
-use Rattle.julian.specs.day_number.DayNumber.{addFraction, sumFractions, carryDay, besideBorrowed, kahanOf, borrowDay, normalizeFraction}
+use Rattle.julian.specs.day_number.DayNumber.{c_minus_eps_4, c_minus_eps_2, c_djmin, c_djmax, in_julian_range, compensation, kahan_start}
+use Rattle.julian.specs.day_number.DayNumber.{add_fraction, sum_fractions, carry_day, beside_borrowed, kahan_of, borrow_day, normalize_fraction}
 
 pub pick : {A : Type 0} (b : Bool) (x y : A) → b ≡ true → x ≡ cond b x y
 pick b x y e = sym (ap (λ (u : Bool). cond u x y) e)
@@ -19,13 +19,13 @@ pub skip : {A : Type 0} (b : Bool) (x y : A) → b ≡ false → y ≡ cond b x 
 skip b x y e = sym (ap (λ (u : Bool). cond u x y) e)
 
 -- ---- check_julian_range
-pub from-min : (dj : Float) → le c-djmin dj ≡ true → le dj c-djmax ≡ inJulianRange dj
-unfolding inJulianRange
-from-min dj e = sym (ap (λ (b : Bool). b && le dj c-djmax) e)
+pub from-min : (dj : Float) → le c_djmin dj ≡ true → le dj c_djmax ≡ in_julian_range dj
+unfolding in_julian_range
+from-min dj e = sym (ap (λ (b : Bool). b && le dj c_djmax) e)
 
-pub below-min : (dj : Float) → le c-djmin dj ≡ false → le c-djmin dj ≡ inJulianRange dj
-unfolding inJulianRange
-below-min dj e = e ∙ sym (ap (λ (b : Bool). b && le dj c-djmax) e)
+pub below-min : (dj : Float) → le c_djmin dj ≡ false → le c_djmin dj ≡ in_julian_range dj
+unfolding in_julian_range
+below-min dj e = e ∙ sym (ap (λ (b : Bool). b && le dj c_djmax) e)
 
 -- ---- compensation
 module _ (s f t : Float) (r : Bool) (er : r ≡ le (abs f) (abs s)) where
@@ -39,14 +39,14 @@ module _ (s f t : Float) (r : Bool) (er : r ≡ le (abs f) (abs s)) where
 
 -- ---- add_fraction
 module _ (c : ℕ) (κ : Kahan) (f l : Float) (el : l ≡ compensation κ.sum f (add binary64 κ.sum f)) where
-  pub added-day : le one (add binary64 κ.sum f) ≡ true
+  pub added_day : le one (add binary64 κ.sum f) ≡ true
       → ◌≡◌ {A = Summed} (record {
         carry = c + 1;
         kahan =
             record { sum = sub binary64 (add binary64 κ.sum f) one; correction = add binary64 κ.correction l };
-      }) (addFraction c κ f)
-  unfolding addFraction
-  added-day e =
+      }) (add_fraction c κ f)
+  unfolding add_fraction
+  added_day e =
       ap (λ (z : Float). record {
         carry = c + 1;
         kahan =
@@ -56,8 +56,8 @@ module _ (c : ℕ) (κ : Kahan) (f l : Float) (el : l ≡ compensation κ.sum f 
 
   pub added_none : le one (add binary64 κ.sum f) ≡ false
       → ◌≡◌ {A = Summed} (record { carry = c; kahan = record { sum = add binary64 κ.sum f; correction = add binary64 κ.correction l } })
-      (addFraction c κ f)
-  unfolding addFraction
+      (add_fraction c κ f)
+  unfolding add_fraction
   added_none e =
       ap (λ (z : Float). record { carry = c; kahan = record { sum = add binary64 κ.sum f; correction = add binary64 κ.correction z } }) el
       ∙ skip (le one (add binary64 κ.sum f)) _ _ e
@@ -66,55 +66,55 @@ few-of : (b : Bool) (x y : Summed) → x.carry ≤ 1 → y.carry ≤ 1 → (cond
 few-of true x y h k = h
 few-of false x y h k = k
 
-pub few-carry : (κ : Kahan) (f : Float) (r : Summed) → r ≡ addFraction 0 κ f → r.carry ≤ 1
-unfolding addFraction
+pub few-carry : (κ : Kahan) (f : Float) (r : Summed) → r ≡ add_fraction 0 κ f → r.carry ≤ 1
+unfolding add_fraction
 few-carry κ f r e = subst (λ (z : Summed). z.carry ≤ 1) (sym e) (few-of (le one (add binary64 κ.sum f)) _ _ (omega arith) (omega arith))
 
 -- ---- sum_fractions
-pub summed : (f g : Float) (k r : Summed) → k ≡ addFraction 0 kahanStart f → r ≡ addFraction k.carry k.kahan g → r ≡ sumFractions f g
-unfolding sumFractions
-summed f g k r e q = q ∙ ap (λ (z : Summed). addFraction z.carry z.kahan g) e
+pub summed : (f g : Float) (k r : Summed) → k ≡ add_fraction 0 kahan_start f → r ≡ add_fraction k.carry k.kahan g → r ≡ sum_fractions f g
+unfolding sum_fractions
+summed f g k r e q = q ∙ ap (λ (z : Summed). add_fraction z.carry z.kahan g) e
 
 -- ---- carry_day
 module _ (κ : Kahan) (z : Float) where
   abbrev pub left : Float
   left = add binary64 (sub binary64 κ.sum one) (add binary64 κ.correction (sub binary64 (sub binary64 κ.sum (sub binary64 κ.sum one)) one))
 
-  pub carry-none : lt (sub binary64 z one) c-minus-eps-4 ≡ true → ◌≡◌ {A = Carried} (record { carry = 0; fraction = z }) (carryDay κ z)
-  unfolding carryDay
-  carry-none e = pick (lt (sub binary64 z one) c-minus-eps-4) _ _ e
+  pub carry_none : lt (sub binary64 z one) c_minus_eps_4 ≡ true → ◌≡◌ {A = Carried} (record { carry = 0; fraction = z }) (carry_day κ z)
+  unfolding carry_day
+  carry_none e = pick (lt (sub binary64 z one) c_minus_eps_4) _ _ e
 
-  pub carry_over : lt (sub binary64 z one) c-minus-eps-4 ≡ false → lt c-minus-eps-2 left ≡ true → lt nought left ≡ true
-      → ◌≡◌ {A = Carried} (record { carry = 1; fraction = left }) (carryDay κ z)
-  unfolding carryDay
+  pub carry_over : lt (sub binary64 z one) c_minus_eps_4 ≡ false → lt c_minus_eps_2 left ≡ true → lt nought left ≡ true
+      → ◌≡◌ {A = Carried} (record { carry = 1; fraction = left }) (carry_day κ z)
+  unfolding carry_day
   carry_over e f g =
-      ap (λ (w : Float). record { carry = 1; fraction = w }) (pick (lt nought left) left nought g) ∙ pick (lt c-minus-eps-2 left) _ _ f
-      ∙ skip (lt (sub binary64 z one) c-minus-eps-4) _ _ e
+      ap (λ (w : Float). record { carry = 1; fraction = w }) (pick (lt nought left) left nought g) ∙ pick (lt c_minus_eps_2 left) _ _ f
+      ∙ skip (lt (sub binary64 z one) c_minus_eps_4) _ _ e
 
-  pub carry-zero : lt (sub binary64 z one) c-minus-eps-4 ≡ false → lt c-minus-eps-2 left ≡ true → lt nought left ≡ false
-      → ◌≡◌ {A = Carried} (record { carry = 1; fraction = nought }) (carryDay κ z)
-  unfolding carryDay
-  carry-zero e f g =
-      ap (λ (w : Float). record { carry = 1; fraction = w }) (skip (lt nought left) left nought g) ∙ pick (lt c-minus-eps-2 left) _ _ f
-      ∙ skip (lt (sub binary64 z one) c-minus-eps-4) _ _ e
+  pub carry_zero : lt (sub binary64 z one) c_minus_eps_4 ≡ false → lt c_minus_eps_2 left ≡ true → lt nought left ≡ false
+      → ◌≡◌ {A = Carried} (record { carry = 1; fraction = nought }) (carry_day κ z)
+  unfolding carry_day
+  carry_zero e f g =
+      ap (λ (w : Float). record { carry = 1; fraction = w }) (skip (lt nought left) left nought g) ∙ pick (lt c_minus_eps_2 left) _ _ f
+      ∙ skip (lt (sub binary64 z one) c_minus_eps_4) _ _ e
 
-  pub carry-under : lt (sub binary64 z one) c-minus-eps-4 ≡ false → lt c-minus-eps-2 left ≡ false
-      → ◌≡◌ {A = Carried} (record { carry = 0; fraction = left }) (carryDay κ z)
-  unfolding carryDay
-  carry-under e f = skip (lt c-minus-eps-2 left) _ _ f ∙ skip (lt (sub binary64 z one) c-minus-eps-4) _ _ e
+  pub carry_under : lt (sub binary64 z one) c_minus_eps_4 ≡ false → lt c_minus_eps_2 left ≡ false
+      → ◌≡◌ {A = Carried} (record { carry = 0; fraction = left }) (carry_day κ z)
+  unfolding carry_day
+  carry_under e f = skip (lt c_minus_eps_2 left) _ _ f ∙ skip (lt (sub binary64 z one) c_minus_eps_4) _ _ e
 
 -- ---- normalize_fraction
 module _ (κ : Kahan) where
   abbrev pub fraction : Float
   fraction = add binary64 κ.sum κ.correction
 
-  pub borrowed : lt fraction nought ≡ true → (b : Borrowed) → b ≡ borrowDay (kahanOf κ.sum fraction) → (r : Carried)
-      → r ≡ carryDay b.kahan b.fraction → besideBorrowed b.borrow r ≡ normalizeFraction κ
-  unfolding normalizeFraction
+  pub borrowed : lt fraction nought ≡ true → (b : Borrowed) → b ≡ borrow_day (kahan_of κ.sum fraction) → (r : Carried)
+      → r ≡ carry_day b.kahan b.fraction → beside_borrowed b.borrow r ≡ normalize_fraction κ
+  unfolding normalize_fraction
   borrowed e b eb r er =
-      ap (besideBorrowed b.borrow) er ∙ ap (λ (w : Borrowed). besideBorrowed w.borrow (carryDay w.kahan w.fraction)) eb
+      ap (beside_borrowed b.borrow) er ∙ ap (λ (w : Borrowed). beside_borrowed w.borrow (carry_day w.kahan w.fraction)) eb
       ∙ pick (lt fraction nought) _ _ e
 
-  pub unborrowed : lt fraction nought ≡ false → (r : Carried) → r ≡ carryDay (kahanOf κ.sum fraction) fraction → besideBorrowed 0 r ≡ normalizeFraction κ
-  unfolding normalizeFraction
-  unborrowed e r er = ap (besideBorrowed 0) er ∙ skip (lt fraction nought) _ _ e
+  pub unborrowed : lt fraction nought ≡ false → (r : Carried) → r ≡ carry_day (kahan_of κ.sum fraction) fraction → beside_borrowed 0 r ≡ normalize_fraction κ
+  unfolding normalize_fraction
+  unborrowed e r er = ap (beside_borrowed 0) er ∙ skip (lt fraction nought) _ _ e

@@ -10,7 +10,7 @@ use lib.Ieee.{neg, div, of_bits}
 use Rattle.floats.specs.Whole.{nought, half, one}
 use Rattle.rounding.specs.Value.{Val, L}
 unfoldable pub use Rattle.rounding.specs.Value.{H}
-use Rattle.julian.specs.day_number.DayNumber.{c-minus-eps-4, c-minus-eps-2, c-djmin, c-djmax}
+use Rattle.julian.specs.day_number.DayNumber.{c_minus_eps_4, c_minus_eps_2, c_djmin, c_djmax}
 
 abbrev pub G : ℕ
 G = 2 ^ 53
@@ -80,17 +80,17 @@ pub nought-L : Val nought 0 0 L
 unfolding L
 nought-L = record { sign = false; size = 0; has = (refl, refl); is = refl }
 
-pub minus-eps-4-L : Val c-minus-eps-4 0 W L
+pub minus-eps-4-L : Val c_minus_eps_4 0 W L
 unfolding of_bits neg div L W
 minus-eps-4-L = record { sign = true; size = W; has = (refl, refl); is = refl }
 
-pub min-L : Val c-djmin 0 (548556 * E) L
+pub min_L : Val c_djmin 0 (548556 * E) L
 unfolding of_bits L E
-min-L = record { sign = true; size = 548556 * E; has = (refl, refl); is = refl }
+min_L = record { sign = true; size = 548556 * E; has = (refl, refl); is = refl }
 
-pub max-L : Val c-djmax (8000000000 * E) 0 L
+pub max_L : Val c_djmax (8000000000 * E) 0 L
 unfolding of_bits L E
-max-L = record { sign = false; size = 8000000000 * E; has = (refl, refl); is = refl }
+max_L = record { sign = false; size = 8000000000 * E; has = (refl, refl); is = refl }
 
 -- ---- in units of 2 ^ -53
 pub one-G : Val one G 0 G
@@ -99,7 +99,7 @@ one-G = record { sign = false; size = G; has = (refl, refl); is = refl }
 pub nought-G : Val nought 0 0 G
 nought-G = record { sign = false; size = 0; has = (refl, refl); is = refl }
 
-pub minus-eps-2-G : Val c-minus-eps-2 0 1 G
+pub minus-eps-2-G : Val c_minus_eps_2 0 1 G
 unfolding of_bits neg div
 minus-eps-2-G = record { sign = true; size = 1; has = (refl, refl); is = refl }
 
@@ -114,6 +114,6 @@ pub nought-S : Val nought 0 0 S
 nought-S = record { sign = false; size = 0; has = (refl, refl); is = refl }
 
 -- ---- in units of 2 ^ -54
-pub minus-eps-4 : Val c-minus-eps-4 0 1 (2 ^ 54)
+pub minus-eps-4 : Val c_minus_eps_4 0 1 (2 ^ 54)
 unfolding of_bits neg div
 minus-eps-4 = record { sign = true; size = 1; has = (refl, refl); is = refl }

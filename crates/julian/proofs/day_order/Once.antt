@@ -8,21 +8,21 @@ use native.Mathlib.Nat.{add-mul, one-mul, zero-mul}
 use native.Mathlib.Omega.{arith}
 use lib.Dec.{T, lit≤, lit<}
 use lib.Ieee.{Float, binary64, add, sub, lt, le, fits, of_bits}
-use lib.Ieee.Fits.{add-fits, sub-fits}
+use lib.Ieee.Fits.{add-fits, sub_fits}
 use lib.Ieee.Bits.{of_bits-fits}
 use Rattle.floats.specs.Whole.{half, nought, one, abs}
 use Rattle.rounding.specs.Value.{Val, Rounds, L}
-use Rattle.rounding.proofs.Value.{L-pos, val-move, val-unique, rounds-move, add_rounds, sub-rounds}
-use Rattle.rounding.proofs.Signed.{dist, dist-le, signed-dist}
+use Rattle.rounding.proofs.Value.{L-pos, val-move, val-unique, rounds-move, add_rounds, sub_rounds}
+use Rattle.rounding.proofs.Signed.{dist, dist_le, signed-dist}
 use Rattle.rounding.proofs.Own.{Rep, val-rep, val-small}
 use Rattle.rounding.proofs.Sterbenz.{rounds-rep}
-use Rattle.rounding.proofs.Nearest.{rn-le, rn-ge}
+use Rattle.rounding.proofs.Nearest.{rn_le, rn_ge}
 use Rattle.rounding.proofs.TwoSumFloat.{At, rounds-at, Exact}
-use Rattle.rounding.proofs.Compensated.{compensated, compensated-either}
-use Rattle.rounding.proofs.Compare.{lt-true, lt-false, le-true}
+use Rattle.rounding.proofs.Compensated.{compensated, compensated_either}
+use Rattle.rounding.proofs.Compare.{lt_true, lt_false, le_true}
 use Rattle.rounding.proofs.Near.{sum_near}
-use Rattle.julian.specs.day_number.DayNumber.{compensation, addFraction, normalizeFraction, borrowDay, borrowSum, borrowFraction, carryDay}
-use Rattle.julian.specs.day_number.DayNumber.{kahanOf, besideBorrowed}
+use Rattle.julian.specs.day_number.DayNumber.{compensation, add_fraction, normalize_fraction, borrow_day, borrow_sum, borrow_fraction, carry_day}
+use Rattle.julian.specs.day_number.DayNumber.{kahan_of, beside_borrowed}
 use Rattle.julian.proofs.day_number.Units.{H, H-L, W, L-W, W-pos, one-L, half-L, nought-L}
 use Rattle.julian.proofs.day_number.CarryDay.{Settled, settled, minus_one}
 pub use Rattle.julian.proofs.day_number.Ends.{nought-fits}
@@ -90,17 +90,17 @@ module _ (s z : Float) (up down A B a b : ℕ) (fs : T (fits binary64 s)) (fz : 
   found : At z (A + down * L) (B + up * L) (2 * L)
   found = rounds-at far2 (omega arith) (omega arith) r
 
-  finish : Once up (carryDay (kahanOf s z) z).carry down (carryDay (kahanOf s z) z).fraction A B
+  finish : Once up (carry_day (kahan_of s z) z).carry down (carry_day (kahan_of s z) z).fraction A B
   finish =
       let f = found in
-      let o : 0 + f.n ≤ f.p + 0 = rn-ge 0 0 (val-rep nought-fits nought-L) f.rn (omega arith) in
-      let u : f.p + 0 ≤ L + f.n = rn-le L 0 (val-rep one-fits one-L) f.rn (omega arith) in
+      let o : 0 + f.n ≤ f.p + 0 = rn_ge 0 0 (val-rep nought-fits nought-L) f.rn (omega arith) in
+      let u : f.p + 0 ≤ L + f.n = rn_le L 0 (val-rep one-fits one-L) f.rn (omega arith) in
       let c = near (omega (arith, L-pos)) (omega (arith, L-pos)) r f.val in
       go f.p f.n f.val
       (settled s z f.p f.n a b fs fz f.val vs (omega arith) (omega (arith, W-pos)) (omega (arith, c.0)) (omega (arith, c.1)))
     where
-      go : (p n : ℕ) → Val z p n L → Settled (carryDay (kahanOf s z) z) z p n
-          → Once up (carryDay (kahanOf s z) z).carry down (carryDay (kahanOf s z) z).fraction A B
+      go : (p n : ℕ) → Val z p n L → Settled (carry_day (kahan_of s z) z) z p n
+          → Once up (carry_day (kahan_of s z) z).carry down (carry_day (kahan_of s z) z).fraction A B
       go p n v k = record {
         z = z;
         p = p;
@@ -108,7 +108,7 @@ module _ (s z : Float) (up down A B a b : ℕ) (fs : T (fits binary64 s)) (fz : 
         rounds = r;
         val = v;
         left =
-            subst (λ (i : ℕ). Val (carryDay (kahanOf s z) z).fraction p (n + i * L) L) (sym k.carry) k.val;
+            subst (λ (i : ℕ). Val (carry_day (kahan_of s z) z).fraction p (n + i * L) L) (sym k.carry) k.val;
         low = low;
         high = high;
       }
@@ -117,7 +117,7 @@ module _ (s z : Float) (up down A B a b : ℕ) (fs : T (fits binary64 s)) (fz : 
 module _ (s z : Float) (p n a b : ℕ) (fs : T (fits binary64 s)) (fz : T (fits binary64 z)) (vs : Val s p n L) (vz : Val z (p + a) (n + b) L) (s1 : p ≤ n + L)
     (s2 : n ≤ p + L) where
   abbrev bs : Float
-  bs = borrowSum s
+  bs = borrow_sum s
 
   abbrev lost : Float
   lost = add binary64 (sub binary64 one bs) s
@@ -126,26 +126,26 @@ module _ (s z : Float) (p n a b : ℕ) (fs : T (fits binary64 s)) (fz : T (fits 
   one_more = rounds-move (add_rounds binary64 L-pos vs one-L) (omega arith)
 
   both : Exact bs lost (L + p) (0 + n)
-  both = compensated one-fits fs one-L vs (plain (dist p n) (dist-le p n L s1 s2)) (omega arith) far one_more
+  both = compensated one-fits fs one-L vs (plain (dist p n) (dist_le p n L s1 s2)) (omega arith) far one_more
     where
       plain : (d : ℕ) → d ≤ L → d ≤ dist L 0
       plain d h = omega arith
 
   -- the sum is 0 beside its correction, or the correction is 0
-  by-zero-correction : a ≡ b → Rounds binary64 (borrowFraction s (sub binary64 z s)) (p + a + L) (n + b) L
+  by-zero-correction : a ≡ b → Rounds binary64 (borrow_fraction s (sub binary64 z s)) (p + a + L) (n + b) L
   by-zero-correction e =
-      let c : Val (sub binary64 z s) 0 0 L = again nought-fits nought-L (rounds-move (sub-rounds binary64 L-pos vz vs) (omega arith)) in
+      let c : Val (sub binary64 z s) 0 0 L = again nought-fits nought-L (rounds-move (sub_rounds binary64 L-pos vz vs) (omega arith)) in
       let k : Val (add binary64 (sub binary64 z s) lost) both.ep both.en L =
       again (add-fits binary64 (sub binary64 one bs) s) both.err (rounds-move (add_rounds binary64 L-pos c both.err) (omega arith)) in
       rounds-move (add_rounds binary64 L-pos both.sum k) (omega (arith, both.total))
 
-  by-zero-sum : p ≡ n → Rounds binary64 (borrowFraction s (sub binary64 z s)) (p + a + L) (n + b) L
+  by-zero-sum : p ≡ n → Rounds binary64 (borrow_fraction s (sub binary64 z s)) (p + a + L) (n + b) L
   by-zero-sum e =
-      let c : Val (sub binary64 z s) (p + a) (n + b) L = again fz vz (rounds-move (sub-rounds binary64 L-pos vz vs) (omega arith)) in
+      let c : Val (sub binary64 z s) (p + a) (n + b) L = again fz vz (rounds-move (sub_rounds binary64 L-pos vz vs) (omega arith)) in
       let o : Val bs L 0 L = again one-fits one-L (rounds-move one_more (omega arith)) in
       let d : Val lost 0 0 L = val-move both.err (omega (arith, both.total, val-unique o both.sum)) in
       let k : Val (add binary64 (sub binary64 z s) lost) (p + a) (n + b) L =
-      again (sub-fits binary64 z s) c (rounds-move (add_rounds binary64 L-pos c d) (omega arith)) in
+      again (sub_fits binary64 z s) c (rounds-move (add_rounds binary64 L-pos c d) (omega arith)) in
       rounds-move (add_rounds binary64 L-pos o k) (omega arith)
 
   near-one : (bp bn : ℕ) → Val bs bp bn L → p ≤ n → n < p + L → (bp + n ≤ bn + (p + L) + 2 * W) × (bn + (p + L) ≤ bp + n + 2 * W)
@@ -166,43 +166,43 @@ module _ (s t : Float) (up A B p n a b : ℕ) (fs : T (fits binary64 s)) (vs : V
   z = add binary64 s t
 
   abbrev fr : Float
-  fr = borrowFraction s (sub binary64 z s)
+  fr = borrow_fraction s (sub binary64 z s)
 
-  kept : n + b ≤ p + a → p + a ≤ n + b + L → Once up (carryDay (kahanOf s z) z).carry 0 (carryDay (kahanOf s z) z).fraction A B
+  kept : n + b ≤ p + a → p + a ≤ n + b + L → Once up (carry_day (kahan_of s z) z).carry 0 (carry_day (kahan_of s z) z).fraction A B
   kept low high =
       finish s z up 0 A B p n fs (add-fits binary64 s t) (rounds-move (add_rounds binary64 L-pos vs vt) (omega (arith, zero-mul L))) vs
       (omega (arith, zero-mul L)) (omega (arith, zero-mul L)) (omega (arith, zero-mul L)) (omega (arith, zero-mul L))
 
-  borrowed : Borrows z p n a b → Once up (carryDay (kahanOf (borrowSum s) fr) fr).carry 1 (carryDay (kahanOf (borrowSum s) fr) fr).fraction A B
+  borrowed : Borrows z p n a b → Once up (carry_day (kahan_of (borrow_sum s) fr) fr).carry 1 (carry_day (kahan_of (borrow_sum s) fr) fr).fraction A B
   borrowed k = go k.none
     where
       fz : T (fits binary64 z)
       fz = add-fits binary64 s t
 
       ends : Rounds binary64 fr (p + a + L) (n + b) L
-          → Once up (carryDay (kahanOf (borrowSum s) fr) fr).carry 1 (carryDay (kahanOf (borrowSum s) fr) fr).fraction A B
+          → Once up (carry_day (kahan_of (borrow_sum s) fr) fr).carry 1 (carry_day (kahan_of (borrow_sum s) fr) fr).fraction A B
       ends r =
           let x = both s z p n a b fs fz vs k.val (omega (arith, k.below)) (omega (arith, k.above)) in
           let c = near-one s z p n a b fs fz vs k.val (omega (arith, k.below)) (omega (arith, k.above)) x.sp x.sn x.sum k.below k.above in
-          finish (borrowSum s) fr up 1 A B x.sp x.sn (add-fits binary64 s one)
-          (add-fits binary64 (borrowSum s) (add binary64 (sub binary64 z s) (add binary64 (sub binary64 one (borrowSum s)) s)))
+          finish (borrow_sum s) fr up 1 A B x.sp x.sn (add-fits binary64 s one)
+          (add-fits binary64 (borrow_sum s) (add binary64 (sub binary64 z s) (add binary64 (sub binary64 one (borrow_sum s)) s)))
           (rounds-move r (omega (arith, one-mul L))) x.sum (omega (arith, one-mul L, k.most)) (omega (arith, one-mul L, k.less))
           (omega (arith, one-mul L, c.0)) (omega (arith, one-mul L, c.1))
 
-      go : (a ≡ b) ⊎ (p ≡ n) → Once up (carryDay (kahanOf (borrowSum s) fr) fr).carry 1 (carryDay (kahanOf (borrowSum s) fr) fr).fraction A B
+      go : (a ≡ b) ⊎ (p ≡ n) → Once up (carry_day (kahan_of (borrow_sum s) fr) fr).carry 1 (carry_day (kahan_of (borrow_sum s) fr) fr).fraction A B
       go (inl e) = ends (by-zero-correction s z p n a b fs fz vs k.val (omega (arith, k.below)) (omega (arith, k.above)) e)
       go (inr e) = ends (by-zero-sum s z p n a b fs fz vs k.val (omega (arith, k.below)) (omega (arith, k.above)) e)
 
   normal : (lt z nought ≡ true → Borrows z p n a b) → (lt z nought ≡ false → (n + b ≤ p + a) × (p + a ≤ n + b + L))
-      → Once up (normalizeFraction (record { sum = s; correction = t })).carry (normalizeFraction (record { sum = s; correction = t })).borrow
-      (normalizeFraction (record { sum = s; correction = t })).fraction A B
-  unfolding normalizeFraction borrowDay
+      → Once up (normalize_fraction (record { sum = s; correction = t })).carry (normalize_fraction (record { sum = s; correction = t })).borrow
+      (normalize_fraction (record { sum = s; correction = t })).fraction A B
+  unfolding normalize_fraction borrow_day
   normal f g = go (lt z nought) f g
     where
       go : (u : Bool) → (u ≡ true → Borrows z p n a b) → (u ≡ false → (n + b ≤ p + a) × (p + a ≤ n + b + L))
-          → Once up (cond u (besideBorrowed 1 (carryDay (kahanOf (borrowSum s) fr) fr)) (besideBorrowed 0 (carryDay (kahanOf s z) z))).carry
-          (cond u (besideBorrowed 1 (carryDay (kahanOf (borrowSum s) fr) fr)) (besideBorrowed 0 (carryDay (kahanOf s z) z))).borrow
-          (cond u (besideBorrowed 1 (carryDay (kahanOf (borrowSum s) fr) fr)) (besideBorrowed 0 (carryDay (kahanOf s z) z))).fraction A B
+          → Once up (cond u (beside_borrowed 1 (carry_day (kahan_of (borrow_sum s) fr) fr)) (beside_borrowed 0 (carry_day (kahan_of s z) z))).carry
+          (cond u (beside_borrowed 1 (carry_day (kahan_of (borrow_sum s) fr) fr)) (beside_borrowed 0 (carry_day (kahan_of s z) z))).borrow
+          (cond u (beside_borrowed 1 (carry_day (kahan_of (borrow_sum s) fr) fr)) (beside_borrowed 0 (carry_day (kahan_of s z) z))).fraction A B
       go true f g = borrowed (f refl)
       go false f g = let h = g refl in kept h.0 h.1
 
@@ -219,23 +219,23 @@ module _ (c : ℕ) (s g : Float) where
   corr = add binary64 nought (compensation s g temp)
 
   tested : ((le one temp ≡ true) ×
-      (addFraction c (record { sum = s; correction = nought }) g ≡ record { carry = c + 1; kahan = record { sum = sub binary64 temp one; correction = corr } }))
-      ⊎ ((le one temp ≡ false) × (addFraction c (record { sum = s; correction = nought }) g ≡
+      (add_fraction c (record { sum = s; correction = nought }) g ≡ record { carry = c + 1; kahan = record { sum = sub binary64 temp one; correction = corr } }))
+      ⊎ ((le one temp ≡ false) × (add_fraction c (record { sum = s; correction = nought }) g ≡
       record { carry = c; kahan = record { sum = temp; correction = corr } }))
-  unfolding addFraction
-  tested = by_cases (addFraction c (record { sum = s; correction = nought }) g) (le one temp) _ _ refl
+  unfolding add_fraction
+  tested = by_cases (add_fraction c (record { sum = s; correction = nought }) g) (le one temp) _ _ refl
 
   abbrev pub Added : ℕ → ℕ → Type 0
   Added A B =
-      Once (addFraction c (record { sum = s; correction = nought }) g).carry
-      (normalizeFraction (addFraction c (record { sum = s; correction = nought }) g).kahan).carry
-      (normalizeFraction (addFraction c (record { sum = s; correction = nought }) g).kahan).borrow
-      (normalizeFraction (addFraction c (record { sum = s; correction = nought }) g).kahan).fraction A B
+      Once (add_fraction c (record { sum = s; correction = nought }) g).carry
+      (normalize_fraction (add_fraction c (record { sum = s; correction = nought }) g).kahan).carry
+      (normalize_fraction (add_fraction c (record { sum = s; correction = nought }) g).kahan).borrow
+      (normalize_fraction (add_fraction c (record { sum = s; correction = nought }) g).kahan).fraction A B
 
 -- what the sum lost, as the correction
-lost-fits : (s g t : Float) → T (fits binary64 (compensation s g t))
+lost_fits : (s g t : Float) → T (fits binary64 (compensation s g t))
 unfolding compensation
-lost-fits s g t = go (le (abs g) (abs s)) (sub binary64 s t) (sub binary64 g t)
+lost_fits s g t = go (le (abs g) (abs s)) (sub binary64 s t) (sub binary64 g t)
   where
     go : (u : Bool) (x y : Float) → T (fits binary64 (cond u (add binary64 x g) (add binary64 y s)))
     go true x y = add-fits binary64 x g
@@ -245,11 +245,11 @@ module _ (s g : Float) (S Q M : ℕ) (fs : T (fits binary64 s)) (fg : T (fits bi
     (g2 : Q ≤ M + H) where
   exact : Exact (add binary64 s g) (compensation s g (add binary64 s g)) (S + Q) (0 + M)
   unfolding compensation
-  exact = compensated-either fs fg vs vg (dist-le S 0 L (omega (arith, H-L)) (omega arith)) (dist-le Q M L (omega (arith, H-L)) (omega (arith, H-L))) far
+  exact = compensated_either fs fg vs vg (dist_le S 0 L (omega (arith, H-L)) (omega arith)) (dist_le Q M L (omega (arith, H-L)) (omega (arith, H-L))) far
       (add_rounds binary64 L-pos vs vg)
 
 fixed : (c : ℕ) (s g : Float) {P N : ℕ} → (x : Exact (add binary64 s g) (compensation s g (add binary64 s g)) P N) → Val (corr c s g) x.ep x.en L
-fixed c s g x = again (lost-fits s g (add binary64 s g)) x.err (rounds-move (add_rounds binary64 L-pos nought-L x.err) (omega arith))
+fixed c s g x = again (lost_fits s g (add binary64 s g)) x.err (rounds-move (add_rounds binary64 L-pos nought-L x.err) (omega arith))
 
 -- ---- from 0
 module _ (g : Float) (Q M c : ℕ) (fg : T (fits binary64 g)) (vg : Val g Q M L) (g1 : M ≤ Q + H) (g2 : Q ≤ M + H) where
@@ -270,12 +270,12 @@ module _ (g : Float) (Q M c : ℕ) (fg : T (fits binary64 g)) (vg : Val g Q M L)
     where
       go : (a b : ℕ) → a ≡ b → Val (corr c nought g) a b L
           → ((le one (temp c nought g) ≡ true)
-          × (addFraction c (record { sum = nought; correction = nought }) g ≡
+          × (add_fraction c (record { sum = nought; correction = nought }) g ≡
           record { carry = c + 1; kahan = record { sum = sub binary64 (temp c nought g) one; correction = corr c nought g } }))
           ⊎ ((le one (temp c nought g) ≡ false)
-          × (addFraction c (record { sum = nought; correction = nought }) g ≡
+          × (add_fraction c (record { sum = nought; correction = nought }) g ≡
           record { carry = c; kahan = record { sum = temp c nought g; correction = corr c nought g } })) → Added c nought g (c * L + Q) M
-      go a b q v (inl (u, e)) = let w : L + M ≤ Q + 0 = le-true L-pos one-L same u in let k : ⊥ = omega (arith, H-L, L-pos) in absurd k
+      go a b q v (inl (u, e)) = let w : L + M ≤ Q + 0 = le_true L-pos one-L same u in let k : ⊥ = omega (arith, H-L, L-pos) in absurd k
       go a b q v (inr (u, e)) = rw e (normal (temp c nought g) (corr c nought g) c (c * L + Q) M Q M a b (add-fits binary64 nought g) same v (omega arith)
           (omega arith) (omega arith) less more)
         where
@@ -284,7 +284,7 @@ module _ (g : Float) (Q M c : ℕ) (fg : T (fits binary64 g)) (vg : Val g Q M L)
 
           less : lt (add binary64 (temp c nought g) (corr c nought g)) nought ≡ true → Borrows (add binary64 (temp c nought g) (corr c nought g)) Q M a b
           less h = let w : Q + a + 0 < 0 + (M + b) =
-              lt-true L-pos vz nought-L h in record {
+              lt_true L-pos vz nought-L h in record {
                 val = vz;
                 none = inl q;
                 below = omega arith;
@@ -294,7 +294,7 @@ module _ (g : Float) (Q M c : ℕ) (fg : T (fits binary64 g)) (vg : Val g Q M L)
               }
 
           more : lt (add binary64 (temp c nought g) (corr c nought g)) nought ≡ false → (M + b ≤ Q + a) × (Q + a ≤ M + b + L)
-          more h = let w : 0 + (M + b) ≤ Q + a + 0 = lt-false L-pos vz nought-L h in (omega arith, omega (arith, H-L))
+          more h = let w : 0 + (M + b) ≤ Q + a + 0 = lt_false L-pos vz nought-L h in (omega arith, omega (arith, H-L))
 
 -- ---- from a half
 module _ (g : Float) (Q M c : ℕ) (fg : T (fits binary64 g)) (vg : Val g Q M L) (g1 : M ≤ Q + H) (g2 : Q ≤ M + H) where
@@ -307,7 +307,7 @@ module _ (g : Float) (Q M c : ℕ) (fg : T (fits binary64 g)) (vg : Val g Q M L)
   most : (p n : ℕ) → Val (add binary64 half g) p n L → p ≤ n + L
   most p n v =
       let f = rounds-at far2 (omega (arith, H-L)) (omega (arith, H-L)) r1 in
-      go f.p f.n (val-unique v f.val) (rn-le L 0 (val-rep one-fits one-L) f.rn (omega (arith, H-L)))
+      go f.p f.n (val-unique v f.val) (rn_le L 0 (val-rep one-fits one-L) f.rn (omega (arith, H-L)))
     where
       go : (x y : ℕ) → p + y ≡ x + n → x + 0 ≤ L + y → p ≤ n + L
       go x y e h = omega arith
@@ -319,14 +319,14 @@ module _ (g : Float) (Q M c : ℕ) (fg : T (fits binary64 g)) (vg : Val g Q M L)
       go : (p n a b : ℕ) → Val (temp c half g) p n L → p + a + (0 + M) ≡ n + b + (H + Q) → (p + (0 + M) ≤ n + (H + Q) + 2 * W)
           × (n + (H + Q) ≤ p + (0 + M) + 2 * W) → p ≤ n + L → Val (corr c half g) a b L
           → ((le one (temp c half g) ≡ true)
-          × (addFraction c (record { sum = half; correction = nought }) g ≡
+          × (add_fraction c (record { sum = half; correction = nought }) g ≡
           record { carry = c + 1; kahan = record { sum = sub binary64 (temp c half g) one; correction = corr c half g } }))
           ⊎ ((le one (temp c half g) ≡ false)
-          × (addFraction c (record { sum = half; correction = nought }) g ≡
+          × (add_fraction c (record { sum = half; correction = nought }) g ≡
           record { carry = c; kahan = record { sum = temp c half g; correction = corr c half g } })) → Added c half g (c * L + (H + Q)) M
       go p n a b vt total k high v (inl (u, e)) =
-          let w : L + n ≤ p + 0 = le-true L-pos one-L vt u in
-          rw e (normal (sub binary64 (temp c half g) one) (corr c half g) (c + 1) (c * L + (H + Q)) M p (n + L) a b (sub-fits binary64 (temp c half g) one)
+          let w : L + n ≤ p + 0 = le_true L-pos one-L vt u in
+          rw e (normal (sub binary64 (temp c half g) one) (corr c half g) (c + 1) (c * L + (H + Q)) M p (n + L) a b (sub_fits binary64 (temp c half g) one)
           (vs w) v (simp add-mul (omega (arith, one-mul L))) (omega (arith, k.1)) (omega (arith, k.0)) (less w) (more w))
         where
           vs : L + n ≤ p + 0 → Val (sub binary64 (temp c half g) one) p (n + L) L
@@ -338,7 +338,7 @@ module _ (g : Float) (Q M c : ℕ) (fg : T (fits binary64 g)) (vg : Val g Q M L)
           less : L + n ≤ p + 0 → lt (add binary64 (sub binary64 (temp c half g) one) (corr c half g)) nought ≡ true
               → Borrows (add binary64 (sub binary64 (temp c half g) one) (corr c half g)) p (n + L) a b
           less w h = let x : p + a + 0 < 0 + (n + L + b) =
-              lt-true L-pos (vz w) nought-L h in record {
+              lt_true L-pos (vz w) nought-L h in record {
                 val = vz w;
                 none = inr (omega arith);
                 below = omega arith;
@@ -350,7 +350,7 @@ module _ (g : Float) (Q M c : ℕ) (fg : T (fits binary64 g)) (vg : Val g Q M L)
 
           more : L + n ≤ p + 0 → lt (add binary64 (sub binary64 (temp c half g) one) (corr c half g)) nought ≡ false → (n + L + b ≤ p + a)
               × (p + a ≤ n + L + b + L)
-          more w h = let x : 0 + (n + L + b) ≤ p + a + 0 = lt-false L-pos (vz w) nought-L h in (omega arith, omega (arith, k.1, L-W))
+          more w h = let x : 0 + (n + L + b) ≤ p + a + 0 = lt_false L-pos (vz w) nought-L h in (omega arith, omega (arith, k.1, L-W))
       go p n a b vt total k high v (inr (u, e)) =
           rw e (normal (temp c half g) (corr c half g) c (c * L + (H + Q)) M p n a b (add-fits binary64 half g) vt v (omega arith) (omega (arith, k.1))
           (omega (arith, k.0)) less more)
@@ -361,8 +361,8 @@ module _ (g : Float) (Q M c : ℕ) (fg : T (fits binary64 g)) (vg : Val g Q M L)
           less : lt (add binary64 (temp c half g) (corr c half g)) nought ≡ true → Borrows (add binary64 (temp c half g) (corr c half g)) p n a b
           less h =
               let f = rounds-at far2 (omega (arith, H-L)) (omega arith) (add_rounds binary64 L-pos vt v) in
-              let x : f.p + 0 < 0 + f.n = lt-true L-pos f.val nought-L h in
-              let y : 0 + f.n ≤ f.p + 0 = rn-ge 0 0 (val-rep nought-fits nought-L) f.rn (omega arith) in
+              let x : f.p + 0 < 0 + f.n = lt_true L-pos f.val nought-L h in
+              let y : 0 + f.n ≤ f.p + 0 = rn_ge 0 0 (val-rep nought-fits nought-L) f.rn (omega arith) in
               let z : ⊥ = omega arith in absurd z
 
           more : lt (add binary64 (temp c half g) (corr c half g)) nought ≡ false → (n + b ≤ p + a) × (p + a ≤ n + b + L)

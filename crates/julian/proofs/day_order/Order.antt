@@ -9,16 +9,16 @@ use lib.Dec.{T, leb, leb→le, nleb→lt}
 use lib.Ieee.{Float, binary64, le, fits}
 use Rattle.refusals.specs.Outcome.{answer}
 use Rattle.floats.specs.Whole.{one, abs}
-use Rattle.rounding.specs.Value.{Val, Rounds, L, plusZ, minusZ}
+use Rattle.rounding.specs.Value.{Val, Rounds, L, plus_z, minus_z}
 use Rattle.rounding.proofs.Value.{L-pos, val-unique}
 use Rattle.rounding.proofs.Own.{val-rep, own, own_val}
-use Rattle.rounding.proofs.Nearest.{rn-le, rn-ge}
+use Rattle.rounding.proofs.Nearest.{rn_le, rn_ge}
 use Rattle.rounding.proofs.TwoSumFloat.{rounds-at}
 use Rattle.rounding.proofs.Bound.{rounds-mono}
-use Rattle.rounding.proofs.Compare.{le-says}
+use Rattle.rounding.proofs.Compare.{le_says}
 use Rattle.julian.specs.declared.day_number.DayNumber.{DayNumber}
-use Rattle.julian.specs.day_number.DayNumber.{dayNumber, dayOf}
-use Rattle.julian.specs.day_number.Answer.{dayNumberAndFraction}
+use Rattle.julian.specs.day_number.DayNumber.{day_number, day_of}
+use Rattle.julian.specs.day_number.Answer.{day_number_and_fraction}
 use Rattle.julian.proofs.day_number.Units.{H, one-L, nought-L}
 use Rattle.julian.proofs.day_number.Answer.{answer-is}
 use Rattle.julian.proofs.day_number.JulianRange.{accepted-finite}
@@ -38,10 +38,10 @@ rest_of {z} {D} {E} {zp} {zn} r v low high =
     let f = rounds-at far2 (omega arith) (omega arith) r in
     let e = val-unique v f.val in
     record {
-      low = up f.p f.n e (rn-ge 0 0 (val-rep nought-fits nought-L) f.rn (omega arith));
-      high = down f.p f.n e (rn-le L 0 (val-rep one-fits one-L) f.rn (omega arith));
-      none = λ h. zero f.p f.n e (rn-le 0 0 (val-rep nought-fits nought-L) f.rn (omega arith));
-      whole = λ h. full f.p f.n e (rn-ge L 0 (val-rep one-fits one-L) f.rn (omega arith));
+      low = up f.p f.n e (rn_ge 0 0 (val-rep nought-fits nought-L) f.rn (omega arith));
+      high = down f.p f.n e (rn_le L 0 (val-rep one-fits one-L) f.rn (omega arith));
+      none = λ h. zero f.p f.n e (rn_le 0 0 (val-rep nought-fits nought-L) f.rn (omega arith));
+      whole = λ h. full f.p f.n e (rn_ge L 0 (val-rep one-fits one-L) f.rn (omega arith));
     }
   where
     up : (x y : ℕ) → zp + y ≡ x + zn → 0 + y ≤ x + 0 → zn ≤ zp
@@ -59,10 +59,10 @@ rest_of {z} {D} {E} {zp} {zn} r v low high =
 -- ---- two dates, of which the first is no later
 module _ {a b b' : Float} {p n p' n' : ℕ} (x : Place a b p n) (y : Place a b' p' n') (h : p + n' ≤ p' + n) where
   abbrev u : Rest (p + H + x.tn * L) (n + x.tp * L) x.zp x.zn
-  u = rest_of x.rounds x.z-val x.low x.high
+  u = rest_of x.rounds x.z_val x.low x.high
 
   abbrev v : Rest (p' + H + y.tn * L) (n' + y.tp * L) y.zp y.zn
-  v = rest_of y.rounds y.z-val y.low y.high
+  v = rest_of y.rounds y.z_val y.low y.high
 
   abbrev InTurn : Type 0
   InTurn = x.zp + x.tp * L + (y.zn + y.tn * L) ≤ y.zp + y.tp * L + (x.zn + x.tn * L)
@@ -75,7 +75,7 @@ module _ {a b b' : Float} {p n p' n' : ℕ} (x : Place a b p n) (y : Place a b' 
   same e =
       let m : T (le x.z y.z) = rounds-mono L-pos L-pos (scaled _ _ _ _ (sums (x.tp * L) (y.tp * L) (x.tn * L) (y.tn * L) q)) x.rounds
       y.rounds in
-      last x.zp x.zn y.zp y.zn (x.tp * L) (y.tp * L) (x.tn * L) (y.tn * L) q (le-says L-pos x.z-val y.z-val m)
+      last x.zp x.zn y.zp y.zn (x.tp * L) (y.tp * L) (x.tn * L) (y.tn * L) q (le_says L-pos x.z_val y.z_val m)
     where
       q : x.tp * L + y.tn * L ≡ y.tp * L + x.tn * L
       q = sym (add-mul x.tp y.tn L) ∙ ap (λ (i : ℕ). i * L) e ∙ add-mul y.tp x.tn L
@@ -120,8 +120,8 @@ module _ {a b b' : Float} {p n p' n' : ℕ} (x : Place a b p n) (y : Place a b' 
       last : (zp zn zp' zn' i i' j j' : ℕ) → n + i ≤ p + H + j → p' + H + j' ≤ n' + i' + L → zp ≤ zn → zn' + L ≤ zp' → zp + i + (zn' + j') ≤ zp' + i' + (zn + j)
       last zp zn zp' zn' i i' j j' k m e f = omega arith
 
-  in-turn : InTurn
-  in-turn = go (leb (x.tp + y.tn) (y.tp + x.tn)) (leb→le _ _) (nleb→lt _ _) (leb (y.tp + x.tn) (x.tp + y.tn)) (leb→le _ _) (nleb→lt _ _)
+  in_turn : InTurn
+  in_turn = go (leb (x.tp + y.tn) (y.tp + x.tn)) (leb→le _ _) (nleb→lt _ _) (leb (y.tp + x.tn) (x.tp + y.tn)) (leb→le _ _) (nleb→lt _ _)
     where
       equal : (i j : ℕ) → i ≤ j → j ≤ i → i ≡ j
       equal i j k l = omega arith
@@ -132,16 +132,16 @@ module _ {a b b' : Float} {p n p' n' : ℕ} (x : Place a b p n) (y : Place a b' 
       go true f g false k l = earlier (l tt)
       go false f g e k l = later (g tt)
 
-  days-in-turn : plusZ (dayNumber a b) * L + x.units + minusZ (dayNumber a b') * L ≤ plusZ (dayNumber a b') * L + y.units + minusZ (dayNumber a b) * L
-  days-in-turn = go _ _ _ _ _ _ _ _ _ _ x.sum y.sum in-turn
+  days-in-turn : plus_z (day_number a b) * L + x.units + minus_z (day_number a b') * L ≤ plus_z (day_number a b') * L + y.units + minus_z (day_number a b) * L
+  days-in-turn = go _ _ _ _ _ _ _ _ _ _ x.sum y.sum in_turn
     where
       go : (d e d' e' w w' A B A' B' : ℕ) → d + w + B ≡ e + A → d' + w' + B' ≡ e' + A' → A + B' ≤ A' + B → d + w + e' ≤ d' + w' + e
       go d e d' e' w w' A B A' B' q r l = omega arith
 
 -- ---- THE THEOREM
 pub calendar-order : (a b b' : Float) → WholeHalves a → T (fits binary64 b) → T (fits binary64 b') → T (le (abs b) one) → T (le (abs b') one) → T (le b b')
-    → (d d' : DayNumber) → dayNumberAndFraction a b ≡ answer d → dayNumberAndFraction a b' ≡ answer d' → NoLater d d'
-unfolding dayOf
+    → (d d' : DayNumber) → day_number_and_fraction a b ≡ answer d → day_number_and_fraction a b' ≡ answer d' → NoLater d d'
+unfolding day_of
 calendar-order a b b' w fb fb' sb sb' l d d' e e' =
     let g = answer-is a b d e in
     let g' = answer-is a b' d' e' in
@@ -154,7 +154,7 @@ calendar-order a b b' w fb fb' sb sb' l d d' e e' =
     let vb' = own_val b' ob' in
     let x = place a b w fb sb g.0 _ _ _ _ va vb in
     let y = place a b' w fb' sb' g'.0 _ _ _ _ va vb' in
-    let o = days-in-turn x y (sums _ _ _ _ _ _ (le-says L-pos vb vb' l)) in
+    let o = days-in-turn x y (sums _ _ _ _ _ _ (le_says L-pos vb vb' l)) in
     subst₂ NoLater g.1 g'.1 (record { units = x.units; units' = y.units; val = x.val; val' = y.val; order = omega (arith, o) })
   where
     sums : (p n q m q' m' : ℕ) → q + m' ≤ q' + m → p + q + (n + m') ≤ p + q' + (n + m)

@@ -10,17 +10,17 @@ use lib.Dec.{T, leb, leb→le, nleb→lt, lit≤}
 use lib.IntN.{ℤ}
 use lib.Ieee.{Float, binary64, lt, le, fits}
 use lib.Ieee.Exact.{HasValue}
-use Rattle.floats.specs.Whole.{half, nought, one, abs, nearestInt}
-use Rattle.rounding.specs.Value.{Val, Rounds, L, plusZ, minusZ}
+use Rattle.floats.specs.Whole.{half, nought, one, abs, nearest_int}
+use Rattle.rounding.specs.Value.{Val, Rounds, L, plus_z, minus_z}
 use Rattle.rounding.proofs.Value.{L-pos, val-scale, val-unique, abs-has, rounds-move}
 use Rattle.rounding.proofs.Signed.{plus-of, minus-of}
-use Rattle.rounding.proofs.Compare.{lt-false, le-says}
-use Rattle.julian.specs.day_number.DayNumber.{accepted, rest, sumFractions, joinedFractions, total, dayNumber, fractionPassed}
+use Rattle.rounding.proofs.Compare.{lt_false, le_says}
+use Rattle.julian.specs.day_number.DayNumber.{accepted, rest, sum_fractions, joined_fractions, total, day_number, fraction_passed}
 use Rattle.julian.proofs.day_number.Units.{H, H-L, H-pos, E, E-L, one-L, half-L}
 use Rattle.julian.proofs.day_number.SignedUnits.{has-val}
 use Rattle.julian.proofs.day_number.NearestNumber.{Numbers}
 use Rattle.julian.proofs.day_number.NearestInt.{Whole, plain-plus, plain-minus}
-use Rattle.julian.proofs.day_number.Parts.{rest-fits, left-off, off-size}
+use Rattle.julian.proofs.day_number.Parts.{rest-fits, left-off, off_size}
 use Rattle.julian.proofs.day_number.Pair.{AcceptedSum}
 use Rattle.julian.proofs.day_number.Accepted.{accepted-pair}
 use Rattle.julian.proofs.day_number.JulianRange.{SumInRange, exact-sum, accepted-lo, accepted-hi}
@@ -39,9 +39,9 @@ pub record Place (a b : Float) (p n : ℕ) : Type 0 where
   pub high : p + H + tn * L ≤ n + tp * L + L
   pub zp : ℕ
   pub zn : ℕ
-  pub z-val : Val z zp zn L
-  pub val : Val (fractionPassed a b) units 0 L
-  pub sum : plusZ (dayNumber a b) * L + units + (zn + tn * L) ≡ minusZ (dayNumber a b) * L + (zp + tp * L)
+  pub z_val : Val z zp zn L
+  pub val : Val (fraction_passed a b) units 0 L
+  pub sum : plus_z (day_number a b) * L + units + (zn + tn * L) ≡ minus_z (day_number a b) * L + (zp + tp * L)
 
 -- ---- the first part
 three : (u v P N : ℕ) → P + v * H ≡ N + u * H → v ≤ u + 1 → u ≤ v + 1 → (P ≡ N) ⊎ ((P ≡ N + H) ⊎ (N ≡ P + H))
@@ -70,15 +70,15 @@ first-left P N i j x y e k l = three (i + 2 * x) (j + 2 * y) P N e (less (i + 2 
     by : (u v P N : ℕ) → P + v * H ≡ N + u * H → 8 * N ≤ 8 * P + 5 * L → v < u + 2
     by u v P N e k = lt_of_mul-lt-mul_right H (simp add-mul (omega (arith, H-L, H-pos)))
 
-first_of : (a : Float) (w : WholeHalves a) (s : Bool) (X A : ℕ) → HasValue a s X L → Whole (nearestInt a) s X A → X < 2 ^ 50 * L
+first_of : (a : Float) (w : WholeHalves a) (s : Bool) (X A : ℕ) → HasValue a s X L → Whole (nearest_int a) s X A → X < 2 ^ 50 * L
     → (plus-of s X + minus-of s A * L ≡ minus-of s X + plus-of s A * L)
     ⊎ ((plus-of s X + minus-of s A * L ≡ minus-of s X + plus-of s A * L + H) ⊎ (minus-of s X + plus-of s A * L ≡ plus-of s X + minus-of s A * L + H))
 first_of a w s X A v k h =
-    let i = plusZ w.halves in
-    let j = minusZ w.halves in
+    let i = plus_z w.halves in
+    let j = minus_z w.halves in
     let u : Val a (i * H) (j * H) L = subst (λ (d : ℕ). Val a (i * H) (j * H) d) (sym H-L) (val-scale H w.val) in
     let e = val-unique (has-val a s X L v) u in
-    let z = off-size s X A k.numbers h in
+    let z = off_size s X A k.numbers h in
     first-left (plus-of s X + minus-of s A * L) (minus-of s X + plus-of s A * L) i j (minus-of s A) (plus-of s A)
     (shift (plus-of s X) (minus-of s X) i j (minus-of s A) (plus-of s A) e) z.0 z.1
   where
@@ -92,8 +92,8 @@ first_of a w s X A v k h =
 nought-1 : Val nought 0 0 1
 nought-1 = record { sign = false; size = 0; has = (refl, refl); is = refl }
 
-second-of : (b : Float) (t : Bool) (Y B : ℕ) → HasValue b t Y L → Whole (nearestInt b) t Y B → Y ≤ L → B * L ≤ Y + H
-unfolding nearestInt
+second-of : (b : Float) (t : Bool) (Y B : ℕ) → HasValue b t Y L → Whole (nearest_int b) t Y B → Y ≤ L → B * L ≤ Y + H
+unfolding nearest_int
 second-of b t Y B v k h = go (lt (abs b) half) refl _ k.val
   where
     none : (t : Bool) (B : ℕ) → Val nought (plus-of t B) (minus-of t B) 1 → B ≡ 0
@@ -113,14 +113,14 @@ second-of b t Y B v k h = go (lt (abs b) half) refl _ k.val
     go : (u : Bool) → lt (abs b) half ≡ u → (r : Float) → Val (cond u nought r) (plus-of t B) (minus-of t B) 1 → B * L ≤ Y + H
     go true e r w = let z : B * L ≡ 0 = ap (λ (i : ℕ). i * L) (none t B w) ∙ zero-mul L in omega arith
     go false e r w =
-        let l : H + 0 ≤ Y + 0 = lt-false L-pos (has-val (abs b) false Y L (abs-has b t Y L v)) half-L e in
+        let l : H + 0 ≤ Y + 0 = lt_false L-pos (has-val (abs b) false Y L (abs-has b t Y L v)) half-L e in
         one_of B (omega arith) k.numbers.high (k.numbers.tight (omega (arith, L-pos)))
 
 -- what is left of it is at most a half in size
-second-size : (t : Bool) (Y B : ℕ) → Numbers Y B → B * L ≤ Y + H → (minus-of t Y + plus-of t B * L ≤ plus-of t Y + minus-of t B * L + H)
+second_size : (t : Bool) (Y B : ℕ) → Numbers Y B → B * L ≤ Y + H → (minus-of t Y + plus-of t B * L ≤ plus-of t Y + minus-of t B * L + H)
     × (plus-of t Y + minus-of t B * L ≤ minus-of t Y + plus-of t B * L + H)
-second-size false Y B k h = (omega (arith, zero-mul L), omega (arith, k.low, zero-mul L))
-second-size true Y B k h = (omega (arith, k.low, zero-mul L), omega (arith, zero-mul L))
+second_size false Y B k h = (omega (arith, zero-mul L), omega (arith, k.low, zero-mul L))
+second_size true Y B k h = (omega (arith, k.low, zero-mul L), omega (arith, zero-mul L))
 
 -- ---- the sizes of accepted parts
 few-of : (X A : ℕ) → A * L ≤ X + L → X < 2 ^ 50 * L → A < 2 ^ 63
@@ -144,31 +144,31 @@ first-size true true X Y h r = under X Y 548557 h (omega (arith, r.low)) (lit≤
 -- ---- the day and the fraction
 module _ (a b : Float) (w : WholeHalves a) (fb : T (fits binary64 b)) (sb : T (le (abs b) one)) (acc : accepted a b ≡ true) (p n q m : ℕ) (va : Val a p n L)
     (vb : Val b q m L) where
-  days : (d : ℤ) (up more down pA mA pB mB : ℕ) → plusZ d + (mA + mB + 0 + (0 + down)) ≡ minusZ d + (pA + pB + up + (more + 0))
-      → plusZ d * L + (mA + mB + down) * L ≡ minusZ d * L + ((pA + pB + up) * L + more * L)
+  days : (d : ℤ) (up more down pA mA pB mB : ℕ) → plus_z d + (mA + mB + 0 + (0 + down)) ≡ minus_z d + (pA + pB + up + (more + 0))
+      → plus_z d * L + (mA + mB + down) * L ≡ minus_z d * L + ((pA + pB + up) * L + more * L)
   days d up more down pA mA pB mB e =
-      sym (add-mul (plusZ d) (mA + mB + down) L) ∙ ap (λ (z : ℕ). z * L) (plain (plusZ d) (minusZ d) e) ∙ add-mul (minusZ d) (pA + pB + up + more) L
-      ∙ ap (λ (z : ℕ). minusZ d * L + z) (add-mul (pA + pB + up) more L)
+      sym (add-mul (plus_z d) (mA + mB + down) L) ∙ ap (λ (z : ℕ). z * L) (plain (plus_z d) (minus_z d) e) ∙ add-mul (minus_z d) (pA + pB + up + more) L
+      ∙ ap (λ (z : ℕ). minus_z d * L + z) (add-mul (pA + pB + up) more L)
     where
       plain : (g h : ℕ) → g + (mA + mB + 0 + (0 + down)) ≡ h + (pA + pB + up + (more + 0)) → g + (mA + mB + down) ≡ h + (pA + pB + up + more)
       plain g h e = omega arith
 
-  from : (s t : Bool) (X Y A B u : ℕ) → HasValue a s X L → HasValue b t Y L → Whole (nearestInt a) s X A → Whole (nearestInt b) t Y B → X < 2 ^ 50 * L → Y ≤ L
-      → Val (joinedFractions (rest a) (rest b)).fraction u 0 L
+  from : (s t : Bool) (X Y A B u : ℕ) → HasValue a s X L → HasValue b t Y L → Whole (nearest_int a) s X A → Whole (nearest_int b) t Y B → X < 2 ^ 50 * L → Y ≤ L
+      → Val (joined_fractions (rest a) (rest b)).fraction u 0 L
       → Rounded (rest b) (rest a) (H + (plus-of s X + minus-of s A * L) + (plus-of t Y + minus-of t B * L))
       (minus-of s X + plus-of s A * L + (minus-of t Y + plus-of t B * L)) → Place a b (p + q) (n + m)
-  unfolding dayNumber fractionPassed
+  unfolding day_number fraction_passed
   from s t X Y A B u hx hy wx wy kx ky vu o =
-      let up = (sumFractions (rest a) (rest b)).carry in
-      let more = (joinedFractions (rest a) (rest b)).carry in
-      let down = (joinedFractions (rest a) (rest b)).borrow in
+      let up = (sum_fractions (rest a) (rest b)).carry in
+      let more = (joined_fractions (rest a) (rest b)).carry in
+      let down = (joined_fractions (rest a) (rest b)).borrow in
       let ea = val-unique (has-val a s X L hx) va in
       let eb = val-unique (has-val b t Y L hy) vb in
       let fa = few-of X A wx.numbers.high kx in
       let fb = few-of Y B wy.numbers.high (omega (arith, L-pos)) in
       let i = sums (plus-of s A) (minus-of s A) (plus-of t B) (minus-of t B) _ _ _ _ (plain-plus s A _ fa wx.plus) (plain-minus s A _ fa wx.minus)
-      (plain-plus t B _ fb wy.plus) (plain-minus t B _ fb wy.minus) _ _ up more down (total-is (nearestInt a) (nearestInt b) up more down).is in
-      let d = days (total (nearestInt a) (nearestInt b) up more down) up more down (plus-of s A) (minus-of s A) (plus-of t B) (minus-of t B) i in
+      (plain-plus t B _ fb wy.plus) (plain-minus t B _ fb wy.minus) _ _ up more down (total-is (nearest_int a) (nearest_int b) up more down).is in
+      let d = days (total (nearest_int a) (nearest_int b) up more down) up more down (plus-of s A) (minus-of s A) (plus-of t B) (minus-of t B) i in
       let e1 = add-mul (minus-of s A + minus-of t B) down L ∙ ap (λ (z : ℕ). z + down * L) (add-mul (minus-of s A) (minus-of t B) L) in
       let e2 = add-mul (plus-of s A + plus-of t B) up L ∙ ap (λ (z : ℕ). z + up * L) (add-mul (plus-of s A) (plus-of t B) L) in
       record {
@@ -185,7 +185,7 @@ module _ (a b : Float) (w : WholeHalves a) (fb : T (fits binary64 b)) (sb : T (l
             (down * L) (up * L) ea eb e1 e2 o.high;
         zp = o.p;
         zn = o.n;
-        z-val = o.val;
+        z_val = o.val;
         val = vu;
         sum = sum_of _ _ _ _ (more * L) o.p o.n d (val-unique vu o.left);
       }
@@ -215,10 +215,10 @@ module _ (a b : Float) (w : WholeHalves a) (fb : T (fits binary64 b)) (sb : T (l
       go : AcceptedSum a b → Place a b (p + q) (n + m)
       go o =
           let k = o.near in
-          let ky = small k.Y (le-says L-pos (has-val (abs b) false k.Y L (abs-has b k.t k.Y L k.vy)) one-L sb) in
+          let ky = small k.Y (le_says L-pos (has-val (abs b) false k.Y L (abs-has b k.t k.Y L k.vy)) one-L sb) in
           let r = exact-sum a b _ _ _ _ (has-val a k.s k.X L k.vx) (has-val b k.t k.Y L k.vy) (accepted-lo a b acc) (accepted-hi a b acc) in
           let kx = first-size k.s k.t k.X k.Y ky r in
-          let g = second-size k.t k.Y k.B k.wy.numbers (second-of b k.t k.Y k.B k.vy k.wy ky) in
+          let g = second_size k.t k.Y k.B k.wy.numbers (second-of b k.t k.Y k.B k.vy k.wy ky) in
           from k.s k.t k.X k.Y k.A k.B o.units k.vx k.vy k.wx k.wy kx ky o.val
           (rounded (rest b) _ _ (rest-fits b) (left-off b k.t k.Y k.B k.vy k.wy (wide k.Y ky)) g.0 g.1 (rest a) _ _ (rest-fits a)
           (left-off a k.s k.X k.A k.vx k.wx kx) (first_of a w k.s k.X k.A k.vx k.wx kx))

@@ -15,7 +15,7 @@ use Rattle.floats.specs.Whole.{half, nought, abs}
 use Rattle.rounding.specs.Value.{Signed, Val, L}
 use Rattle.rounding.proofs.Value.{L-pos, rounds-move}
 use Rattle.rounding.proofs.Unique.{float-unique}
-use Rattle.julian.specs.day_number.DayNumber.{compensation, addFraction, sumFractions, joinedFractions}
+use Rattle.julian.specs.day_number.DayNumber.{compensation, add_fraction, sum_fractions, joined_fractions}
 use Rattle.julian.proofs.day_number.Units.{H, H-L, H-pos}
 use Rattle.julian.proofs.day_order.Once.{Once, nought-fits, half-fits, from-nought, from-half}
 
@@ -68,32 +68,32 @@ minus-half-has = (refl, refl)
 -- ---- what the second fraction is added to
 module _ (g : Float) where
   abbrev pub Rounded : Float → ℕ → ℕ → Type 0
-  Rounded f A B = Once (sumFractions f g).carry (joinedFractions f g).carry (joinedFractions f g).borrow (joinedFractions f g).fraction A B
+  Rounded f A B = Once (sum_fractions f g).carry (joined_fractions f g).carry (joined_fractions f g).borrow (joined_fractions f g).fraction A B
 
-  from-zero-of : sumFractions nought g ≡ addFraction 0 (record { sum = half; correction = nought }) g
-  unfolding sumFractions addFraction compensation le lt abs add sub
+  from-zero-of : sum_fractions nought g ≡ add_fraction 0 (record { sum = half; correction = nought }) g
+  unfolding sum_fractions add_fraction compensation le lt abs add sub
   from-zero-of = refl
 
-  from-minus-zero : sumFractions minus-nought g ≡ addFraction 0 (record { sum = half; correction = nought }) g
-  unfolding sumFractions addFraction compensation le lt abs add sub
+  from-minus-zero : sum_fractions minus-nought g ≡ add_fraction 0 (record { sum = half; correction = nought }) g
+  unfolding sum_fractions add_fraction compensation le lt abs add sub
   from-minus-zero = refl
 
-  from-plus-half : sumFractions half g ≡ addFraction 1 (record { sum = nought; correction = nought }) g
-  unfolding sumFractions addFraction compensation le lt abs add sub
+  from-plus-half : sum_fractions half g ≡ add_fraction 1 (record { sum = nought; correction = nought }) g
+  unfolding sum_fractions add_fraction compensation le lt abs add sub
   from-plus-half = refl
 
-  from-minus-half : sumFractions minus-half g ≡ addFraction 0 (record { sum = nought; correction = nought }) g
-  unfolding sumFractions addFraction compensation le lt abs add sub
+  from-minus-half : sum_fractions minus-half g ≡ add_fraction 0 (record { sum = nought; correction = nought }) g
+  unfolding sum_fractions add_fraction compensation le lt abs add sub
   from-minus-half = refl
 
 module _ (g : Float) (Q M : ℕ) (fg : T (fits binary64 g)) (vg : Val g Q M L) (g1 : M ≤ Q + H) (g2 : Q ≤ M + H) where
-  at-half : (f : Float) → sumFractions f g ≡ addFraction 0 (record { sum = half; correction = nought }) g → Rounded g f (0 * L + (H + Q)) M
-  unfolding joinedFractions
-  at-half f e = rw e (from-half g Q M 0 fg vg g1 g2)
+  at_half : (f : Float) → sum_fractions f g ≡ add_fraction 0 (record { sum = half; correction = nought }) g → Rounded g f (0 * L + (H + Q)) M
+  unfolding joined_fractions
+  at_half f e = rw e (from-half g Q M 0 fg vg g1 g2)
 
-  at-nought : (c : ℕ) (f : Float) → sumFractions f g ≡ addFraction c (record { sum = nought; correction = nought }) g → Rounded g f (c * L + Q) M
-  unfolding joinedFractions
-  at-nought c f e = rw e (from-nought g Q M c fg vg g1 g2)
+  at_nought : (c : ℕ) (f : Float) → sum_fractions f g ≡ add_fraction c (record { sum = nought; correction = nought }) g → Rounded g f (c * L + Q) M
+  unfolding joined_fractions
+  at_nought c f e = rw e (from-nought g Q M c fg vg g1 g2)
 
   -- a first fraction of 0, a half or minus a half
   pub rounded : (f : Float) (P N : ℕ) → T (fits binary64 f) → Val f P N L → (P ≡ N) ⊎ ((P ≡ N + H) ⊎ (N ≡ P + H)) → Rounded g f (H + P + Q) (N + M)
@@ -107,14 +107,14 @@ module _ (g : Float) (Q M : ℕ) (fg : T (fits binary64 g)) (vg : Val g Q M L) (
 
       go : (s : Bool) (a : ℕ) → HasValue f s a L → Signed s a P N → (P ≡ N) ⊎ ((P ≡ N + H) ⊎ (N ≡ P + H)) → Rounded g f (H + P + Q) (N + M)
       go false a h i (inl e) = by (0 * L + (H + Q)) M (float-unique f nought false 0 L L-pos ff nought-fits (sized false a 0 (omega arith) h) nought-has)
-          (at-half nought (from-zero-of g)) (omega (arith, zero-mul L))
+          (at_half nought (from-zero-of g)) (omega (arith, zero-mul L))
       go true a h i (inl e) = by (0 * L + (H + Q)) M
           (float-unique f minus-nought true 0 L L-pos ff minus-nought-fits (sized true a 0 (omega arith) h) minus-nought-has)
-          (at-half minus-nought (from-minus-zero g)) (omega (arith, zero-mul L))
+          (at_half minus-nought (from-minus-zero g)) (omega (arith, zero-mul L))
       go false a h i (inr (inl e)) = by (1 * L + Q) M (float-unique f half false H L L-pos ff half-fits (sized false a H (omega arith) h) half-has)
-          (at-nought 1 half (from-plus-half g)) (omega (arith, one-mul L, H-L))
+          (at_nought 1 half (from-plus-half g)) (omega (arith, one-mul L, H-L))
       go true a h i (inr (inl e)) = let w : ⊥ = omega (arith, H-pos) in absurd w
       go true a h i (inr (inr e)) = by (0 * L + Q) M
           (float-unique f minus-half true H L L-pos ff minus-half-fits (sized true a H (omega arith) h) minus-half-has)
-          (at-nought 0 minus-half (from-minus-half g)) (omega (arith, zero-mul L))
+          (at_nought 0 minus-half (from-minus-half g)) (omega (arith, zero-mul L))
       go false a h i (inr (inr e)) = let w : ⊥ = omega (arith, H-pos) in absurd w

@@ -1,11 +1,11 @@
 -- `julian::exact_sum` meets its contract. Assumes nothing.
 use mathlib.Core.Path.{refl}
-use Rattle.julian.specs.Equality.{exactSum, twoSumError}
+use Rattle.julian.specs.Equality.{exact_sum, two_sum_error}
 use Rattle.julian.proofs.exact_sum.Statement.{statement}
 use Rattle.julian.proofs.exact_sum.Tie as tie
 
 returns : tie.Need-returns
-unfolding exactSum twoSumError
+unfolding exact_sum two_sum_error
 returns c = refl
 
 pub exact-sum-spec : {M : Type 1} → statement M

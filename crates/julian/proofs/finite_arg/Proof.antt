@@ -1,16 +1,16 @@
 -- `julian::finite_arg` meets its contract. Assumes nothing.
 use mathlib.Core.Path.{sym, ◌∙◌}
 use borrow.Author.Rules.{rules}
-use Rattle.julian.specs.Finite.{offsetOutcome, finiteArg}
+use Rattle.julian.specs.Finite.{offset_outcome, finite_arg}
 use Rattle.julian.proofs.finite_arg.Statement.{statement}
 use Rattle.julian.proofs.finite_arg.Tie as tie
 
 returns : tie.Need-returns
-unfolding offsetOutcome finiteArg
+unfolding offset_outcome finite_arg
 returns c = rw (sym c.before.is_finite.ensures ∙ c.if1.true)
 
 returns-2 : tie.Need-returns-2
-unfolding offsetOutcome finiteArg
+unfolding offset_outcome finite_arg
 returns-2 c = rw (sym c.before.is_finite.ensures ∙ c.if1.false)
 
 pub finite-arg-spec : {M : Type 1} → statement M

@@ -1,17 +1,17 @@
 -- `julian::finite_jd` meets its contract. Assumes nothing.
 use mathlib.Core.Path.{sym, ◌∙◌}
 use borrow.Author.Rules.{rules}
-use Rattle.julian.specs.Finite.{finiteJd}
-use Rattle.julian.specs.JulianDate.{julianOutcome}
+use Rattle.julian.specs.Finite.{finite_jd}
+use Rattle.julian.specs.JulianDate.{julian_outcome}
 use Rattle.julian.proofs.finite_jd.Statement.{statement}
 use Rattle.julian.proofs.finite_jd.Tie as tie
 
 returns : tie.Need-returns
-unfolding julianOutcome finiteJd
+unfolding julian_outcome finite_jd
 returns c = rw (sym c.before.both-finite.ensures ∙ c.if1.true)
 
 returns-2 : tie.Need-returns-2
-unfolding julianOutcome finiteJd
+unfolding julian_outcome finite_jd
 returns-2 c = rw (sym c.before.both-finite.ensures ∙ c.if1.false)
 
 pub finite-jd-spec : {M : Type 1} → statement M

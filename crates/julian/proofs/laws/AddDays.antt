@@ -10,12 +10,12 @@ use lib.Ieee.{Float, nan, inf, fin, binary64, up, down, round}
 use lib.Ieee.Exact.{HasValue}
 use lib.Ieee.Fits.{down_pos}
 use lib.Ieee.Nearest.{div_same}
-use Rattle.floats.specs.Whole.{toWhole, cut}
+use Rattle.floats.specs.Whole.{to_whole, cut}
 use Rattle.rounding.specs.Value.{Signed, Val}
 use Rattle.rounding.proofs.Value.{val-scale}
-use Rattle.rounding.proofs.Exact.{exact-has, add-exact, sub-exact}
+use Rattle.rounding.proofs.Exact.{exact-has, add_exact, sub_exact}
 use Rattle.julian.specs.declared.JulianDate.{JulianDate}
-use Rattle.julian.specs.JulianDate.{uncarried, addDays}
+use Rattle.julian.specs.JulianDate.{uncarried, add_days}
 use Rattle.julian.specs.Worth.{Worth}
 
 -- ---- a float cut to a whole number
@@ -38,11 +38,11 @@ size_of : (K a D p n : ℕ) (s : Bool) → Signed s a p n → p ≤ n + K * D �
 size_of K a D p n false i h k = omega arith
 size_of K a D p n true i h k = omega arith
 
-pub cut-to : (K : ℕ) {x : Float} {p n D : ℕ} → K ≤ 2 ^ 53 → 0 < D → p ≤ n + K * D → n ≤ p + K * D → Val x p n D → CutTo (toWhole cut x) p n D K
-unfolding toWhole
+pub cut-to : (K : ℕ) {x : Float} {p n D : ℕ} → K ≤ 2 ^ 53 → 0 < D → p ≤ n + K * D → n ≤ p + K * D → Val x p n D → CutTo (to_whole cut x) p n D K
+unfolding to_whole
 cut-to K {x} {p} {n} {D} most some h k v = go x v.sign v.size v.has v.is
   where
-    go : (x : Float) (s : Bool) (a : ℕ) → HasValue x s a D → Signed s a p n → CutTo (toWhole cut x) p n D K
+    go : (x : Float) (s : Bool) (a : ℕ) → HasValue x s a D → Signed s a p n → CutTo (to_whole cut x) p n D K
     go nan s a w i = absurd w
     go (inf t) s a w i = absurd w
     go (fin t m e) s a w i =
@@ -86,17 +86,17 @@ cut-to K {x} {p} {n} {D} most some h k v = go x v.sign v.size v.has v.is
 module _ (d : JulianDate) (days : Float) (p n q m a b : ℕ) (v1 : Val d.jd1 p n 2) (h1 : p ≤ n + 2 ^ 52) (l1 : n ≤ p + 2 ^ 52)
     (v2 : Val d.jd2 q m (2 ^ 52)) (h2 : q ≤ m + 2 ^ 52) (l2 : m ≤ q + 2 ^ 52)
     (v3 : Val days a b (2 ^ 52)) (h3 : a ≤ b + 2 ^ 50 * 2 ^ 52) (l3 : b ≤ a + 2 ^ 50 * 2 ^ 52) where
-  pub add-days-exact : Worth (addDays d days) (p * 2 ^ 51 + q + a) (n * 2 ^ 51 + m + b) (2 ^ 52)
-  unfolding addDays uncarried
-  add-days-exact = at-whole (cut-to (2 ^ 50) (lit≤ tt) (lit< tt) h3 l3 v3)
+  pub add_days_exact : Worth (add_days d days) (p * 2 ^ 51 + q + a) (n * 2 ^ 51 + m + b) (2 ^ 52)
+  unfolding add_days uncarried
+  add_days_exact = at_whole (cut-to (2 ^ 50) (lit≤ tt) (lit< tt) h3 l3 v3)
     where
-      at-carry : (w : CutTo (toWhole cut days) a b (2 ^ 52) (2 ^ 50)) → Val (uncarried d days) (q + (a + w.tn * 2 ^ 52)) (m + (b + w.tp * 2 ^ 52)) (2 ^ 52)
-          → CutTo (toWhole cut (uncarried d days)) (q + (a + w.tn * 2 ^ 52)) (m + (b + w.tp * 2 ^ 52)) (2 ^ 52) 2
-          → Worth (addDays d days) (p * 2 ^ 51 + q + a) (n * 2 ^ 51 + m + b) (2 ^ 52)
-      at-carry w u c =
-          let t = add-exact 0 (lit≤ tt) (omega (arith, w.high, c.high)) (omega (arith, w.low, c.low)) w.val c.val in
-          let j = add-exact 1 (lit≤ tt) (omega (arith, w.high, c.high)) (omega (arith, w.low, c.low)) v1 (val-scale 2 t) in
-          let k = sub-exact 52 (lit≤ tt) (omega (arith, c.over, c.under)) (omega (arith, c.over, c.under)) u (val-scale (2 ^ 52) c.val) in
+      at_carry : (w : CutTo (to_whole cut days) a b (2 ^ 52) (2 ^ 50)) → Val (uncarried d days) (q + (a + w.tn * 2 ^ 52)) (m + (b + w.tp * 2 ^ 52)) (2 ^ 52)
+          → CutTo (to_whole cut (uncarried d days)) (q + (a + w.tn * 2 ^ 52)) (m + (b + w.tp * 2 ^ 52)) (2 ^ 52) 2
+          → Worth (add_days d days) (p * 2 ^ 51 + q + a) (n * 2 ^ 51 + m + b) (2 ^ 52)
+      at_carry w u c =
+          let t = add_exact 0 (lit≤ tt) (omega (arith, w.high, c.high)) (omega (arith, w.low, c.low)) w.val c.val in
+          let j = add_exact 1 (lit≤ tt) (omega (arith, w.high, c.high)) (omega (arith, w.low, c.low)) v1 (val-scale 2 t) in
+          let k = sub_exact 52 (lit≤ tt) (omega (arith, c.over, c.under)) (omega (arith, c.over, c.under)) u (val-scale (2 ^ 52) c.val) in
           record {
             p = (p + (w.tp + c.tp) * 2) * 2 ^ 51;
             n = (n + (w.tn + c.tn) * 2) * 2 ^ 51;
@@ -107,8 +107,8 @@ module _ (d : JulianDate) (days : Float) (p n q m a b : ℕ) (v1 : Val d.jd1 p n
             total = omega arith;
           }
 
-      at-whole : CutTo (toWhole cut days) a b (2 ^ 52) (2 ^ 50) → Worth (addDays d days) (p * 2 ^ 51 + q + a) (n * 2 ^ 51 + m + b) (2 ^ 52)
-      at-whole w =
-          let f = sub-exact 52 (lit≤ tt) (omega (arith, w.over, w.under)) (omega (arith, w.over, w.under)) v3 (val-scale (2 ^ 52) w.val) in
-          let u = add-exact 52 (lit≤ tt) (omega (arith, w.over, w.under)) (omega (arith, w.over, w.under)) v2 f in
-          at-carry w u (cut-to 2 (lit≤ tt) (lit< tt) (omega (arith, w.over, w.under)) (omega (arith, w.over, w.under)) u)
+      at_whole : CutTo (to_whole cut days) a b (2 ^ 52) (2 ^ 50) → Worth (add_days d days) (p * 2 ^ 51 + q + a) (n * 2 ^ 51 + m + b) (2 ^ 52)
+      at_whole w =
+          let f = sub_exact 52 (lit≤ tt) (omega (arith, w.over, w.under)) (omega (arith, w.over, w.under)) v3 (val-scale (2 ^ 52) w.val) in
+          let u = add_exact 52 (lit≤ tt) (omega (arith, w.over, w.under)) (omega (arith, w.over, w.under)) v2 f in
+          at_carry w u (cut-to 2 (lit≤ tt) (lit< tt) (omega (arith, w.over, w.under)) (omega (arith, w.over, w.under)) u)

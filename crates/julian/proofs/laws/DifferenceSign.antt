@@ -9,10 +9,10 @@ use lib.Dec.{T, lit≤}
 use lib.Ieee.{Float, nan, inf, fin, binary64, round, neg, add, sub, le}
 use Rattle.floats.specs.Whole.{nought}
 use Rattle.rounding.specs.Value.{Val, Rounds, Under52, L}
-use Rattle.rounding.proofs.Value.{L-pos, neg-val, add_rounds, sub-rounds}
+use Rattle.rounding.proofs.Value.{L-pos, neg_val, add_rounds, sub_rounds}
 use Rattle.rounding.proofs.Signed.{signed-not}
-use Rattle.rounding.proofs.Bound.{round-neg, rounds-mono}
-use Rattle.rounding.proofs.Compare.{le-says}
+use Rattle.rounding.proofs.Bound.{round_neg, rounds-mono}
+use Rattle.rounding.proofs.Compare.{le_says}
 use Rattle.rounding.proofs.Sizes.{under-size}
 use Rattle.julian.specs.declared.JulianDate.{JulianDate}
 use Rattle.julian.specs.JulianDate.{difference}
@@ -21,17 +21,17 @@ use Rattle.julian.proofs.laws.Steps.{step-sub}
 
 -- ---- a rounded number and its opposite
 
-neg-neg : (x : Float) → neg (neg x) ≡ x
+neg_neg : (x : Float) → neg (neg x) ≡ x
 unfolding neg
-neg-neg nan = refl
-neg-neg (inf true) = refl
-neg-neg (inf false) = refl
-neg-neg (fin true m e) = refl
-neg-neg (fin false m e) = refl
+neg_neg nan = refl
+neg_neg (inf true) = refl
+neg_neg (inf false) = refl
+neg_neg (fin true m e) = refl
+neg_neg (fin false m e) = refl
 
 turned : (s : Bool) (a D : ℕ) → neg (round binary64 s a D) ≡ round binary64 (not s) a D
-turned false a D = sym (round-neg binary64 a D)
-turned true a D = ap neg (round-neg binary64 a D) ∙ neg-neg (round binary64 false a D)
+turned false a D = sym (round_neg binary64 a D)
+turned true a D = ap neg (round_neg binary64 a D) ∙ neg_neg (round binary64 false a D)
 
 rounds-neg : {z : Float} {P N D : ℕ} → Rounds binary64 z P N D → Rounds binary64 (neg z) N P D
 rounds-neg {z} {P} {N} {D} r = record {
@@ -69,17 +69,17 @@ times P N Q M h = go (P * L + M * L) (Q * L + N * L) ((P + M) * L) ((Q + N) * L)
     go x y s t i j h = omega arith
 
 module _ {x y : Float} {P N Q M : ℕ} (fx : Finite x) (fy : Finite y) (rx : Rounds binary64 x P N L) (ry : Rounds binary64 y Q M L) where
-  not-above : P + Q ≤ M + N → T (le (add binary64 x y) nought)
-  not-above h =
-      let l = le-says L-pos fx.val (neg-val fy.val) (rounds-mono L-pos L-pos (times P N M Q h) rx (rounds-neg ry)) in
+  not_above : P + Q ≤ M + N → T (le (add binary64 x y) nought)
+  not_above h =
+      let l = le_says L-pos fx.val (neg_val fy.val) (rounds-mono L-pos L-pos (times P N M Q h) rx (rounds-neg ry)) in
       rounds-mono L-pos L-pos (times (fx.p + fy.p) (fx.n + fy.n) 0 0 (low _ _ _ _ l)) (add_rounds binary64 L-pos fx.val fy.val) nought-rounds
     where
       low : (a b c d : ℕ) → a + b ≤ c + d → a + b + 0 ≤ 0 + (d + c)
       low a b c d h = omega arith
 
-  not-below : M + N ≤ P + Q → T (le nought (add binary64 x y))
-  not-below h =
-      let l = le-says L-pos (neg-val fy.val) fx.val (rounds-mono L-pos L-pos (times M Q P N h) (rounds-neg ry) rx) in
+  not_below : M + N ≤ P + Q → T (le nought (add binary64 x y))
+  not_below h =
+      let l = le_says L-pos (neg_val fy.val) fx.val (rounds-mono L-pos L-pos (times M Q P N h) (rounds-neg ry) rx) in
       rounds-mono L-pos L-pos (times 0 0 (fx.p + fy.p) (fx.n + fy.n) (high _ _ _ _ l)) nought-rounds (add_rounds binary64 L-pos fx.val fy.val)
     where
       high : (a b c d : ℕ) → a + b ≤ c + d → 0 + (b + a) ≤ c + d + 0
@@ -89,15 +89,15 @@ module _ {x y : Float} {P N Q M : ℕ} (fx : Finite x) (fy : Finite y) (rx : Rou
 
 module _ (d e : JulianDate) (P N Q M : ℕ) (s : SmallParts d) (t : SmallParts e) (v : Worth d P N L) (w : Worth e Q M L) where
   -- d is not later than e
-  pub not-later-not-above : P + M ≤ Q + N → T (le (difference d e) nought)
+  pub not_later_not_above : P + M ≤ Q + N → T (le (difference d e) nought)
   unfolding difference
-  not-later-not-above h =
-      not-above (part-less s.first t.first) (part-less s.second t.second) (sub-rounds binary64 L-pos v.first w.first)
-      (sub-rounds binary64 L-pos v.second w.second) (omega (arith, v.total, w.total))
+  not_later_not_above h =
+      not_above (part-less s.first t.first) (part-less s.second t.second) (sub_rounds binary64 L-pos v.first w.first)
+      (sub_rounds binary64 L-pos v.second w.second) (omega (arith, v.total, w.total))
 
   -- d is not earlier than e
-  pub not-earlier-not-below : Q + N ≤ P + M → T (le nought (difference d e))
+  pub not_earlier_not_below : Q + N ≤ P + M → T (le nought (difference d e))
   unfolding difference
-  not-earlier-not-below h =
-      not-below (part-less s.first t.first) (part-less s.second t.second) (sub-rounds binary64 L-pos v.first w.first)
-      (sub-rounds binary64 L-pos v.second w.second) (omega (arith, v.total, w.total))
+  not_earlier_not_below h =
+      not_below (part-less s.first t.first) (part-less s.second t.second) (sub_rounds binary64 L-pos v.first w.first)
+      (sub_rounds binary64 L-pos v.second w.second) (omega (arith, v.total, w.total))

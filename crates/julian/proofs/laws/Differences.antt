@@ -8,10 +8,10 @@ use lib.Dec.{lit≤}
 use lib.Ieee.{binary64, sub}
 use Rattle.rounding.specs.Value.{Val, L}
 use Rattle.rounding.proofs.Value.{L-pos}
-use Rattle.rounding.proofs.Exact.{sub-exact}
+use Rattle.rounding.proofs.Exact.{sub_exact}
 use Rattle.julian.specs.declared.JulianDate.{JulianDate}
 use Rattle.julian.specs.JulianDate.{difference}
-use Rattle.rounding.specs.Picoseconds.{dayPs}
+use Rattle.rounding.specs.Picoseconds.{day_ps}
 use Rattle.julian.specs.laws.Distances.{UpTo, HalfDays, DifferenceNear}
 use Rattle.julian.proofs.laws.Steps.{E, L-E, H, L-H, half-val, step-add, step-sub, within_of, worth-of}
 
@@ -47,7 +47,7 @@ difference-near d e a b c f =
       });
     }
   where
-    bound : (e l : ℕ) → l ≡ 18014398509481984 * e → dayPs * (33554436 * e) ≤ 161000000 * l
+    bound : (e l : ℕ) → l ≡ 18014398509481984 * e → day_ps * (33554436 * e) ≤ 161000000 * l
     bound e l h = omega arith
 
 -- ---- first parts in half days
@@ -58,7 +58,7 @@ module _ (d e : JulianDate) (a : HalfDays (2 ^ 50) d.jd1) (b : UpTo 1 d.jd2) (c 
   firsts : Val (sub binary64 d.jd1 e.jd1) (a.p * H + c.n * H) (a.n * H + c.p * H) L
   firsts =
       subst₂ (λ (x y : ℕ). Val (sub binary64 d.jd1 e.jd1) x y L) (add-mul a.p c.n H) (add-mul a.n c.p H)
-      (half-val (sub-exact 1 (lit≤ tt) (omega arith) (omega arith) a.val c.val))
+      (half-val (sub_exact 1 (lit≤ tt) (omega arith) (omega arith) a.val c.val))
 
   apart : (p n q m : ℕ) → p + m ≤ n + q + 2 → p * H + m * H ≤ n * H + q * H + L
   apart p n q m h = go (p + m) (n + q) (p * H + m * H) (n * H + q * H) (sym (add-mul p m H)) (sym (add-mul n q H)) h
@@ -96,7 +96,7 @@ module _ (d e : JulianDate) (a : HalfDays (2 ^ 50) d.jd1) (b : UpTo 1 d.jd2) (c 
         });
       }
     where
-      bound : (e l : ℕ) → l ≡ 18014398509481984 * e → dayPs * (8 * e) ≤ 39 * l
+      bound : (e l : ℕ) → l ≡ 18014398509481984 * e → day_ps * (8 * e) ≤ 39 * l
       bound e l h = omega arith
 
       total_of : (x x' u u' z w p n q m l e : ℕ) → l ≡ 18014398509481984 * e → 0 < l → x + x' ≤ u + u' + l → p ≤ n + 1 * l → m ≤ q + 1 * l

@@ -10,11 +10,11 @@ use lib.Ieee.{Float, fin, round}
 use Rattle.rounding.specs.Value.{Val, L}
 use Rattle.rounding.proofs.Sizes.{whole_val}
 use Rattle.constants.specs.Constants.{decimal}
-use Rattle.julian.specs.JulianDate.{julian, addDays, addSeconds}
-use Rattle.julian.specs.JulianYear.{toJulianYear, fromJulianYear}
+use Rattle.julian.specs.JulianDate.{julian, add_days, add_seconds}
+use Rattle.julian.specs.JulianYear.{to_julian_year, from_julian_year}
 use Rattle.julian.specs.laws.Distances.{UpTo, HalfDays, LaterBy, DifferenceNear, YearOf, DateOfYear}
 use Rattle.julian.proofs.laws.JulianYears.{julian-year-near, year-date-near}
-use Rattle.julian.proofs.laws.AddSeconds.{add-days-near, add-seconds-near, add-many-seconds-near}
+use Rattle.julian.proofs.laws.AddSeconds.{add_days_near, add_seconds_near, add_many_seconds_near}
 use Rattle.julian.proofs.laws.Differences.{difference-near, difference-short}
 
 -- ---- the floats
@@ -43,45 +43,45 @@ unfolding round
 billion = whole-up-to 1000000000 (record { sign = false; size = 1000000000; has = (refl, refl); is = refl })
 
 -- 2 ^ 50 and 2 ^ 49 days
-abbrev pub far-midnight : Float
-far-midnight = fin false 1 (pos 50)
+abbrev pub far_midnight : Float
+far_midnight = fin false 1 (pos 50)
 
-abbrev pub far-days : Float
-far-days = fin false 1 (pos 49)
+abbrev pub far_days : Float
+far_days = fin false 1 (pos 49)
 
-half-days : HalfDays (2 ^ 50) far-midnight
+half-days : HalfDays (2 ^ 50) far_midnight
 half-days = record { p = 2 ^ 51; n = 0; val = record { sign = false; size = 2 ^ 51; has = (refl, refl); is = refl }; high = lit≤ tt; low = lit≤ tt }
 
-far : UpTo (2 ^ 49) far-days
+far : UpTo (2 ^ 49) far_days
 far = whole-up-to (2 ^ 49) (record { sign = false; size = 2 ^ 49; has = (refl, refl); is = refl })
 
 -- ---- the theorems there
 
-pub year-at-the-end : YearOf 15 (julian (decimal 8000000 0) (decimal 8000000 0)) (toJulianYear (julian (decimal 8000000 0) (decimal 8000000 0)))
+pub year-at-the-end : YearOf 15 (julian (decimal 8000000 0) (decimal 8000000 0)) (to_julian_year (julian (decimal 8000000 0) (decimal 8000000 0)))
 year-at-the-end = julian-year-near (julian (decimal 8000000 0) (decimal 8000000 0)) many-years many-years
 
-pub date-of-year-20000 : DateOfYear 138000000 (decimal 20000 0) (fromJulianYear (decimal 20000 0))
+pub date-of-year-20000 : DateOfYear 138000000 (decimal 20000 0) (from_julian_year (decimal 20000 0))
 date-of-year-20000 = year-date-near (decimal 20000 0) year-20000
 
 pub difference-at-the-end : DifferenceNear 161000000 (julian (decimal 8000000 0) (decimal 1 0)) (julian (decimal 8000000 0) (decimal 1 0))
 difference-at-the-end = difference-near (julian (decimal 8000000 0) (decimal 1 0)) (julian (decimal 8000000 0) (decimal 1 0)) many-years one-day many-years
     one-day
 
-pub short-at-the-end : DifferenceNear 39 (julian far-midnight (decimal 1 0)) (julian far-midnight (decimal 1 0))
+pub short-at-the-end : DifferenceNear 39 (julian far_midnight (decimal 1 0)) (julian far_midnight (decimal 1 0))
 unfolding half-days
-short-at-the-end = difference-short (julian far-midnight (decimal 1 0)) (julian far-midnight (decimal 1 0)) half-days one-day half-days one-day (lit≤ tt)
+short-at-the-end = difference-short (julian far_midnight (decimal 1 0)) (julian far_midnight (decimal 1 0)) half-days one-day half-days one-day (lit≤ tt)
     (lit≤ tt)
 
-pub days-at-the-end : LaterBy 29 (2 ^ 49 * L) (0 * L) 1 (julian far-midnight (decimal 1 0)) (addDays (julian far-midnight (decimal 1 0)) far-days)
+pub days-at-the-end : LaterBy 29 (2 ^ 49 * L) (0 * L) 1 (julian far_midnight (decimal 1 0)) (add_days (julian far_midnight (decimal 1 0)) far_days)
 unfolding far whole-up-to
-days-at-the-end = add-days-near (julian far-midnight (decimal 1 0)) far-days half-days one-day far
+days-at-the-end = add_days_near (julian far_midnight (decimal 1 0)) far_days half-days one-day far
 
-pub seconds-at-the-end : LaterBy 39 (86400 * L) (0 * L) 86400 (julian far-midnight (decimal 1 0))
-    (addSeconds (julian far-midnight (decimal 1 0)) (decimal 86400 0))
+pub seconds-at-the-end : LaterBy 39 (86400 * L) (0 * L) 86400 (julian far_midnight (decimal 1 0))
+    (add_seconds (julian far_midnight (decimal 1 0)) (decimal 86400 0))
 unfolding day-of-seconds whole-up-to
-seconds-at-the-end = add-seconds-near (julian far-midnight (decimal 1 0)) (decimal 86400 0) half-days one-day day-of-seconds
+seconds-at-the-end = add_seconds_near (julian far_midnight (decimal 1 0)) (decimal 86400 0) half-days one-day day-of-seconds
 
-pub billion-at-the-end : LaterBy 78610 (1000000000 * L) (0 * L) 86400 (julian far-midnight (decimal 1 0))
-    (addSeconds (julian far-midnight (decimal 1 0)) (decimal 1000000000 0))
+pub billion_at_the_end : LaterBy 78610 (1000000000 * L) (0 * L) 86400 (julian far_midnight (decimal 1 0))
+    (add_seconds (julian far_midnight (decimal 1 0)) (decimal 1000000000 0))
 unfolding billion whole-up-to
-billion-at-the-end = add-many-seconds-near (julian far-midnight (decimal 1 0)) (decimal 1000000000 0) half-days one-day billion
+billion_at_the_end = add_many_seconds_near (julian far_midnight (decimal 1 0)) (decimal 1000000000 0) half-days one-day billion

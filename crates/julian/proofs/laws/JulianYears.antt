@@ -9,26 +9,26 @@ use lib.Ieee.{Float, binary64, round, add, sub, neg}
 use Rattle.rounding.specs.Value.{Val, L}
 use Rattle.rounding.proofs.Value.{L-pos}
 use Rattle.rounding.proofs.Sizes.{whole_val}
-use Rattle.constants.specs.Constants.{decimal, daysPerJulianYear, j2000Jd, mjdZeroPoint}
+use Rattle.constants.specs.Constants.{decimal, days_per_julian_year, j2000_jd, mjd_zero_point}
 use Rattle.julian.specs.declared.JulianDate.{JulianDate}
-use Rattle.julian.proofs.Midnights.{zero-point-val}
-use Rattle.julian.specs.JulianYear.{toJulianYear, fromJulianYear}
-use Rattle.rounding.specs.Picoseconds.{dayPs}
+use Rattle.julian.proofs.Midnights.{zero_point_val}
+use Rattle.julian.specs.JulianYear.{to_julian_year, from_julian_year}
+use Rattle.rounding.specs.Picoseconds.{day_ps}
 use Rattle.julian.specs.laws.Distances.{UpTo, YearOf, DateOfYear}
 use Rattle.julian.proofs.laws.Steps.{E, L-E, H, L-H, half-val, step-add, step-sub, step-mul, step-div, worth-of}
 
 -- ---- the constants: J2000.0, the year 2000, and 365.25 = 1461 / 4
 
-j2000-val : Val j2000Jd (2451545 * L) (0 * L) L
-unfolding j2000Jd round
-j2000-val = whole_val (record { sign = false; size = 2451545; has = (refl, refl); is = refl })
+j2000_val : Val j2000_jd (2451545 * L) (0 * L) L
+unfolding j2000_jd round
+j2000_val = whole_val (record { sign = false; size = 2451545; has = (refl, refl); is = refl })
 
 year-2000-val : Val (decimal 2000 0) (2000 * L) (0 * L) L
 unfolding round
 year-2000-val = whole_val (record { sign = false; size = 2000; has = (refl, refl); is = refl })
 
-year-val : Val daysPerJulianYear 1461 0 4
-unfolding daysPerJulianYear round
+year-val : Val days_per_julian_year 1461 0 4
+unfolding days_per_julian_year round
 year-val = record { sign = false; size = 1461; has = (refl, refl); is = refl }
 
 -- ---- the year of a date
@@ -46,10 +46,10 @@ to-year-low : (p n q m p1 n1 p2 n2 p3 n3 a b l e : ℕ) → l ≡ 18014398509481
 to-year-low p n q m p1 n1 p2 n2 p3 n3 a b l e h x1 x2 x3 x4 = omega arith
 
 -- THE YEAR OF A DATE, for parts of at most 8,000,000 days in size (to the year 17,000, and as far before)
-pub julian-year-near : (d : JulianDate) → UpTo 8000000 d.jd1 → UpTo 8000000 d.jd2 → YearOf 15 d (toJulianYear d)
-unfolding toJulianYear
+pub julian-year-near : (d : JulianDate) → UpTo 8000000 d.jd1 → UpTo 8000000 d.jd2 → YearOf 15 d (to_julian_year d)
+unfolding to_julian_year
 julian-year-near d s t =
-    let x1 = step-sub 24 (lit≤ tt) (omega (arith, s.high, L-pos)) (omega (arith, s.low, L-pos)) s.val j2000-val in
+    let x1 = step-sub 24 (lit≤ tt) (omega (arith, s.high, L-pos)) (omega (arith, s.low, L-pos)) s.val j2000_val in
     let x2 = step-add 25 (lit≤ tt) (omega (arith, s.high, t.high, x1.over, L-pos, L-E)) (omega (arith, s.low, t.low, x1.under, L-pos, L-E)) x1.val
     t.val in
     let x3 = step-div 16 {B = 4} {C = 1461} (lit< tt) (lit< tt) (lit≤ tt) (omega (arith, s.high, t.high, x1.over, x2.over, L-pos, L-E))
@@ -72,9 +72,9 @@ julian-year-near d s t =
 -- ---- the date of a year
 
 -- 51544.5, the Modified Julian Date of J2000.0
-j2000-mjd-val : Val (sub binary64 j2000Jd mjdZeroPoint) 103089 0 2
-unfolding j2000Jd mjdZeroPoint sub neg add round
-j2000-mjd-val = record { sign = false; size = 103089; has = (refl, refl); is = refl }
+j2000_mjd_val : Val (sub binary64 j2000_jd mjd_zero_point) 103089 0 2
+unfolding j2000_jd mjd_zero_point sub neg add round
+j2000_mjd_val = record { sign = false; size = 103089; has = (refl, refl); is = refl }
 
 -- in units, with h for half a day, and then in picoseconds
 from-year : (p n p1 n1 p2 n2 p3 n3 l h e : ℕ) → l ≡ 2 * h → p1 + (n + 2000 * l) ≤ n1 + (p + 0 * l) + 2 ^ 15 * e
@@ -87,25 +87,25 @@ from-year-low : (p n p1 n1 p2 n2 p3 n3 l h e : ℕ) → l ≡ 2 * h → n1 + (p 
     → 4 * (0 * h + n3 + 2451545 * l) + 1461 * p ≤ 4 * (4800001 * h + p3) + 1461 * (n + 2000 * l) + 114982912 * e
 from-year-low p n p1 n1 p2 n2 p3 n3 l h e k x1 x2 x3 = omega arith
 
-in-picoseconds : (x y l e : ℕ) → l ≡ 18014398509481984 * e → x ≤ y + 114982912 * e → dayPs * x ≤ dayPs * y + 138000000 * (4 * l)
-in-picoseconds x y l e h k = omega arith
+in_picoseconds : (x y l e : ℕ) → l ≡ 18014398509481984 * e → x ≤ y + 114982912 * e → day_ps * x ≤ day_ps * y + 138000000 * (4 * l)
+in_picoseconds x y l e h k = omega arith
 
 -- THE DATE OF A YEAR, for years of at most 20,000 in size
-pub year-date-near : (year : Float) → UpTo 20000 year → DateOfYear 138000000 year (fromJulianYear year)
-unfolding fromJulianYear
+pub year-date-near : (year : Float) → UpTo 20000 year → DateOfYear 138000000 year (from_julian_year year)
+unfolding from_julian_year
 year-date-near year s =
     let x1 = step-sub 15 (lit≤ tt) (omega (arith, s.high, L-pos)) (omega (arith, s.low, L-pos)) s.val year-2000-val in
     let x2 = step-mul 23 (lit< tt) (lit≤ tt) (omega (arith, s.high, x1.over, L-pos, L-E)) (omega (arith, s.low, x1.under, L-pos, L-E)) x1.val year-val in
     let x3 = step-add 23 (lit≤ tt) (omega (arith, s.high, x1.over, x2.over, L-pos, L-E)) (omega (arith, s.low, x1.under, x2.under, L-pos, L-E))
-    (half-val j2000-mjd-val) x2.val in
+    (half-val j2000_mjd_val) x2.val in
     record {
       p = 4800001 * H + x3.p;
       n = 0 * H + x3.n;
       a = s.p;
       b = s.n;
-      worth = worth-of (half-val zero-point-val) x3.val;
+      worth = worth-of (half-val zero_point_val) x3.val;
       val = s.val;
-      over = in-picoseconds _ _ L E L-E (from-year s.p s.n x1.p x1.n x2.p x2.n x3.p x3.n L H E L-H x1.over x2.over x3.over);
-      under = in-picoseconds _ _ L E L-E
+      over = in_picoseconds _ _ L E L-E (from-year s.p s.n x1.p x1.n x2.p x2.n x3.p x3.n L H E L-H x1.over x2.over x3.over);
+      under = in_picoseconds _ _ L E L-E
           (from-year-low s.p s.n x1.p x1.n x2.p x2.n x3.p x3.n L H E L-H x1.under x2.under x3.under);
     }

@@ -20,24 +20,24 @@ abbrev pub integer : ℤ → ℤ
 integer (pos n) = pos (number n)
 integer (negsuc n) = negsuc (number n)
 
-integer-is : (z : ℤ) → integer z ≡ z
-integer-is (pos n) = ap pos (number_is n)
-integer-is (negsuc n) = ap negsuc (number_is n)
+integer_is : (z : ℤ) → integer z ≡ z
+integer_is (pos n) = ap pos (number_is n)
+integer_is (negsuc n) = ap negsuc (number_is n)
 
 abbrev pub floating : Float → Float
 floating nan = nan
 floating (inf s) = inf s
 floating (fin s m e) = fin s (number m) (integer e)
 
-pub floating-is : (x : Float) → floating x ≡ x
-floating-is nan = refl
-floating-is (inf s) = refl
-floating-is (fin s m e) = λ i. fin s (number_is m i) (integer-is e i)
+pub floating_is : (x : Float) → floating x ≡ x
+floating_is nan = refl
+floating_is (inf s) = refl
+floating_is (fin s m e) = λ i. fin s (number_is m i) (integer_is e i)
 
-abbrev pub literalDate : Outcome JulianDate → Outcome JulianDate
-literalDate (answer d) = answer (julian (floating d.jd1) (floating d.jd2))
-literalDate (refusal n) = refusal n
+abbrev pub literal_date : Outcome JulianDate → Outcome JulianDate
+literal_date (answer d) = answer (julian (floating d.jd1) (floating d.jd2))
+literal_date (refusal n) = refusal n
 
-pub literal-date-is : (o : Outcome JulianDate) → literalDate o ≡ o
-literal-date-is (answer d) = λ i. answer (julian (floating-is d.jd1 i) (floating-is d.jd2 i))
-literal-date-is (refusal n) = refl
+pub literal_date_is : (o : Outcome JulianDate) → literal_date o ≡ o
+literal_date_is (answer d) = λ i. answer (julian (floating_is d.jd1 i) (floating_is d.jd2 i))
+literal_date_is (refusal n) = refl

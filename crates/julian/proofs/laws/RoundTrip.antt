@@ -15,33 +15,33 @@ use Rattle.refusals.specs.Outcome.{answer, onward}
 use Rattle.floats.specs.Whole.{nought}
 use Rattle.rounding.specs.Value.{Val}
 use Rattle.rounding.proofs.Value.{val-move, val-scale}
-use Rattle.rounding.proofs.Casts.{plusZ, minusZ, one_side, add-pair, sub-pair, pair-le}
-use Rattle.constants.specs.Constants.{mjdZeroPoint, secondsPerDay}
+use Rattle.rounding.proofs.Casts.{plus_z, minus_z, one_side, add_pair, sub_pair, pair_le}
+use Rattle.constants.specs.Constants.{mjd_zero_point, seconds_per_day}
 use Rattle.calendar.specs.declared.CalendarDate.{CalendarDate}
 use Rattle.calendar.specs.Calendar.{date}
-use Rattle.calendar.specs.Gregorian.{gregorianDate}
-use Rattle.calendar.specs.DayCount.{civilCount, mjdNumber, mjdOf}
+use Rattle.calendar.specs.Gregorian.{gregorian_date}
+use Rattle.calendar.specs.DayCount.{civil_count, mjd_number, mjd_of}
 use Rattle.calendar.proofs.Mjd.{date-of-mjd}
-use Rattle.julian.specs.day_number.ExactDay.{OnGrid, gridSum, GridSumInRange, exactDayNumber, fractionOf, DayAt}
+use Rattle.julian.specs.day_number.ExactDay.{OnGrid, grid_sum, GridSumInRange, exact_day_number, fraction_of, DayAt}
 use Rattle.julian.proofs.day_number.ExactDay.{only, exact}
 use Rattle.julian.proofs.day_number.Ends.{nought-fits}
-use Rattle.julian.specs.JulianDate.{roundedSum}
-use Rattle.julian.specs.DayFraction.{dayFraction, timeInDay, secondLimit}
-use Rattle.julian.specs.Calendar.{fields, calendarToJulian, atTime, fromCalendar, julianToCalendar}
-use Rattle.julian.proofs.Integers.{integer-val, integer-fits}
-use Rattle.julian.proofs.Midnights.{midnight-answered, midnight-given, zero-point-val, midnight-sum}
-use Rattle.julian.proofs.laws.CalendarDays.{fields-of, not-above}
+use Rattle.julian.specs.JulianDate.{rounded_sum}
+use Rattle.julian.specs.DayFraction.{day_fraction, time_in_day, second_limit}
+use Rattle.julian.specs.Calendar.{fields, calendar_to_julian, at_time, from_calendar, julian_to_calendar}
+use Rattle.julian.proofs.Integers.{integer_val, integer_fits}
+use Rattle.julian.proofs.Midnights.{midnight-answered, midnight-given, zero_point_val, midnight-sum}
+use Rattle.julian.proofs.laws.CalendarDays.{fields-of, not_above}
 
 -- ---- parts on the grid: a float worth (p - n) / 2^52, both small
 
 record Placed (x : Float) (p n : ℕ) : Type 0 where
   grid : OnGrid x
-  units : plusZ grid.units + n ≡ p + minusZ grid.units
+  units : plus_z grid.units + n ≡ p + minus_z grid.units
 
 placed : {x : Float} {p n : ℕ} → Val x p n (2 ^ 52) → p < 2 ^ 104 → n < 2 ^ 104 → Placed x p n
 placed {x} {p} {n} v h k =
-    let e = sub-pair (pos p) (pos n) in
-    let b = pair-le (pos p -ℤ pos n) p n (omega (arith, e)) in
+    let e = sub_pair (pos p) (pos n) in
+    let b = pair_le (pos p -ℤ pos n) p n (omega (arith, e)) in
     record {
       grid = record { units = pos p -ℤ pos n; val = val-move v (omega (arith, e)); high = omega (arith, b.0); low = omega (arith, b.1) };
       units = omega (arith, e);
@@ -50,105 +50,105 @@ placed {x} {p} {n} v h k =
 -- ---- a Julian date that is worth n + 2400000.5 days: the midnight of MJD n
 
 abbrev Midnight : ℤ → ℤ → Type 0
-Midnight n sum = plusZ sum + minusZ n * 2 ^ 52 ≡ minusZ sum + 4800001 * 2 ^ 51 + plusZ n * 2 ^ 52
+Midnight n sum = plus_z sum + minus_z n * 2 ^ 52 ≡ minus_z sum + 4800001 * 2 ^ 51 + plus_z n * 2 ^ 52
 
 day-at : (n sum : ℤ) → Midnight n sum → DayAt sum (n +ℤ pos 2400001) 0
-day-at n sum e = record { below = lit< tt; total = omega (arith, e, add-pair n (pos 2400001)) }
+day-at n sum e = record { below = lit< tt; total = omega (arith, e, add_pair n (pos 2400001)) }
 
-in-range : (n sum : ℤ) → plusZ n ≤ 997599999 → minusZ n ≤ 2432076 → Midnight n sum → GridSumInRange sum
-in-range n sum high low e = go (one_side sum)
+in_range : (n sum : ℤ) → plus_z n ≤ 997599999 → minus_z n ≤ 2432076 → Midnight n sum → GridSumInRange sum
+in_range n sum high low e = go (one_side sum)
   where
-    go : (plusZ sum ≡ 0) ⊎ (minusZ sum ≡ 0) → GridSumInRange sum
+    go : (plus_z sum ≡ 0) ⊎ (minus_z sum ≡ 0) → GridSumInRange sum
     go (inl h) = record { low = omega arith; high = omega arith }
     go (inr h) = record { low = omega arith; high = omega arith }
 
-module _ (x y : Float) (fx : T (fits binary64 x)) (fy : T (fits binary64 y)) (a : OnGrid x) (b : OnGrid y) (n : ℤ) (high : plusZ n ≤ 997599999)
-    (low : minusZ n ≤ 2432076) (e : Midnight n (gridSum a b)) where
-  back : julianToCalendar x y ≡ answer (fields (gregorianDate (n +ℤ pos 2400001)) nought)
-  unfolding fractionOf round
+module _ (x y : Float) (fx : T (fits binary64 x)) (fy : T (fits binary64 y)) (a : OnGrid x) (b : OnGrid y) (n : ℤ) (high : plus_z n ≤ 997599999)
+    (low : minus_z n ≤ 2432076) (e : Midnight n (grid_sum a b)) where
+  back : julian_to_calendar x y ≡ answer (fields (gregorian_date (n +ℤ pos 2400001)) nought)
+  unfolding fraction_of round
   back =
-      let o = only (day-at n (gridSum a b) e) in
-      fields-of x y (exactDayNumber (gridSum a b)) (exact x y fx fy a b (in-range n (gridSum a b) high low e))
-      ∙ sym (λ i. answer (fields (gregorianDate (o.0 i)) (fractionOf (o.1 i))))
+      let o = only (day-at n (grid_sum a b) e) in
+      fields-of x y (exact_day_number (grid_sum a b)) (exact x y fx fy a b (in_range n (grid_sum a b) high low e))
+      ∙ sym (λ i. answer (fields (gregorian_date (o.0 i)) (fraction_of (o.1 i))))
 
 -- ---- the two parts of `calendar_to_julian`
 
-zero-point-fits : T (fits binary64 mjdZeroPoint)
-unfolding mjdZeroPoint
-zero-point-fits = round-fits binary64 false 24000005 (10 ^ 1)
+zero_point_fits : T (fits binary64 mjd_zero_point)
+unfolding mjd_zero_point
+zero_point_fits = round-fits binary64 false 24000005 (10 ^ 1)
 
-mag-small : (n : ℤ) → plusZ n ≤ 997599999 → minusZ n ≤ 2432076 → mag n < 2 ^ 42
-mag-small (pos n) h k = omega arith
-mag-small (negsuc n) h k = omega arith
+mag_small : (n : ℤ) → plus_z n ≤ 997599999 → minus_z n ≤ 2432076 → mag n < 2 ^ 42
+mag_small (pos n) h k = omega arith
+mag_small (negsuc n) h k = omega arith
 
-module _ (n : ℤ) (high : plusZ n ≤ 997599999) (low : minusZ n ≤ 2432076) where
-  zero-point-placed : Placed mjdZeroPoint (4800001 * 2 ^ 51) 0
-  zero-point-placed = placed (val-scale (2 ^ 51) zero-point-val) (lit< tt) (lit< tt)
+module _ (n : ℤ) (high : plus_z n ≤ 997599999) (low : minus_z n ≤ 2432076) where
+  zero_point_placed : Placed mjd_zero_point (4800001 * 2 ^ 51) 0
+  zero_point_placed = placed (val-scale (2 ^ 51) zero_point_val) (lit< tt) (lit< tt)
 
-  int-placed : Placed (of_int binary64 n) (plusZ n * 2 ^ 52) (minusZ n * 2 ^ 52)
-  int-placed = placed (val-scale (2 ^ 52) (integer-val n (omega (arith, mag-small n high low)))) (omega arith) (omega arith)
+  int_placed : Placed (of_int binary64 n) (plus_z n * 2 ^ 52) (minus_z n * 2 ^ 52)
+  int_placed = placed (val-scale (2 ^ 52) (integer_val n (omega (arith, mag_small n high low)))) (omega arith) (omega arith)
 
-  parts-back : julianToCalendar mjdZeroPoint (of_int binary64 n) ≡ answer (fields (gregorianDate (n +ℤ pos 2400001)) nought)
+  parts-back : julian_to_calendar mjd_zero_point (of_int binary64 n) ≡ answer (fields (gregorian_date (n +ℤ pos 2400001)) nought)
   parts-back =
-      let a = zero-point-placed in
-      let b = int-placed in
-      back mjdZeroPoint (of_int binary64 n) zero-point-fits (integer-fits n) a.grid b.grid n high low
-      (omega (arith, add-pair a.grid.units b.grid.units, a.units, b.units))
+      let a = zero_point_placed in
+      let b = int_placed in
+      back mjd_zero_point (of_int binary64 n) zero_point_fits (integer_fits n) a.grid b.grid n high low
+      (omega (arith, add_pair a.grid.units b.grid.units, a.units, b.units))
 
   -- ---- and the one of `from_calendar`, which has their sum in its first part
 
-  sum-placed : Placed (add binary64 mjdZeroPoint (of_int binary64 n)) ((4800001 + plusZ n * 2) * 2 ^ 51) (minusZ n * 2 * 2 ^ 51)
-  sum-placed = placed (val-scale (2 ^ 51) (midnight-sum n (mag-small n high low))) (omega arith) (omega arith)
+  sum-placed : Placed (add binary64 mjd_zero_point (of_int binary64 n)) ((4800001 + plus_z n * 2) * 2 ^ 51) (minus_z n * 2 * 2 ^ 51)
+  sum-placed = placed (val-scale (2 ^ 51) (midnight-sum n (mag_small n high low))) (omega arith) (omega arith)
 
   nought-placed : Placed nought 0 0
   nought-placed = placed (record { sign = false; size = 0; has = (refl, refl); is = refl }) (lit< tt) (lit< tt)
 
-  sum_back : julianToCalendar (add binary64 mjdZeroPoint (of_int binary64 n)) nought ≡ answer (fields (gregorianDate (n +ℤ pos 2400001)) nought)
+  sum_back : julian_to_calendar (add binary64 mjd_zero_point (of_int binary64 n)) nought ≡ answer (fields (gregorian_date (n +ℤ pos 2400001)) nought)
   sum_back =
       let a = sum-placed in
       let b = nought-placed in
-      back (add binary64 mjdZeroPoint (of_int binary64 n)) nought (add-fits binary64 mjdZeroPoint (of_int binary64 n)) nought-fits a.grid b.grid n high low
-      (omega (arith, add-pair a.grid.units b.grid.units, a.units, b.units))
+      back (add binary64 mjd_zero_point (of_int binary64 n)) nought (add-fits binary64 mjd_zero_point (of_int binary64 n)) nought-fits a.grid b.grid n high low
+      (omega (arith, add_pair a.grid.units b.grid.units, a.units, b.units))
 
 -- ---- the size of the Modified Julian Date of a valid date
 
-mjd-low : (y m d n : ℤ) → mjdOf y m d ≡ answer n → minusZ n ≤ 2432076
-unfolding mjdNumber
+mjd-low : (y m d n : ℤ) → mjd_of y m d ≡ answer n → minus_z n ≤ 2432076
+unfolding mjd_number
 mjd-low y m d n e =
     let a = midnight-answered y m d n e in
-    let c = civilCount (nat_abs (y +ℤ pos 4800)) (nat_abs m) (nat_abs d) in
-    subst (λ (z : ℤ). minusZ z ≤ 2432076) (sym a.is) (pair-le (pos c -ℤ pos 2432076) c 2432076 (omega (arith, sub-pair (pos c) (pos 2432076)))).1
+    let c = civil_count (nat_abs (y +ℤ pos 4800)) (nat_abs m) (nat_abs d) in
+    subst (λ (z : ℤ). minus_z z ≤ 2432076) (sym a.is) (pair_le (pos c -ℤ pos 2432076) c 2432076 (omega (arith, sub_pair (pos c) (pos 2432076)))).1
 
 -- the midnight of MJD n is n + 2400000.5, which is at most 10^9 where n is at most 997599999
-mjd-high : (n : ℤ) → le_z n (pos 997599999) ≡ true → plusZ n ≤ 997599999
+mjd-high : (n : ℤ) → le_z n (pos 997599999) ≡ true → plus_z n ≤ 997599999
 mjd-high (pos n) h = leb-true n 997599999 h
 mjd-high (negsuc n) h = omega arith
 
-not-past : (n : ℤ) → plusZ n ≤ 997599999 → lt_z (pos 1000000000) (n +ℤ pos 2400001) ≡ false
-not-past n h =
-    let b = pair-le (n +ℤ pos 2400001) (plusZ n + 2400001) (minusZ n) (omega (arith, add-pair n (pos 2400001))) in
-    not-above (n +ℤ pos 2400001) (omega (arith, b.0))
+not_past : (n : ℤ) → plus_z n ≤ 997599999 → lt_z (pos 1000000000) (n +ℤ pos 2400001) ≡ false
+not_past n h =
+    let b = pair_le (n +ℤ pos 2400001) (plus_z n + 2400001) (minus_z n) (omega (arith, add_pair n (pos 2400001))) in
+    not_above (n +ℤ pos 2400001) (omega (arith, b.0))
 
 -- ---- DEMAND 2: there and back
 
-pub round_trip : (y m d n : ℤ) → mjdOf y m d ≡ answer n → le_z n (pos 997599999) ≡ true
-    → onward (calendarToJulian y m d) (λ j. julianToCalendar j.jd1 j.jd2) ≡ answer (fields (date y (nat_abs m) (nat_abs d)) nought)
+pub round_trip : (y m d n : ℤ) → mjd_of y m d ≡ answer n → le_z n (pos 997599999) ≡ true
+    → onward (calendar_to_julian y m d) (λ j. julian_to_calendar j.jd1 j.jd2) ≡ answer (fields (date y (nat_abs m) (nat_abs d)) nought)
 unfolding onward
 round_trip y m d n e h =
     let p = mjd-high n h in
     let q = mjd-low y m d n e in
-    rw (midnight-given y m d n e) (parts-back n p q ∙ ap (λ (t : CalendarDate). answer (fields t nought)) (date-of-mjd y m d n e (not-past n p)))
+    rw (midnight-given y m d n e) (parts-back n p q ∙ ap (λ (t : CalendarDate). answer (fields t nought)) (date-of-mjd y m d n e (not_past n p)))
 
 -- the same through `from_calendar` at 0h, whose fraction is 0.0
-pub midnight-fraction : dayFraction 0 0 nought nought ≡ answer nought
-unfolding dayFraction timeInDay secondLimit secondsPerDay of_int round add mul div lt le eq
+pub midnight-fraction : day_fraction 0 0 nought nought ≡ answer nought
+unfolding day_fraction time_in_day second_limit seconds_per_day of_int round add mul div lt le eq
 midnight-fraction = refl
 
-pub round-trip-at-midnight : (y : ℤ) (m d : ℕ) (n : ℤ) → mjdOf y (pos m) (pos d) ≡ answer n → le_z n (pos 997599999) ≡ true
-    → onward (fromCalendar y m d 0 0 nought) (λ j. julianToCalendar j.jd1 j.jd2) ≡ answer (fields (date y m d) nought)
-unfolding fromCalendar atTime roundedSum onward
-round-trip-at-midnight y m d n e h =
+pub round_trip_at_midnight : (y : ℤ) (m d : ℕ) (n : ℤ) → mjd_of y (pos m) (pos d) ≡ answer n → le_z n (pos 997599999) ≡ true
+    → onward (from_calendar y m d 0 0 nought) (λ j. julian_to_calendar j.jd1 j.jd2) ≡ answer (fields (date y m d) nought)
+unfolding from_calendar at_time rounded_sum onward
+round_trip_at_midnight y m d n e h =
     let p = mjd-high n h in
     let q = mjd-low y (pos m) (pos d) n e in
     rw (midnight-given y (pos m) (pos d) n e, midnight-fraction)
-    (sum_back n p q ∙ ap (λ (t : CalendarDate). answer (fields t nought)) (date-of-mjd y (pos m) (pos d) n e (not-past n p)))
+    (sum_back n p q ∙ ap (λ (t : CalendarDate). answer (fields t nought)) (date-of-mjd y (pos m) (pos d) n e (not_past n p)))

@@ -8,9 +8,9 @@ use lib.Pow.{pow-add}
 use lib.Ieee.{Float, binary64, add, sub, mul, div}
 use Rattle.rounding.specs.Value.{Val, L}
 use Rattle.rounding.specs.Picoseconds.{Within}
-use Rattle.rounding.proofs.Value.{L-pos, L-is, val-scale, div-rounds}
-use Rattle.rounding.proofs.Near.{NearSum, add-near, sub-near}
-use Rattle.rounding.proofs.Scaled.{Scaled, scaled-near, mul-near}
+use Rattle.rounding.proofs.Value.{L-pos, L-is, val-scale, div_rounds}
+use Rattle.rounding.proofs.Near.{NearSum, add_near, sub_near}
+use Rattle.rounding.proofs.Scaled.{Scaled, scaled_near, mul_near}
 use Rattle.rounding.proofs.Chain.{ValClose}
 use Rattle.julian.specs.declared.JulianDate.{JulianDate}
 use Rattle.julian.specs.Worth.{Worth}
@@ -53,11 +53,11 @@ near-sum i {z} {P} {N} k = record {
 
 pub step-add : (i : ℕ) {x y : Float} {p n q m : ℕ} → 1021 + i ≤ 2044 → p + q < n + m + 2 ^ i * L → n + m < p + q + 2 ^ i * L → Val x p n L → Val y q m L
     → ValClose L (add binary64 x y) (p + q) (n + m) (2 ^ i * E)
-step-add i {x} {y} {p} {n} {q} {m} I h k v w = near-sum i (add-near (1021 + i) I (wide i (p + q) (n + m) h) (wide i (n + m) (p + q) k) v w)
+step-add i {x} {y} {p} {n} {q} {m} I h k v w = near-sum i (add_near (1021 + i) I (wide i (p + q) (n + m) h) (wide i (n + m) (p + q) k) v w)
 
 pub step-sub : (i : ℕ) {x y : Float} {p n q m : ℕ} → 1021 + i ≤ 2044 → p + m < n + q + 2 ^ i * L → n + q < p + m + 2 ^ i * L → Val x p n L → Val y q m L
     → ValClose L (sub binary64 x y) (p + m) (n + q) (2 ^ i * E)
-step-sub i {x} {y} {p} {n} {q} {m} I h k v w = near-sum i (sub-near (1021 + i) I (wide i (p + m) (n + q) h) (wide i (n + q) (p + m) k) v w)
+step-sub i {x} {y} {p} {n} {q} {m} I h k v w = near-sum i (sub_near (1021 + i) I (wide i (p + m) (n + q) h) (wide i (n + q) (p + m) k) v w)
 
 -- ---- a product by B / C and a quotient by C / B, in C-ths of a unit
 
@@ -72,8 +72,8 @@ pub record Times (z : Float) (P N B C r : ℕ) : Type 0 where
 wide-times : (i x y C : ℕ) → x < y + 2 ^ i * L * C → x < y + 2 ^ (53 + (1021 + i)) * C
 wide-times i x y C h = subst (λ (z : ℕ). x < y + z * C) (sym (room i)) h
 
-times-of : (i : ℕ) {z : Float} {P N B C : ℕ} → Scaled z P N B C (1021 + i) → Times z P N B C (2 ^ i * E)
-times-of i {z} {P} {N} {B} {C} k = record { p = k.p; n = k.n; val = k.val; over = go _ _ k.over; under = go _ _ k.under }
+times_of : (i : ℕ) {z : Float} {P N B C : ℕ} → Scaled z P N B C (1021 + i) → Times z P N B C (2 ^ i * E)
+times_of i {z} {P} {N} {B} {C} k = record { p = k.p; n = k.n; val = k.val; over = go _ _ k.over; under = go _ _ k.under }
   where
     go : (x y : ℕ) → 2 * x ≤ 2 * y + C * 2 ^ (1021 + i) → x ≤ y + C * (2 ^ i * E)
     go x y h = last x y (C * 2 ^ (1021 + i)) (C * (2 ^ i * E)) (ap (λ (w : ℕ). C * w) (half-unit i) ∙ mul_left_comm C 2 (2 ^ i * E)) h
@@ -83,12 +83,12 @@ times-of i {z} {P} {N} {B} {C} k = record { p = k.p; n = k.n; val = k.val; over 
 
 pub step-mul : (i : ℕ) {x y : Float} {P N B C : ℕ} → 0 < C → 1021 + i ≤ 2044 → P * B < N * B + 2 ^ i * L * C → N * B < P * B + 2 ^ i * L * C → Val x P N L
     → Val y B 0 C → Times (mul binary64 x y) P N B C (2 ^ i * E)
-step-mul i {x} {y} {P} {N} {B} {C} G I h k v w = times-of i (mul-near (1021 + i) G I (wide-times i (P * B) (N * B) C h) (wide-times i (N * B) (P * B) C k) v w)
+step-mul i {x} {y} {P} {N} {B} {C} G I h k v w = times_of i (mul_near (1021 + i) G I (wide-times i (P * B) (N * B) C h) (wide-times i (N * B) (P * B) C k) v w)
 
 pub step-div : (i : ℕ) {x y : Float} {P N B C : ℕ} → 0 < B → 0 < C → 1021 + i ≤ 2044 → P * B < N * B + 2 ^ i * L * C → N * B < P * B + 2 ^ i * L * C
     → Val x P N L → Val y C 0 B → Times (div binary64 x y) P N B C (2 ^ i * E)
 step-div i {x} {y} {P} {N} {B} {C} F G I h k v w =
-    times-of i (scaled-near (1021 + i) G I (wide-times i (P * B) (N * B) C h) (wide-times i (N * B) (P * B) C k) (div-rounds binary64 L-pos F G v w))
+    times_of i (scaled_near (1021 + i) G I (wide-times i (P * B) (N * B) C h) (wide-times i (N * B) (P * B) C k) (div_rounds binary64 L-pos F G v w))
 
 -- ---- a value in half days, in units
 

@@ -19,9 +19,9 @@ number : (m n : ℕ) → eqb m n ≡ true → m ≡ n
 number m n e = eqb→eq m n (yes e)
 
 -- the same stamp is the same scale and the same two patterns, and nothing else
-pub same-is : (a b : Stamp) → same a b ≡ true → a ≡ b
+pub same_is : (a b : Stamp) → same a b ≡ true → a ≡ b
 unfolding same
-same-is a b e =
+same_is a b e =
     let u = split (eqb a.scale b.scale) (eqb a.jd1 b.jd1 && eqb a.jd2 b.jd2) e in
     let v = split (eqb a.jd1 b.jd1) (eqb a.jd2 b.jd2) u.1 in
     λ i. record { scale = number a.scale b.scale u.0 i; jd1 = number a.jd1 b.jd1 v.0 i; jd2 = number a.jd2 b.jd2 v.1 i }
@@ -34,12 +34,12 @@ pub is_same : (a b : Stamp) → a ≡ b → same a b ≡ true
 is_same a b e = rw (← e) (same-itself a)
 
 pub same-turned : (a b : Stamp) → same a b ≡ true → same b a ≡ true
-same-turned a b e = is_same b a (sym (same-is a b e))
+same-turned a b e = is_same b a (sym (same_is a b e))
 
 pub same-onward : (a b c : Stamp) → same a b ≡ true → same b c ≡ true → same a c ≡ true
-same-onward a b c e f = is_same a c (same-is a b e ∙ same-is b c f)
+same-onward a b c e f = is_same a c (same_is a b e ∙ same_is b c f)
 
 -- a pattern of 64 bits that is no NaN's is one float's alone, -0.0 and 0.0 being two: such patterns that differ are different floats
-pub patterns-apart : (m n : ℕ) → m < 2 ^ 64 → n < 2 ^ 64 → T (not (is_nan (of_bits binary64 m))) → T (not (is_nan (of_bits binary64 n)))
+pub patterns_apart : (m n : ℕ) → m < 2 ^ 64 → n < 2 ^ 64 → T (not (is_nan (of_bits binary64 m))) → T (not (is_nan (of_bits binary64 n)))
     → of_bits binary64 m ≡ of_bits binary64 n → m ≡ n
-patterns-apart m n h k u v e = sym (to_bits-of_bits binary64 m h u) ∙ ap (to_bits binary64) e ∙ to_bits-of_bits binary64 n k v
+patterns_apart m n h k u v e = sym (to_bits-of_bits binary64 m h u) ∙ ap (to_bits binary64) e ∙ to_bits-of_bits binary64 n k v

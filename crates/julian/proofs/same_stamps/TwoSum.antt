@@ -9,7 +9,7 @@ use lib.Ieee.{Float, binary64, add, sub}
 use lib.Ieee.Scale.{finite}
 use Rattle.rounding.specs.Value.{Val, L, Under52}
 use Rattle.rounding.proofs.Bound.{SizeWithin, within_more}
-use Rattle.rounding.proofs.Near.{NearSum, add-near, sub-near}
+use Rattle.rounding.proofs.Near.{NearSum, add_near, sub_near}
 use Rattle.rounding.proofs.Range.{power-val, size-at-most, below}
 use Rattle.rounding.proofs.Value.{val-finite-true}
 use Rattle.julian.specs.same_stamps.TwoSum.{NoOverflow, AtMost1021}
@@ -18,44 +18,44 @@ use Rattle.julian.specs.same_stamps.TwoSum.{NoOverflow, AtMost1021}
 module _ (a b : Float) (p n q m M j : ℕ) (va : Val a p n L) (vb : Val b q m L) (h1 : p ≤ n + M) (h2 : n ≤ p + M) (h3 : q ≤ m + M) (h4 : m ≤ q + M)
     (most : j ≤ 2044) (room : 2 * M + 8 * 2 ^ j < 2 ^ (53 + j)) where
   sum : NearSum (add binary64 a b) (p + q) (n + m) j
-  sum = add-near j most (omega arith) (omega arith) va vb
+  sum = add_near j most (omega arith) (omega arith) va vb
 
   second : NearSum (sub binary64 (add binary64 a b) a) (sum.p + n) (sum.n + p) j
-  second = sub-near j most (omega (arith, sum.over)) (omega (arith, sum.under)) sum.val va
+  second = sub_near j most (omega (arith, sum.over)) (omega (arith, sum.under)) sum.val va
 
   first : NearSum (sub binary64 (add binary64 a b) (sub binary64 (add binary64 a b) a)) (sum.p + second.n) (sum.n + second.p) j
-  first = sub-near j most (omega (arith, second.under)) (omega (arith, second.over)) sum.val second.val
+  first = sub_near j most (omega (arith, second.under)) (omega (arith, second.over)) sum.val second.val
 
-  lost-first : NearSum (sub binary64 a (sub binary64 (add binary64 a b) (sub binary64 (add binary64 a b) a))) (p + first.n) (n + first.p) j
-  lost-first = sub-near j most (omega (arith, second.over, first.under)) (omega (arith, second.under, first.over)) va first.val
+  lost_first : NearSum (sub binary64 a (sub binary64 (add binary64 a b) (sub binary64 (add binary64 a b) a))) (p + first.n) (n + first.p) j
+  lost_first = sub_near j most (omega (arith, second.over, first.under)) (omega (arith, second.under, first.over)) va first.val
 
-  lost-second : NearSum (sub binary64 b (sub binary64 (add binary64 a b) a)) (q + second.n) (m + second.p) j
-  lost-second = sub-near j most (omega (arith, sum.under, second.under)) (omega (arith, sum.over, second.over)) vb second.val
+  lost_second : NearSum (sub binary64 b (sub binary64 (add binary64 a b) a)) (q + second.n) (m + second.p) j
+  lost_second = sub_near j most (omega (arith, sum.under, second.under)) (omega (arith, sum.over, second.over)) vb second.val
 
   -- each loss is at most two roundings
-  first-high : lost-first.p ≤ lost-first.n + 2 * 2 ^ j
-  first-high = omega (arith, second.over, first.under, lost-first.over)
+  first-high : lost_first.p ≤ lost_first.n + 2 * 2 ^ j
+  first-high = omega (arith, second.over, first.under, lost_first.over)
 
-  first-low : lost-first.n ≤ lost-first.p + 2 * 2 ^ j
-  first-low = omega (arith, second.under, first.over, lost-first.under)
+  first-low : lost_first.n ≤ lost_first.p + 2 * 2 ^ j
+  first-low = omega (arith, second.under, first.over, lost_first.under)
 
-  second-high : lost-second.p ≤ lost-second.n + 2 * 2 ^ j
-  second-high = omega (arith, sum.under, second.under, lost-second.over)
+  second-high : lost_second.p ≤ lost_second.n + 2 * 2 ^ j
+  second-high = omega (arith, sum.under, second.under, lost_second.over)
 
-  second-low : lost-second.n ≤ lost-second.p + 2 * 2 ^ j
-  second-low = omega (arith, sum.over, second.over, lost-second.under)
+  second-low : lost_second.n ≤ lost_second.p + 2 * 2 ^ j
+  second-low = omega (arith, sum.over, second.over, lost_second.under)
 
   error : NearSum (add binary64 (sub binary64 a (sub binary64 (add binary64 a b) (sub binary64 (add binary64 a b) a)))
-      (sub binary64 b (sub binary64 (add binary64 a b) a))) (lost-first.p + lost-second.p) (lost-first.n + lost-second.n) j
-  error = add-near j most (omega (arith, first-high, second-high)) (omega (arith, first-low, second-low)) lost-first.val lost-second.val
+      (sub binary64 b (sub binary64 (add binary64 a b) a))) (lost_first.p + lost_second.p) (lost_first.n + lost_second.n) j
+  error = add_near j most (omega (arith, first-high, second-high)) (omega (arith, first-low, second-low)) lost_first.val lost_second.val
 
   finite-throughout : NoOverflow a b
   finite-throughout = record {
     sum = val-finite-true sum.val;
     second = val-finite-true second.val;
     first = val-finite-true first.val;
-    lost-first = val-finite-true lost-first.val;
-    lost-second = val-finite-true lost-second.val;
+    lost_first = val-finite-true lost_first.val;
+    lost_second = val-finite-true lost_second.val;
     error = val-finite-true error.val;
   }
 
@@ -68,8 +68,8 @@ within-1021 x = size-at-most x.held (power-val 1021 L) x.small
 within-52 : {x : Float} → Under52 x → SizeWithin x (2 ^ 52 * L)
 within-52 x = below x.held (power-val 52 L) x.small
 
-pub at-most-finite : {x : Float} → AtMost1021 x → finite x ≡ true
-at-most-finite x = val-finite-true (within-1021 x).val
+pub at_most_finite : {x : Float} → AtMost1021 x → finite x ≡ true
+at_most_finite x = val-finite-true (within-1021 x).val
 
 pub under-finite : {x : Float} → Under52 x → finite x ≡ true
 under-finite x = val-finite-true (within-52 x).val
@@ -82,8 +82,8 @@ pub no_overflow : {a b : Float} → AtMost1021 a → AtMost1021 b → NoOverflow
 no_overflow x y = within (2 ^ 1021 * L) large (within-1021 x) (within-1021 y)
 
 -- document 01's range for dates
-pub no-overflow-under : {a b : Float} → Under52 a → Under52 b → NoOverflow a b
-no-overflow-under x y = within (2 ^ 1021 * L) large (within_more (wider 1021 (lit≤ tt)) (within-52 x)) (within_more (wider 1021 (lit≤ tt)) (within-52 y))
+pub no_overflow_under : {a b : Float} → Under52 a → Under52 b → NoOverflow a b
+no_overflow_under x y = within (2 ^ 1021 * L) large (within_more (wider 1021 (lit≤ tt)) (within-52 x)) (within_more (wider 1021 (lit≤ tt)) (within-52 y))
   where
     wider : (k : ℕ) → 2 ^ 52 ≤ 2 ^ k → 2 ^ 52 * L ≤ 2 ^ k * L
     wider k h = mul-le-mul_right L h

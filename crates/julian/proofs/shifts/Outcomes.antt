@@ -5,9 +5,9 @@ use lib.Ieee.{Float}
 use lib.Ieee.Scale.{finite}
 use Rattle.refusals.specs.Outcome.{Outcome, answer, refusal, onward}
 use Rattle.julian.specs.declared.JulianDate.{JulianDate}
-use Rattle.julian.specs.Finite.{finiteJd, finiteArg, finiteParts}
-use Rattle.julian.specs.shifts.SmallerPart.{mapSmallerPart}
-use Rattle.julian.specs.shifts.Shifts.{daysOf, changed, converted, finiteOffset, finiteBoth, convertedBy}
+use Rattle.julian.specs.Finite.{finite_jd, finite_arg, finite_parts}
+use Rattle.julian.specs.shifts.SmallerPart.{map_smaller_part}
+use Rattle.julian.specs.shifts.Shifts.{days_of, changed, converted, finite_offset, finite_both, converted_by}
 
 -- a date moved by so many days
 pub moved-alike : (f : Float → Float → Float → Float) {o o' : Outcome JulianDate} {x x' : Float} → o ≡ o' → x ≡ x'
@@ -15,42 +15,42 @@ pub moved-alike : (f : Float → Float → Float → Float) {o o' : Outcome Juli
 moved-alike f e h = cc
 
 -- the date that is tested is the date that goes on
-pub both : (s : Float) (d : JulianDate) {o o' : Outcome JulianDate} → o ≡ finiteJd d → o' ≡ finiteOffset s d
-    → onward o (λ (e : JulianDate). o') ≡ onward (finiteJd d) (finiteOffset s)
-unfolding onward finiteJd
+pub both : (s : Float) (d : JulianDate) {o o' : Outcome JulianDate} → o ≡ finite_jd d → o' ≡ finite_offset s d
+    → onward o (λ (e : JulianDate). o') ≡ onward (finite_jd d) (finite_offset s)
+unfolding onward finite_jd
 both s d {o} {o'} e h = ap (λ (z : Outcome JulianDate). onward z (λ (e : JulianDate). o')) e ∙ go (finite d.jd1 && finite d.jd2)
   where
-    go : (b : Bool) → onward (cond b (answer d) (refusal 9)) (λ (e : JulianDate). o') ≡ onward (cond b (answer d) (refusal 9)) (finiteOffset s)
+    go : (b : Bool) → onward (cond b (answer d) (refusal 9)) (λ (e : JulianDate). o') ≡ onward (cond b (answer d) (refusal 9)) (finite_offset s)
     go true = h
     go false = refl
 
 -- ---- a conversion by what it tests
-pub first : (f : Float → Float → Float) (d : JulianDate) → converted f d ≡ cond (finiteParts d) (answer (mapSmallerPart f d)) (refusal 9)
-unfolding converted finiteJd onward changed
+pub first : (f : Float → Float → Float) (d : JulianDate) → converted f d ≡ cond (finite_parts d) (answer (map_smaller_part f d)) (refusal 9)
+unfolding converted finite_jd onward changed
 first f d = go (finite d.jd1 && finite d.jd2)
   where
-    go : (b : Bool) → onward (cond b (answer d) (refusal 9)) (changed f) ≡ cond b (answer (mapSmallerPart f d)) (refusal 9)
+    go : (b : Bool) → onward (cond b (answer d) (refusal 9)) (changed f) ≡ cond b (answer (map_smaller_part f d)) (refusal 9)
     go true = refl
     go false = refl
 
 pub first_by : (f : Float → Float → Float → Float) (s : Float) (d : JulianDate)
-    → convertedBy f s d ≡ cond (finiteParts d) (cond (finite s) (answer (mapSmallerPart (f (daysOf s)) d)) (refusal 10)) (refusal 9)
-unfolding convertedBy finiteBoth finiteOffset finiteJd finiteArg onward changed
+    → converted_by f s d ≡ cond (finite_parts d) (cond (finite s) (answer (map_smaller_part (f (days_of s)) d)) (refusal 10)) (refusal 9)
+unfolding converted_by finite_both finite_offset finite_jd finite_arg onward changed
 first_by f s d = go (finite d.jd1 && finite d.jd2) (finite s)
   where
     go : (b c : Bool) → onward (onward (cond b (answer d) (refusal 9))
-        (λ (e : JulianDate). onward (cond c (answer s) (refusal 10)) (λ (t : Float). answer e))) (changed (f (daysOf s)))
-        ≡ cond b (cond c (answer (mapSmallerPart (f (daysOf s)) d)) (refusal 10)) (refusal 9)
+        (λ (e : JulianDate). onward (cond c (answer s) (refusal 10)) (λ (t : Float). answer e))) (changed (f (days_of s)))
+        ≡ cond b (cond c (answer (map_smaller_part (f (days_of s)) d)) (refusal 10)) (refusal 9)
     go true true = refl
     go true false = refl
     go false c = refl
 
 -- of a date with finite parts, and an offset that is finite
-pub converted-is : (f : Float → Float → Float) (d : JulianDate) → finite d.jd1 ≡ true → finite d.jd2 ≡ true → converted f d ≡ answer (mapSmallerPart f d)
+pub converted-is : (f : Float → Float → Float) (d : JulianDate) → finite d.jd1 ≡ true → finite d.jd2 ≡ true → converted f d ≡ answer (map_smaller_part f d)
 converted-is f d h k = first f d ∙ rw (h, k)
 
 pub by-is : (f : Float → Float → Float → Float) (s : Float) (d : JulianDate) → finite d.jd1 ≡ true → finite d.jd2 ≡ true → finite s ≡ true
-    → convertedBy f s d ≡ answer (mapSmallerPart (f (daysOf s)) d)
+    → converted_by f s d ≡ answer (map_smaller_part (f (days_of s)) d)
 by-is f s d h k l = first_by f s d ∙ rw (h, k, l)
 
 -- both of two tests

@@ -3,16 +3,16 @@
 use Rattle.std.specs.Prelude.{◌≡◌, true, ℤ, negsuc, T, Float}
 use Rattle.std.specs.Float.{fin, binary64}
 use Rattle.std.specs.Float.Ieee.{fits, sub, eq, le, to_signed}
-use Rattle.floats.specs.Whole.{one, nearestInt}
+use Rattle.floats.specs.Whole.{one, nearest_int}
 use Rattle.julian.specs.day_number.Ranges.{InDays}
 
 -- the day that begins at a midnight
-unfoldable pub dayFrom : Float → ℤ
-dayFrom x = to_signed 63 (nearestInt x)
+unfoldable pub day_from : Float → ℤ
+day_from x = to_signed 63 (nearest_int x)
 
 -- x is a midnight of a day from day 2 on: half a day before its nearest whole number
 pub record Midnight (x : Float) : Type 0 where
-  pub before-noon : eq (sub binary64 x (nearestInt x)) (fin true 1 (negsuc 0)) ≡ true
+  pub before_noon : eq (sub binary64 x (nearest_int x)) (fin true 1 (negsuc 0)) ≡ true
   pub late : le one x ≡ true
   pub held : T (fits binary64 x)
-  pub in-days : InDays (dayFrom x)
+  pub in-days : InDays (day_from x)

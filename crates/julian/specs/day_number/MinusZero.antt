@@ -2,9 +2,9 @@
 use Rattle.std.specs.Prelude.{Bool, true, false, zero, suc, Float}
 use Rattle.std.specs.Float.{nan, inf, fin}
 
-unfoldable pub minusZero : Float → Bool
-minusZero nan = false
-minusZero (inf s) = false
-minusZero (fin false m e) = false
-minusZero (fin true zero e) = true
-minusZero (fin true (suc m) e) = false
+unfoldable pub minus_zero : Float → Bool
+minus_zero nan = false
+minus_zero (inf s) = false
+minus_zero (fin false m e) = false
+minus_zero (fin true zero e) = true
+minus_zero (fin true (suc m) e) = false

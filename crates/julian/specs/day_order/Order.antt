@@ -3,14 +3,14 @@
 use Rattle.std.specs.Prelude.{ℕ, ◌+◌, ◌*◌, ◌≤◌, T, ℤ, Float}
 use Rattle.std.specs.Float.{binary64}
 use Rattle.std.specs.Float.Ieee.{fits}
-use Rattle.rounding.specs.Value.{Val, L, plusZ, minusZ}
+use Rattle.rounding.specs.Value.{Val, L, plus_z, minus_z}
 use Rattle.julian.specs.declared.day_number.DayNumber.{DayNumber}
 
 -- an f64 that is a whole number of half days
 pub record WholeHalves (x : Float) : Type 0 where
   pub held : T (fits binary64 x)
   pub halves : ℤ
-  pub val : Val x (plusZ halves) (minusZ halves) 2
+  pub val : Val x (plus_z halves) (minus_z halves) 2
 
 -- the exact day + fraction of d is at most that of d'
 pub record NoLater (d d' : DayNumber) : Type 0 where
@@ -18,4 +18,4 @@ pub record NoLater (d d' : DayNumber) : Type 0 where
   pub units' : ℕ
   pub val : Val d.fraction units 0 L
   pub val' : Val d'.fraction units' 0 L
-  pub order : plusZ d.day * L + units + minusZ d'.day * L ≤ plusZ d'.day * L + units' + minusZ d.day * L
+  pub order : plus_z d.day * L + units + minus_z d'.day * L ≤ plus_z d'.day * L + units' + minus_z d.day * L

@@ -3,9 +3,9 @@
 -- the code's constants, so that a wrong digit of either is noticed. The bounds are this project's own. Assumes nothing.
 use Rattle.std.specs.Prelude.{ℕ, ◌+◌, ◌*◌, ◌^◌, ◌≤◌, ◌≡◌, ℤ, pos, Float}
 use Rattle.refusals.specs.Outcome.{answer}
-use Rattle.rounding.specs.Value.{Val, L, plusZ, minusZ}
-use Rattle.rounding.specs.Picoseconds.{dayPs, Within}
-use Rattle.calendar.specs.DayCount.{mjdOf}
+use Rattle.rounding.specs.Value.{Val, L, plus_z, minus_z}
+use Rattle.rounding.specs.Picoseconds.{day_ps, Within}
+use Rattle.calendar.specs.DayCount.{mjd_of}
 use Rattle.julian.specs.declared.JulianDate.{JulianDate}
 use Rattle.julian.specs.JulianDate.{difference}
 use Rattle.julian.specs.Worth.{Worth}
@@ -30,8 +30,8 @@ pub record HalfDays (K : ℕ) (x : Float) : Type 0 where
 -- ps picoseconds of (3600 * hour + 60 * minute + second) / 86400 days, the second taken at its exact value, x / L
 pub record AtClock (ps : ℕ) (y : ℤ) (m d hour minute : ℕ) (second : Float) (date : JulianDate) : Type 0 where
   pub n : ℤ
-  pub mjd : mjdOf y (pos m) (pos d) ≡ answer n
-  pub midnight : Val date.jd1 (4800001 + plusZ n * 2) (minusZ n * 2) 2
+  pub mjd : mjd_of y (pos m) (pos d) ≡ answer n
+  pub midnight : Val date.jd1 (4800001 + plus_z n * 2) (minus_z n * 2) 2
   pub x : ℕ
   pub seconds : Val second x 0 L
   pub time : Within ps date.jd2 ((3600 * hour + 60 * minute) * L + x) 0 (L * 86400)
@@ -44,8 +44,8 @@ pub record LaterBy (ps a b c : ℕ) (d d' : JulianDate) : Type 0 where
   pub n' : ℕ
   pub from : Worth d p n L
   pub to : Worth d' p' n' L
-  pub over : dayPs * (c * (p' + n) + b) ≤ dayPs * (c * (n' + p) + a) + ps * (c * L)
-  pub under : dayPs * (c * (n' + p) + a) ≤ dayPs * (c * (p' + n) + b) + ps * (c * L)
+  pub over : day_ps * (c * (p' + n) + b) ≤ day_ps * (c * (n' + p) + a) + ps * (c * L)
+  pub under : day_ps * (c * (n' + p) + a) ≤ day_ps * (c * (p' + n) + b) + ps * (c * L)
 
 -- the difference of d and e is within ps picoseconds of the exact one
 pub record DifferenceNear (ps : ℕ) (d e : JulianDate) : Type 0 where
@@ -76,5 +76,5 @@ pub record DateOfYear (ps : ℕ) (year : Float) (d : JulianDate) : Type 0 where
   pub b : ℕ
   pub worth : Worth d p n L
   pub val : Val year a b L
-  pub over : dayPs * (4 * p + 1461 * (b + 2000 * L)) ≤ dayPs * (4 * (n + 2451545 * L) + 1461 * a) + ps * (4 * L)
-  pub under : dayPs * (4 * (n + 2451545 * L) + 1461 * a) ≤ dayPs * (4 * p + 1461 * (b + 2000 * L)) + ps * (4 * L)
+  pub over : day_ps * (4 * p + 1461 * (b + 2000 * L)) ≤ day_ps * (4 * (n + 2451545 * L) + 1461 * a) + ps * (4 * L)
+  pub under : day_ps * (4 * (n + 2451545 * L) + 1461 * a) ≤ day_ps * (4 * p + 1461 * (b + 2000 * L)) + ps * (4 * L)

@@ -11,50 +11,50 @@ use Rattle.julian.specs.declared.order.OrderAnswer.TheVariants as Answer
 use Rattle.julian.specs.declared.order.OrderAnswer.{OrderAnswer}
 
 pub data Order : Type 0 where
-  comesBefore : Order
-  sameSum : Order
-  comesAfter : Order
+  comes_before : Order
+  same_sum : Order
+  comes_after : Order
 
-unfoldable pub orderOutcome : OrderAnswer → Outcome Order
-orderOutcome Answer.Before = answer comesBefore
-orderOutcome Answer.Equal = answer sameSum
-orderOutcome Answer.After = answer comesAfter
-orderOutcome (Answer.Refused number) = refusal number
+unfoldable pub order_outcome : OrderAnswer → Outcome Order
+order_outcome Answer.Before = answer comes_before
+order_outcome Answer.Equal = answer same_sum
+order_outcome Answer.After = answer comes_after
+order_outcome (Answer.Refused number) = refusal number
 
 -- the smaller sum comes first; of sums that are neither, the smaller error
 unfoldable pub sooner : ExactSum → ExactSum → Bool
 sooner s t = cond (lt s.sum t.sum) true (cond (lt t.sum s.sum) false (lt s.error t.error))
 
-unfoldable pub dateOrder : JulianDate → JulianDate → Order
-dateOrder d e = cond (sooner (sums d) (sums e)) comesBefore (cond (sooner (sums e) (sums d)) comesAfter sameSum)
+unfoldable pub date_order : JulianDate → JulianDate → Order
+date_order d e = cond (sooner (sums d) (sums e)) comes_before (cond (sooner (sums e) (sums d)) comes_after same_sum)
 
 -- 9: the error of a two-sum is not finite, as where a part or the sum is not
 unfoldable pub comparison : JulianDate → JulianDate → Outcome Order
-comparison d e = cond (finite (sums d).error && finite (sums e).error) (answer (dateOrder d e)) (refusal 9)
+comparison d e = cond (finite (sums d).error && finite (sums e).error) (answer (date_order d e)) (refusal 9)
 
 -- ---- the words of the theorems
 
 -- the order of two numbers
 unfoldable pub order_of : ℕ → ℕ → Order
-order_of a b = cond (ltb a b) comesBefore (cond (ltb b a) comesAfter sameSum)
+order_of a b = cond (ltb a b) comes_before (cond (ltb b a) comes_after same_sum)
 
 -- the order of the two the other way round
 unfoldable pub swapped : Order → Order
-swapped comesBefore = comesAfter
-swapped sameSum = sameSum
-swapped comesAfter = comesBefore
+swapped comes_before = comes_after
+swapped same_sum = same_sum
+swapped comes_after = comes_before
 
-unfoldable pub isEqual : Order → Bool
-isEqual comesBefore = false
-isEqual sameSum = true
-isEqual comesAfter = false
+unfoldable pub is_equal : Order → Bool
+is_equal comes_before = false
+is_equal same_sum = true
+is_equal comes_after = false
 
-unfoldable pub notAfter : Order → Bool
-notAfter comesBefore = true
-notAfter sameSum = true
-notAfter comesAfter = false
+unfoldable pub not_after : Order → Bool
+not_after comes_before = true
+not_after same_sum = true
+not_after comes_after = false
 
 -- a part of the date is not finite
 pub data PartNotFinite (d : JulianDate) : Type 0 where
-  first-not-finite : finite d.jd1 ≡ false → PartNotFinite d
-  second-not-finite : finite d.jd2 ≡ false → PartNotFinite d
+  first_not_finite : finite d.jd1 ≡ false → PartNotFinite d
+  second_not_finite : finite d.jd2 ≡ false → PartNotFinite d

@@ -7,9 +7,9 @@ use Rattle.julian.specs.Equality.{sums}
 use Rattle.julian.specs.order.Order.{sooner}
 
 -- its two-sum is finite, and so are its parts
-abbrev pub hasPlace : JulianDate → Bool
-hasPlace d = finite (sums d).error
+abbrev pub has_place : JulianDate → Bool
+has_place d = finite (sums d).error
 
 -- of dates that have a place, the one with the smaller exact sum
-unfoldable pub isEarlier : JulianDate → JulianDate → Bool
-isEarlier d e = sooner (sums d) (sums e)
+unfoldable pub is_earlier : JulianDate → JulianDate → Bool
+is_earlier d e = sooner (sums d) (sums e)

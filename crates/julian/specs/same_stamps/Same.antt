@@ -14,5 +14,5 @@ unfoldable pub same : Stamp → Stamp → Bool
 same a b = eqb a.scale b.scale && (eqb a.jd1 b.jd1 && eqb a.jd2 b.jd2)
 
 -- the Julian date that a stamp's patterns are; every NaN's pattern is the one NaN
-unfoldable pub julianOf : Stamp → JulianDate
-julianOf s = julian (of_bits binary64 s.jd1) (of_bits binary64 s.jd2)
+unfoldable pub julian_of : Stamp → JulianDate
+julian_of s = julian (of_bits binary64 s.jd1) (of_bits binary64 s.jd2)

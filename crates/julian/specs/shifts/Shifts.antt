@@ -4,14 +4,14 @@ use Rattle.std.specs.Prelude.{Float}
 use Rattle.std.specs.Float.{binary64}
 use Rattle.std.specs.Float.Ieee.{add, sub, div}
 use Rattle.refusals.specs.Outcome.{Outcome, answer, onward}
-use Rattle.constants.specs.Constants.{secondsPerDay}
+use Rattle.constants.specs.Constants.{seconds_per_day}
 use Rattle.julian.specs.declared.JulianDate.{JulianDate}
-use Rattle.julian.specs.Finite.{finiteJd, finiteArg}
-use Rattle.julian.specs.shifts.SmallerPart.{mapSmallerPart}
+use Rattle.julian.specs.Finite.{finite_jd, finite_arg}
+use Rattle.julian.specs.shifts.SmallerPart.{map_smaller_part}
 
 -- so many seconds, in days
-unfoldable pub daysOf : Float → Float
-daysOf seconds = div binary64 seconds secondsPerDay
+unfoldable pub days_of : Float → Float
+days_of seconds = div binary64 seconds seconds_per_day
 
 -- so many days more, and less
 unfoldable pub plus : Float → Float → Float → Float
@@ -22,20 +22,20 @@ minus days larger smaller = sub binary64 smaller days
 
 -- the date with its smaller part changed
 unfoldable pub changed : (Float → Float → Float) → JulianDate → Outcome JulianDate
-changed f d = answer (mapSmallerPart f d)
+changed f d = answer (map_smaller_part f d)
 
 -- the same, and 9 where a part is not finite
 unfoldable pub converted : (Float → Float → Float) → JulianDate → Outcome JulianDate
-converted f d = onward (finiteJd d) (changed f)
+converted f d = onward (finite_jd d) (changed f)
 
 -- the date, and 10 where the offset is not finite
-unfoldable pub finiteOffset : Float → JulianDate → Outcome JulianDate
-finiteOffset seconds d = onward (finiteArg seconds) (λ (s : Float). answer d)
+unfoldable pub finite_offset : Float → JulianDate → Outcome JulianDate
+finite_offset seconds d = onward (finite_arg seconds) (λ (s : Float). answer d)
 
 -- the date: 9 where a part is not finite, and then 10 where the offset is not
-unfoldable pub finiteBoth : Float → JulianDate → Outcome JulianDate
-finiteBoth seconds d = onward (finiteJd d) (finiteOffset seconds)
+unfoldable pub finite_both : Float → JulianDate → Outcome JulianDate
+finite_both seconds d = onward (finite_jd d) (finite_offset seconds)
 
 -- so many seconds later, or earlier
-unfoldable pub convertedBy : (Float → Float → Float → Float) → Float → JulianDate → Outcome JulianDate
-convertedBy f seconds d = onward (finiteBoth seconds d) (changed (f (daysOf seconds)))
+unfoldable pub converted_by : (Float → Float → Float → Float) → Float → JulianDate → Outcome JulianDate
+converted_by f seconds d = onward (finite_both seconds d) (changed (f (days_of seconds)))

@@ -1,8 +1,8 @@
 // The Rust's map_smaller_part: the smaller part of a date is chosen, changed, and put back. The larger part stays, so that no digit of it is lost.
 ghost use Rattle.std.specs.Prelude.{◌≡◌};
 ghost use Rattle.refusals.specs.Outcome.{onward};
-ghost use Rattle.julian.specs.JulianDate.{julianOutcome};
-ghost use Rattle.julian.specs.shifts.SmallerPart.{firstIsLarger, parts_of, putBack, mapSmallerPart};
+ghost use Rattle.julian.specs.JulianDate.{julian_outcome};
+ghost use Rattle.julian.specs.shifts.SmallerPart.{first_is_larger, parts_of, put_back, map_smaller_part};
 ghost use Rattle.julian.specs.shifts.Shifts.{plus, minus, changed};
 
 use crate::{JulianAnswer, JulianDate};
@@ -15,7 +15,7 @@ pub struct Parts {
 
 // Whether jd1 is the larger part in size; on equal sizes it is not.
 fn first_is_larger(jd: JulianDate) -> bool
-    ensures { result ≡ firstIsLarger jd }
+    ensures { result ≡ first_is_larger jd }
 {
     floats::larger_in_size(jd.jd1, jd.jd2)
 }
@@ -38,7 +38,7 @@ pub fn split(jd: JulianDate) -> Parts
 
 // The date with x for its smaller part.
 pub fn put_back(jd: JulianDate, x: f64) -> JulianDate
-    ensures { result ≡ putBack jd x }
+    ensures { result ≡ put_back jd x }
 {
     if first_is_larger(jd) {
         JulianDate {
@@ -54,14 +54,14 @@ pub fn put_back(jd: JulianDate, x: f64) -> JulianDate
 }
 
 fn add_days(jd: JulianDate, days: f64) -> JulianDate
-    ensures { result ≡ mapSmallerPart (plus days) jd }
+    ensures { result ≡ map_smaller_part (plus days) jd }
 {
     let p = split(jd);
     put_back(jd, p.smaller + days)
 }
 
 fn subtract_days(jd: JulianDate, days: f64) -> JulianDate
-    ensures { result ≡ mapSmallerPart (minus days) jd }
+    ensures { result ≡ map_smaller_part (minus days) jd }
 {
     let p = split(jd);
     put_back(jd, p.smaller - days)
@@ -69,7 +69,7 @@ fn subtract_days(jd: JulianDate, days: f64) -> JulianDate
 
 // The date so many days later; a refusal stays.
 pub fn later(a: JulianAnswer, days: f64) -> JulianAnswer
-    ensures { julianOutcome result ≡ onward (julianOutcome a) (changed (plus days)) }
+    ensures { julian_outcome result ≡ onward (julian_outcome a) (changed (plus days)) }
 {
     match a {
         JulianAnswer::Date(jd) => JulianAnswer::Date(add_days(jd, days)),
@@ -79,7 +79,7 @@ pub fn later(a: JulianAnswer, days: f64) -> JulianAnswer
 
 // The date so many days earlier; a refusal stays.
 pub fn earlier(a: JulianAnswer, days: f64) -> JulianAnswer
-    ensures { julianOutcome result ≡ onward (julianOutcome a) (changed (minus days)) }
+    ensures { julian_outcome result ≡ onward (julian_outcome a) (changed (minus days)) }
 {
     match a {
         JulianAnswer::Date(jd) => JulianAnswer::Date(subtract_days(jd, days)),

@@ -8,7 +8,7 @@ use Rattle.leap_lists.proofs.behind.Statement.{statement}
 use Rattle.leap_lists.proofs.behind.Tie as tie
 
 returns : tie.Need-returns
-returns c = record { rest = refl; later = λ h. omega arith; not-before = omega arith; within = omega arith }
+returns c = record { rest = refl; later = λ h. omega arith; not_before = omega arith; within = omega arith }
 
 returns-2 : tie.Need-returns-2
 returns-2 c =
@@ -19,7 +19,7 @@ returns-2 c =
     record {
       rest = drop_of_length-le t h ∙ sym (drop_of_length-le t g);
       later = λ k. absurd (let no : ⊥ = omega arith in no);
-      not-before = omega arith;
+      not_before = omega arith;
       within = omega arith;
     }
 

@@ -1,6 +1,6 @@
 -- `leap_lists::line_end` meets its contract. Assumes nothing.
 use Rattle.leap_lists.proofs.Texts.{line-stops, line_on, line-out}
-use Rattle.leap_lists.specs.Texts.{firstLine}
+use Rattle.leap_lists.specs.Texts.{first_line}
 use lib.ListN.{length, drop}
 use native.Mathlib.Omega.{arith}
 use borrow.Author.Rules.{rules}
@@ -10,7 +10,7 @@ use Rattle.leap_lists.proofs.line_end.Statement.{statement}
 use Rattle.leap_lists.proofs.line_end.Tie as tie
 
 abbrev invariant-loop : tie.invariant-loop
-invariant-loop text at i₀ i = (i ≤ length text) × (i + length (firstLine (drop i text)) ≡ at + length (firstLine (drop at text)))
+invariant-loop text at i₀ i = (i ≤ length text) × (i + length (first_line (drop i text)) ≡ at + length (first_line (drop at text)))
 
 abbrev decreases-loop : tie.decreases-loop
 decreases-loop text at i₀ i = length text - i

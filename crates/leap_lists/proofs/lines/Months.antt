@@ -6,34 +6,34 @@ use mathlib.Core.Bool.{Bool, true, false, cond}
 use lib.Dec.{eqb, ltb}
 use lib.IntN.{pos}
 use borrow.Author.Tests.{eq-eqb, ne_eqb, lt-ltb, le-ltb}
-use Rattle.calendar.specs.Calendar.{daysInMonth}
-use Rattle.leap_lists.specs.lines.Months.{monthDays, monthAfter, monthFrom, allMonths, firstMonth}
+use Rattle.calendar.specs.Calendar.{days_in_month}
+use Rattle.leap_lists.specs.lines.Months.{month_days, month_after, month_from, all_months, first_month}
 
-pub days-are : (m : ℕ) → daysInMonth (pos (m / 12)) (pos (m % 12 + 1)) ≡ monthDays m
-unfolding daysInMonth monthDays
+pub days-are : (m : ℕ) → days_in_month (pos (m / 12)) (pos (m % 12 + 1)) ≡ month_days m
+unfolding days_in_month month_days
 days-are m = refl
 
 module _ (k m day : ℕ) where
-  pub here : day ≡ 0 → monthAfter (suc k) m day ≡ m
-  unfolding monthAfter
+  pub here : day ≡ 0 → month_after (suc k) m day ≡ m
+  unfolding month_after
   here e = rw (eq-eqb _ _ e)
 
-  pub within : (day ≡ 0 → ⊥) → day < monthDays m → monthAfter (suc k) m day ≡ 0
-  unfolding monthAfter
+  pub within : (day ≡ 0 → ⊥) → day < month_days m → month_after (suc k) m day ≡ 0
+  unfolding month_after
   within e h = rw (ne_eqb _ _ e, lt-ltb _ _ h)
 
-  pub onward : (day ≡ 0 → ⊥) → monthDays m ≤ day → monthAfter (suc k) m day ≡ monthAfter k (m + 1) (day - monthDays m)
-  unfolding monthAfter
+  pub onward : (day ≡ 0 → ⊥) → month_days m ≤ day → month_after (suc k) m day ≡ month_after k (m + 1) (day - month_days m)
+  unfolding month_after
   onward e h = rw (ne_eqb _ _ e, le-ltb _ _ h)
 
-pub spent : (m day : ℕ) → monthAfter 0 m day ≡ 0
-unfolding monthAfter
+pub spent : (m day : ℕ) → month_after 0 m day ≡ 0
+unfolding month_after
 spent m day = refl
 
 -- one month of those that are left, up to 120000
 pub one_less : (m : ℕ) → m < 120000 → 120000 - m ≡ suc (120000 - (m + 1))
 one_less m h = omega arith
 
-pub from_start : (day : ℕ) → monthAfter (120000 - 22800) 22800 day ≡ monthFrom day
-unfolding monthFrom
+pub from_start : (day : ℕ) → month_after (120000 - 22800) 22800 day ≡ month_from day
+unfolding month_from
 from_start day = refl

@@ -7,17 +7,17 @@ use mathlib.Core.Path.{◌≡◌, refl, sym, ap, ◌∙◌}
 use mathlib.Core.List.{List, [], ◌∷◌}
 use mathlib.Core.Bool.{Bool, true, false, cond}
 use lib.ListN.{length, drop, get_or, drop_of_length-le, get_or-eq_default}
-use lib.Seq.{drop-cons}
+use lib.Seq.{drop_cons}
 use lib.Dec.{leb, ltb}
 use borrow.Author.Tests.{ltb-true, ltb-false}
-use Rattle.numerals.specs.digits.Decimal.{value, number, isDigit, AllDigits}
-use Rattle.numerals.proofs.digits.Decimal.{digit-bounds, number-below}
+use Rattle.numerals.specs.digits.Decimal.{value, number, is_digit, AllDigits}
+use Rattle.numerals.proofs.digits.Decimal.{digit_bounds, number-below}
 use Rattle.leap_lists.specs.declared.lines.Run.{Run}
-use Rattle.leap_lists.specs.lines.Scan.{lineBlank, behindBlanks, firstDigits, DigitsAt}
+use Rattle.leap_lists.specs.lines.Scan.{line_blank, behind_blanks, first_digits, DigitsAt}
 
 -- what is left from i on, where there is a byte
-pub byte-first : (t : List ℕ) (i : ℕ) → i < length t → drop i t ≡ get_or t i 0 ∷ drop (i + 1) t
-byte-first t i h = rw (add-one i) (drop-cons t i 0 h)
+pub byte_first : (t : List ℕ) (i : ℕ) → i < length t → drop i t ≡ get_or t i 0 ∷ drop (i + 1) t
+byte_first t i h = rw (add-one i) (drop_cons t i 0 h)
 
 -- a byte that is not 0 stands inside
 pub inside : (t : List ℕ) (i c : ℕ) → 0 < c → get_or t i 0 ≡ c → i < length t
@@ -30,60 +30,60 @@ inside t i c p e = either (ltb i (length t)) refl
         let no : ⊥ = omega arith in absurd no
 
 -- ---- blanks
-blank-first : (r : Bool) (c : ℕ) (cs : List ℕ) → lineBlank r c ≡ true → behindBlanks r (c ∷ cs) ≡ behindBlanks r cs
-unfolding behindBlanks
-blank-first r c cs e = rw e
+blank_first : (r : Bool) (c : ℕ) (cs : List ℕ) → line_blank r c ≡ true → behind_blanks r (c ∷ cs) ≡ behind_blanks r cs
+unfolding behind_blanks
+blank_first r c cs e = rw e
 
-no-blank-first : (r : Bool) (c : ℕ) (cs : List ℕ) → lineBlank r c ≡ false → behindBlanks r (c ∷ cs) ≡ c ∷ cs
-unfolding behindBlanks
-no-blank-first r c cs e = rw e
+no_blank_first : (r : Bool) (c : ℕ) (cs : List ℕ) → line_blank r c ≡ false → behind_blanks r (c ∷ cs) ≡ c ∷ cs
+unfolding behind_blanks
+no_blank_first r c cs e = rw e
 
-pub blank-skipped : (r : Bool) (t : List ℕ) (i : ℕ) → i < length t → lineBlank r (get_or t i 0) ≡ true → behindBlanks r (drop i t) ≡ behindBlanks r (drop (i + 1) t)
-blank-skipped r t i h e = ap (behindBlanks r) (byte-first t i h) ∙ blank-first r (get_or t i 0) (drop (i + 1) t) e
+pub blank_skipped : (r : Bool) (t : List ℕ) (i : ℕ) → i < length t → line_blank r (get_or t i 0) ≡ true → behind_blanks r (drop i t) ≡ behind_blanks r (drop (i + 1) t)
+blank_skipped r t i h e = ap (behind_blanks r) (byte_first t i h) ∙ blank_first r (get_or t i 0) (drop (i + 1) t) e
 
-pub blanks-stop : (r : Bool) (t : List ℕ) (i : ℕ) → i < length t → lineBlank r (get_or t i 0) ≡ false → drop i t ≡ behindBlanks r (drop i t)
-blanks-stop r t i h e = byte-first t i h ∙ sym (ap (behindBlanks r) (byte-first t i h) ∙ no-blank-first r (get_or t i 0) (drop (i + 1) t) e)
+pub blanks-stop : (r : Bool) (t : List ℕ) (i : ℕ) → i < length t → line_blank r (get_or t i 0) ≡ false → drop i t ≡ behind_blanks r (drop i t)
+blanks-stop r t i h e = byte_first t i h ∙ sym (ap (behind_blanks r) (byte_first t i h) ∙ no_blank_first r (get_or t i 0) (drop (i + 1) t) e)
 
-pub blanks-out : (r : Bool) (t : List ℕ) (i : ℕ) → length t ≤ i → drop i t ≡ behindBlanks r (drop i t)
-unfolding behindBlanks
+pub blanks-out : (r : Bool) (t : List ℕ) (i : ℕ) → length t ≤ i → drop i t ≡ behind_blanks r (drop i t)
+unfolding behind_blanks
 blanks-out r t i h = rw (drop_of_length-le t h)
 
 -- ---- digits
-one-longer : (k c : ℕ) (cs : List ℕ) → isDigit c ≡ true → firstDigits (suc k) (c ∷ cs) ≡ c ∷ firstDigits k cs
-unfolding firstDigits
+one-longer : (k c : ℕ) (cs : List ℕ) → is_digit c ≡ true → first_digits (suc k) (c ∷ cs) ≡ c ∷ first_digits k cs
+unfolding first_digits
 one-longer k c cs e = rw e
 
-pub none_first : (k c : ℕ) (cs : List ℕ) → isDigit c ≡ false → firstDigits k (c ∷ cs) ≡ []
-unfolding firstDigits
+pub none_first : (k c : ℕ) (cs : List ℕ) → is_digit c ≡ false → first_digits k (c ∷ cs) ≡ []
+unfolding first_digits
 none_first zero c cs e = refl
 none_first (suc k) c cs e = rw e
 
-pub none_left : (k : ℕ) → firstDigits k [] ≡ []
-unfolding firstDigits
+pub none_left : (k : ℕ) → first_digits k [] ≡ []
+unfolding first_digits
 none_left zero = refl
 none_left (suc k) = refl
 
-pub none_more : (s : List ℕ) → firstDigits 0 s ≡ []
-unfolding firstDigits
+pub none_more : (s : List ℕ) → first_digits 0 s ≡ []
+unfolding first_digits
 none_more s = refl
 
-pub digit-inside : (t : List ℕ) (i : ℕ) → isDigit (get_or t i 0) ≡ true → i < length t
-digit-inside t i e = let k = digit-bounds (get_or t i 0) e in inside t i (get_or t i 0) (omega (arith, k.0)) refl
+pub digit_inside : (t : List ℕ) (i : ℕ) → is_digit (get_or t i 0) ≡ true → i < length t
+digit_inside t i e = let k = digit_bounds (get_or t i 0) e in inside t i (get_or t i 0) (omega (arith, k.0)) refl
 
-pub leading-more : (t : List ℕ) (i k : ℕ) → isDigit (get_or t i 0) ≡ true → firstDigits (suc k) (drop i t) ≡ get_or t i 0 ∷ firstDigits k (drop (i + 1) t)
-leading-more t i k e = ap (firstDigits (suc k)) (byte-first t i (digit-inside t i e)) ∙ one-longer k (get_or t i 0) (drop (i + 1) t) e
+pub leading-more : (t : List ℕ) (i k : ℕ) → is_digit (get_or t i 0) ≡ true → first_digits (suc k) (drop i t) ≡ get_or t i 0 ∷ first_digits k (drop (i + 1) t)
+leading-more t i k e = ap (first_digits (suc k)) (byte_first t i (digit_inside t i e)) ∙ one-longer k (get_or t i 0) (drop (i + 1) t) e
 
-pub leading-stop : (t : List ℕ) (i k : ℕ) → isDigit (get_or t i 0) ≡ false → firstDigits k (drop i t) ≡ []
+pub leading-stop : (t : List ℕ) (i k : ℕ) → is_digit (get_or t i 0) ≡ false → first_digits k (drop i t) ≡ []
 leading-stop t i k e = either (ltb i (length t)) refl
   where
-    either : (b : Bool) → ltb i (length t) ≡ b → firstDigits k (drop i t) ≡ []
-    either true g = ap (firstDigits k) (byte-first t i (ltb-true i (length t) g)) ∙ none_first k (get_or t i 0) (drop (i + 1) t) e
-    either false g = ap (firstDigits k) (drop_of_length-le t (ltb-false i (length t) g)) ∙ none_left k
+    either : (b : Bool) → ltb i (length t) ≡ b → first_digits k (drop i t) ≡ []
+    either true g = ap (first_digits k) (byte_first t i (ltb-true i (length t) g)) ∙ none_first k (get_or t i 0) (drop (i + 1) t) e
+    either false g = ap (first_digits k) (drop_of_length-le t (ltb-false i (length t) g)) ∙ none_left k
 
 -- ---- a run of digits: v is read, up to index i, and `left` more may follow
 pub record RunsOn (most at : ℕ) (t : List ℕ) (v i left : ℕ) : Type 0 where
-  pub said : value v (firstDigits left (drop i t)) ≡ number (firstDigits most (drop at t))
-  pub many : i + length (firstDigits left (drop i t)) ≡ at + length (firstDigits most (drop at t))
+  pub said : value v (first_digits left (drop i t)) ≡ number (first_digits most (drop at t))
+  pub many : i + length (first_digits left (drop i t)) ≡ at + length (first_digits most (drop at t))
   pub inside : i ≤ length t
   pub few : left ≤ most
   pub small : v < 10 ^ (most - left)
@@ -100,15 +100,15 @@ run_small most at t v i left h r =
 tenfold : (w d P : ℕ) → w < P → d ≤ 9 → 10 * w + d < P * 10
 tenfold w d P h k = omega arith
 
-pub run_on : (most at : ℕ) (t : List ℕ) (v i left next : ℕ) → isDigit (get_or t i 0) ≡ true → next ≡ 10 * v + (get_or t i 0 - 48)
+pub run_on : (most at : ℕ) (t : List ℕ) (v i left next : ℕ) → is_digit (get_or t i 0) ≡ true → next ≡ 10 * v + (get_or t i 0 - 48)
     → RunsOn most at t v i (suc left) → RunsOn most at t next (i + 1) left
 run_on most at t v i left next d e r =
     let more = leading-more t i left d in
-    let bounds = digit-bounds (get_or t i 0) d in
-    let in-it = digit-inside t i d in
+    let bounds = digit_bounds (get_or t i 0) d in
+    let in-it = digit_inside t i d in
     let p : most - left ≡ suc (most - suc left) = omega (arith, r.few) in
     record {
-      said = ap (λ (n : ℕ). value n (firstDigits left (drop (i + 1) t))) e ∙ sym (ap (value v) more) ∙ r.said;
+      said = ap (λ (n : ℕ). value n (first_digits left (drop (i + 1) t))) e ∙ sym (ap (value v) more) ∙ r.said;
       many = omega (arith, ap length more, r.many);
       inside = omega arith;
       few = omega (arith, r.few);
@@ -116,33 +116,33 @@ run_on most at t v i left next d e r =
     }
 
 -- nothing more is read
-pub run_ends : (most at : ℕ) (t : List ℕ) (v i left : ℕ) → firstDigits left (drop i t) ≡ [] → RunsOn most at t v i left
+pub run_ends : (most at : ℕ) (t : List ℕ) (v i left : ℕ) → first_digits left (drop i t) ≡ [] → RunsOn most at t v i left
     → DigitsAt most at t (record { value = v; end = i })
 run_ends most at t v i left e r =
     record { value = sym (ap (value v) e) ∙ r.said; end = omega (arith, ap length e, r.many); within = r.inside }
 
 -- what is read is digits, not more than asked for
-pub all-leading : (k : ℕ) (s : List ℕ) → AllDigits (firstDigits k s)
-unfolding firstDigits AllDigits
+pub all-leading : (k : ℕ) (s : List ℕ) → AllDigits (first_digits k s)
+unfolding first_digits AllDigits
 all-leading zero s = tt
 all-leading (suc k) [] = tt
-all-leading (suc k) (c ∷ cs) = either (isDigit c) refl (all-leading k cs)
+all-leading (suc k) (c ∷ cs) = either (is_digit c) refl (all-leading k cs)
   where
-    either : (b : Bool) → isDigit c ≡ b → AllDigits (firstDigits k cs) → AllDigits (cond b (c ∷ firstDigits k cs) [])
-    either true e h = let g = digit-bounds c e in (g.0, g.1, h)
+    either : (b : Bool) → is_digit c ≡ b → AllDigits (first_digits k cs) → AllDigits (cond b (c ∷ first_digits k cs) [])
+    either true e h = let g = digit_bounds c e in (g.0, g.1, h)
     either false e h = tt
 
-pub few-leading : (k : ℕ) (s : List ℕ) → length (firstDigits k s) ≤ k
-unfolding firstDigits
+pub few-leading : (k : ℕ) (s : List ℕ) → length (first_digits k s) ≤ k
+unfolding first_digits
 few-leading zero s = omega arith
 few-leading (suc k) [] = omega arith
-few-leading (suc k) (c ∷ cs) = either (isDigit c) (few-leading k cs)
+few-leading (suc k) (c ∷ cs) = either (is_digit c) (few-leading k cs)
   where
-    either : (b : Bool) → length (firstDigits k cs) ≤ k → length (cond b (c ∷ firstDigits k cs) []) ≤ suc k
+    either : (b : Bool) → length (first_digits k cs) ≤ k → length (cond b (c ∷ first_digits k cs) []) ≤ suc k
     either true h = omega arith
     either false h = omega arith
 
-pub leading-small : (k : ℕ) (s : List ℕ) → number (firstDigits k s) < 10 ^ k
+pub leading-small : (k : ℕ) (s : List ℕ) → number (first_digits k s) < 10 ^ k
 leading-small k s =
-    let top : 10 ^ length (firstDigits k s) ≤ 10 ^ k = pow-le-pow_right {n = 10} (omega arith) (few-leading k s) in
-    omega (arith, number-below (firstDigits k s) (all-leading k s))
+    let top : 10 ^ length (first_digits k s) ≤ 10 ^ k = pow-le-pow_right {n = 10} (omega arith) (few-leading k s) in
+    omega (arith, number-below (first_digits k s) (all-leading k s))

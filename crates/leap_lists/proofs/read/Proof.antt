@@ -5,18 +5,18 @@ use Prim.Native.Nat.{◌+◌, ◌-◌, ◌<◌, ◌≤◌}
 use mathlib.Core.Path.{◌≡◌, refl, sym, ap, subst, ◌∙◌}
 use lib.ListN.{length, take, drop}
 use Rattle.leap_lists.specs.declared.held.Held.{Held}
-use Rattle.leap_lists.specs.lines.Lines.{lineSays}
-use Rattle.leap_lists.specs.Held.{noneHeld, lineFault, withLine, InRange}
+use Rattle.leap_lists.specs.lines.Lines.{line_says}
+use Rattle.leap_lists.specs.Held.{none_held, line_fault, with_line, InRange}
 use Rattle.leap_lists.specs.Texts.{lines_of}
-use Rattle.leap_lists.specs.Reading.{answered, refusedAt, readFrom, read_of}
-use Rattle.leap_lists.proofs.held.Tests.{small-second, small-start}
-use Rattle.leap_lists.proofs.Reading.{fault-there, no-fault, from_first, all_read, lines-on, further}
+use Rattle.leap_lists.specs.Reading.{answered, refused_at, read_from, read_of}
+use Rattle.leap_lists.proofs.held.Tests.{small-second, small_start}
+use Rattle.leap_lists.proofs.Reading.{fault_there, no_fault, from_first, all_read, lines-on, further}
 use Rattle.leap_lists.proofs.read.Statement.{statement}
 use Rattle.leap_lists.proofs.read.Tie as tie
 
 abbrev invariant-loop : tie.invariant-loop
 invariant-loop text held₀ line₀ at₀ held line at =
-    (at ≤ length text) × (line ≤ at) × (held.second < 2147483648) × (readFrom held line (lines_of (drop at text)) ≡ read_of text)
+    (at ≤ length text) × (line ≤ at) × (held.second < 2147483648) × (read_from held line (lines_of (drop at text)) ≡ read_of text)
 
 abbrev decreases-loop : tie.decreases-loop
 decreases-loop text held₀ line₀ at₀ held line at = length text - at
@@ -25,7 +25,7 @@ loop-holds : tie.Need-loop-init invariant-loop decreases-loop
 loop-holds c =
     let h = c.none-held.ensures in
     let t = c.before.before.args.text.now in
-    (omega arith, omega arith, rw h small-start, ap (λ (x : Held). readFrom x 0 (lines_of t)) h ∙ from_first t)
+    (omega arith, omega arith, rw h small_start, ap (λ (x : Held). read_from x 0 (lines_of t)) h ∙ from_first t)
 
 fault-requires : tie.Need-fault-requires invariant-loop decreases-loop
 fault-requires c κs = (c.before.before.before.before.loop.invariant.2, c.read-line.ensures.1)
@@ -37,10 +37,10 @@ returns c =
     let l = e.before.before in
     let t = l.before.before.before.args.text.now in
     let h : l.loop.at < length t = omega arith in
-    let k = f.fault.ensures ∙ ap (lineFault l.loop.held) f.before.read-line.ensures.0 in
+    let k = f.fault.ensures ∙ ap (line_fault l.loop.held) f.before.read-line.ensures.0 in
     c.refused.ensures
-    ∙ sym (ap (readFrom l.loop.held l.loop.line) (lines-on t l.loop.at e.line-end.result h e.line-end.ensures.0 (e.line-end.result + 1) refl)
-    ∙ fault-there l.loop.held l.loop.line _ _ f.fault.result c.before.if1.true k)
+    ∙ sym (ap (read_from l.loop.held l.loop.line) (lines-on t l.loop.at e.line-end.result h e.line-end.ensures.0 (e.line-end.result + 1) refl)
+    ∙ fault_there l.loop.held l.loop.line _ _ f.fault.result c.before.if1.true k)
     ∙ l.loop.invariant.3
 
 with-line-requires : tie.Need-with-line-requires invariant-loop decreases-loop
@@ -66,14 +66,14 @@ loop-again c =
     let t = l.before.before.before.args.text.now in
     let h : l.loop.at < length t = omega arith in
     let k = f.before.read-line.ensures.0 in
-    let fault = ap (lineFault l.loop.held) (sym k) ∙ sym f.fault.ensures ∙ w.before.if1.false in
-    let next = w.with-line.ensures ∙ ap (withLine l.loop.held) k in (
+    let fault = ap (line_fault l.loop.held) (sym k) ∙ sym f.fault.ensures ∙ w.before.if1.false in
+    let next = w.with-line.ensures ∙ ap (with_line l.loop.held) k in (
       c.behind.ensures.within,
       omega (arith, onward c, l.loop.invariant.1),
       rw w.with-line.ensures (small-second l.loop.held f.before.read-line.result l.loop.invariant.2 f.before.read-line.ensures.1),
-      ap (λ (x : Held). readFrom x (l.loop.line + 1) (lines_of (drop c.behind.result t))) next
-          ∙ sym (no-fault l.loop.held l.loop.line _ (lines_of (drop c.behind.result t)) fault)
-          ∙ sym (ap (readFrom l.loop.held l.loop.line)
+      ap (λ (x : Held). read_from x (l.loop.line + 1) (lines_of (drop c.behind.result t))) next
+          ∙ sym (no_fault l.loop.held l.loop.line _ (lines_of (drop c.behind.result t)) fault)
+          ∙ sym (ap (read_from l.loop.held l.loop.line)
           (lines-on t l.loop.at e.line-end.result h e.line-end.ensures.0 c.behind.result c.behind.ensures.rest))
           ∙ l.loop.invariant.3,
     )

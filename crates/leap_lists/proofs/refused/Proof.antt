@@ -1,11 +1,11 @@
 -- `leap_lists::refused` meets its contract. Assumes nothing.
 use borrow.Author.Rules.{rules}
-use Rattle.leap_lists.specs.Reading.{refusedAt}
+use Rattle.leap_lists.specs.Reading.{refused_at}
 use Rattle.leap_lists.proofs.refused.Statement.{statement}
 use Rattle.leap_lists.proofs.refused.Tie as tie
 
 returns : tie.Need-returns
-unfolding refusedAt
+unfolding refused_at
 returns c = search rules
 
 pub refused-spec : {M : Type 1} → statement M

@@ -7,52 +7,52 @@ use Rattle.leap_lists.specs.declared.lines.Last.{Last}
 use Rattle.leap_lists.specs.declared.lines.Last.TheVariants as L
 use Rattle.leap_lists.specs.declared.lines.Line.{Line}
 use Rattle.leap_lists.specs.declared.lines.Line.TheVariants as K
-use Rattle.leap_lists.specs.lines.Scan.{behindBlanks, firstDigits, ended, lastNumber}
-use Rattle.leap_lists.specs.lines.Months.{monthFrom}
+use Rattle.leap_lists.specs.lines.Scan.{behind_blanks, first_digits, ended, last_number}
+use Rattle.leap_lists.specs.lines.Months.{month_from}
 
 -- the row of month m with the number that ends the line
 abbrev pub row_by : ℕ → Last → Line
 row_by m (L.Number n) = K.Row m n
 row_by m L.Nothing = K.Outside
 
-unfoldable pub rowWith : ℕ → List ℕ → Line
-rowWith m s = row_by m (lastNumber 9 s)
+unfoldable pub row_with : ℕ → List ℕ → Line
+row_with m s = row_by m (last_number 9 s)
 
 -- YYYY-MM: the year of 4 digits before the hyphen, and the month of 2 digits at the start of s
-unfoldable pub monthRow : ℕ → ℕ → List ℕ → Line
-monthRow year places s =
-    let d = firstDigits 2 s in
+unfoldable pub month_row : ℕ → ℕ → List ℕ → Line
+month_row year places s =
+    let d = first_digits 2 s in
     cond (eqb places 4 && (eqb (length d) 2 && (leb 1 (number d) && leb (number d) 12)))
-    (rowWith (12 * year + number d - 1) (drop (length d) s))
+    (row_with (12 * year + number d - 1) (drop (length d) s))
     K.Outside
 
 -- the row of a month that was found, whose number is not 0
-abbrev pub rowFrom : ℕ → List ℕ → Line
-rowFrom zero s = K.Outside
-rowFrom (suc m) s = rowWith (suc m) s
+abbrev pub row_from : ℕ → List ℕ → Line
+row_from zero s = K.Outside
+row_from (suc m) s = row_with (suc m) s
 
 -- NTP seconds, of one digit or more, in front of s
-unfoldable pub ntpRow : ℕ → ℕ → List ℕ → Line
-ntpRow ntp places s = cond (ltb 0 places && eqb (ntp % 86400) 0) (rowFrom (monthFrom (ntp / 86400)) s) K.Outside
+unfoldable pub ntp_row : ℕ → ℕ → List ℕ → Line
+ntp_row ntp places s = cond (ltb 0 places && eqb (ntp % 86400) 0) (row_from (month_from (ntp / 86400)) s) K.Outside
 
 -- a hyphen, 45, behind the first digits tells the two kinds of a row apart
-unfoldable pub rowBehind : List ℕ → List ℕ → Line
-rowBehind d s = cond (eqb (get_or s 0 0) 45) (monthRow (number d) (length d) (drop 1 s)) (ntpRow (number d) (length d) s)
+unfoldable pub row_behind : List ℕ → List ℕ → Line
+row_behind d s = cond (eqb (get_or s 0 0) 45) (month_row (number d) (length d) (drop 1 s)) (ntp_row (number d) (length d) s)
 
 unfoldable pub row_of : List ℕ → Line
-row_of s = let d = firstDigits 12 s in rowBehind d (drop (length d) s)
+row_of s = let d = first_digits 12 s in row_behind d (drop (length d) s)
 
 -- the day of NTP seconds as a Modified Julian Date: 1900-01-01 is 15020
-abbrev pub expiryBy : Last → Line
-expiryBy (L.Number n) = K.Expiry (n / 86400 + 15020)
-expiryBy L.Nothing = K.Outside
+abbrev pub expiry_by : Last → Line
+expiry_by (L.Number n) = K.Expiry (n / 86400 + 15020)
+expiry_by L.Nothing = K.Outside
 
-unfoldable pub expiryOf : List ℕ → Line
-expiryOf s = expiryBy (lastNumber 12 s)
+unfoldable pub expiry_of : List ℕ → Line
+expiry_of s = expiry_by (last_number 12 s)
 
 -- a line behind the blanks in front: empty or a comment, of which #@ (35, 64) is an expiry; else a row
-unfoldable pub lineFrom : List ℕ → Line
-lineFrom s = cond (ended s) (cond (eqb (get_or s 1 0) 64) (expiryOf (drop 2 s)) K.Blank) (row_of s)
+unfoldable pub line_from : List ℕ → Line
+line_from s = cond (ended s) (cond (eqb (get_or s 1 0) 64) (expiry_of (drop 2 s)) K.Blank) (row_of s)
 
-unfoldable pub lineSays : List ℕ → Line
-lineSays s = lineFrom (behindBlanks true s)
+unfoldable pub line_says : List ℕ → Line
+line_says s = line_from (behind_blanks true s)

@@ -2,25 +2,25 @@
 -- programs/line_up.c, which read such lines before: blanks are spaces and tabs, at both ends of a line also carriage returns, and a # begins a comment.
 -- Assumes nothing.
 use Rattle.std.specs.Prelude.{ℕ, zero, suc, ◌+◌, ◌≤◌, ◌≡◌, List, [], ◌∷◌, Bool, true, false, cond, ◌&&◌, ◌||◌, length, drop, get_or, ltb, eqb}
-use Rattle.numerals.specs.digits.Decimal.{number, isDigit}
+use Rattle.numerals.specs.digits.Decimal.{number, is_digit}
 use Rattle.leap_lists.specs.declared.lines.Last.{Last}
 use Rattle.leap_lists.specs.declared.lines.Last.TheVariants as L
 use Rattle.leap_lists.specs.declared.lines.Run.{Run}
 
 -- a space, a tab, and with `returns` a carriage return
-unfoldable pub lineBlank : Bool → ℕ → Bool
-lineBlank returns c = eqb c 32 || (eqb c 9 || (returns && eqb c 13))
+unfoldable pub line_blank : Bool → ℕ → Bool
+line_blank returns c = eqb c 32 || (eqb c 9 || (returns && eqb c 13))
 
 -- what is left behind the blanks in front
-unfoldable pub behindBlanks : Bool → List ℕ → List ℕ
-behindBlanks returns [] = []
-behindBlanks returns (c ∷ cs) = cond (lineBlank returns c) (behindBlanks returns cs) (c ∷ cs)
+unfoldable pub behind_blanks : Bool → List ℕ → List ℕ
+behind_blanks returns [] = []
+behind_blanks returns (c ∷ cs) = cond (line_blank returns c) (behind_blanks returns cs) (c ∷ cs)
 
 -- the digits in front, `most` of them at most
-unfoldable pub firstDigits : ℕ → List ℕ → List ℕ
-firstDigits zero s = []
-firstDigits (suc k) [] = []
-firstDigits (suc k) (c ∷ cs) = cond (isDigit c) (c ∷ firstDigits k cs) []
+unfoldable pub first_digits : ℕ → List ℕ → List ℕ
+first_digits zero s = []
+first_digits (suc k) [] = []
+first_digits (suc k) (c ∷ cs) = cond (is_digit c) (c ∷ first_digits k cs) []
 
 -- nothing is left, or a comment
 unfoldable pub ended : List ℕ → Bool
@@ -28,17 +28,17 @@ ended [] = true
 ended (c ∷ cs) = eqb c 35
 
 -- the number that digits say, where there are some and the line ends behind them
-unfoldable pub numberThen : List ℕ → List ℕ → Last
-numberThen digits rest = cond (ltb 0 (length digits) && ended (behindBlanks true rest)) (L.Number (number digits)) L.Nothing
+unfoldable pub number_then : List ℕ → List ℕ → Last
+number_then digits rest = cond (ltb 0 (length digits) && ended (behind_blanks true rest)) (L.Number (number digits)) L.Nothing
 
 -- a blank or more, a number of at most `most` digits, and the end of the line
-unfoldable pub lastNumber : ℕ → List ℕ → Last
-lastNumber most s =
-    let d = firstDigits most (behindBlanks false s) in
-    cond (lineBlank false (get_or s 0 0)) (numberThen d (drop (length d) (behindBlanks false s))) L.Nothing
+unfoldable pub last_number : ℕ → List ℕ → Last
+last_number most s =
+    let d = first_digits most (behind_blanks false s) in
+    cond (line_blank false (get_or s 0 0)) (number_then d (drop (length d) (behind_blanks false s))) L.Nothing
 
 -- r tells of the digits in front of what t has from `at` on
 pub record DigitsAt (most at : ℕ) (t : List ℕ) (r : Run) : Type 0 where
-  pub value : r.value ≡ number (firstDigits most (drop at t))
-  pub end : r.end ≡ at + length (firstDigits most (drop at t))
+  pub value : r.value ≡ number (first_digits most (drop at t))
+  pub end : r.end ≡ at + length (first_digits most (drop at t))
   pub within : r.end ≤ length t

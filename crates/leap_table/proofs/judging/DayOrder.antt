@@ -10,16 +10,16 @@ use lib.Signed.{lt_z}
 use borrow.Author.Tests.{ltb-true, ltb-false, lt-ltb, le-ltb}
 use Rattle.refusals.specs.Outcome.{answer}
 use Rattle.calendar.specs.declared.CalendarDate.{CalendarDate}
-use Rattle.calendar.specs.Calendar.{date, dateAt, next, leapYear, monthLength}
-use Rattle.calendar.specs.DayCount.{mjdNumber}
+use Rattle.calendar.specs.Calendar.{date, date_at, next, leap_year, month_length}
+use Rattle.calendar.specs.DayCount.{mjd_number}
 use Rattle.calendar.specs.InCalendar.{InCalendar}
 use Rattle.calendar.proofs.Accepted.{Accepted, date-accepted, short}
 use Rattle.calendar.proofs.Days.{after, date-at-in-calendar}
-use Rattle.calendar.proofs.Years.{years-later, not-before}
+use Rattle.calendar.proofs.Years.{years_later, not_before}
 use Rattle.calendar.proofs.Signs.{sub_at}
 use Rattle.calendar.proofs.Mjd.{day-of-date}
 use Rattle.leap_table.specs.declared.judging.Triple.{Triple}
-use Rattle.leap_table.specs.judging.Judging.{earlier, validTriple}
+use Rattle.leap_table.specs.judging.Judging.{earlier, valid_triple}
 
 -- ---- a year from -4799 on, counted from there
 abbrev From : ℤ → Type 0
@@ -67,29 +67,29 @@ place_of t = place (since t.year) t.month t.day
 
 next-rises : (t : CalendarDate) → InCalendar t → From t.year → place_of t < place_of (next t)
 unfolding next
-next-rises t c p = go (ltb t.day (monthLength t.year t.month)) (ltb t.month 12)
+next-rises t c p = go (ltb t.day (month_length t.year t.month)) (ltb t.month 12)
   where
     few : t.day ≤ 31
-    few = omega (arith, c.d-high, short (leapYear t.year) t.month c.m-low c.m-high)
+    few = omega (arith, c.d_high, short (leap_year t.year) t.month c.m_low c.m_high)
 
     go : (a b : Bool) → place_of t < place_of
         (cond a (date t.year t.month (t.day + 1)) (cond b (date t.year (t.month + 1) 1) (date (suc_ℤ t.year) 1 1)))
     go true b = omega arith
     go false true = omega (arith, few)
-    go false false = omega (arith, few, one-year t.year p, c.m-high)
+    go false false = omega (arith, few, one-year t.year p, c.m_high)
 
-rises : (k j : ℕ) → j < k → From (dateAt j).year → place_of (dateAt j) < place_of (dateAt k)
+rises : (k j : ℕ) → j < k → From (date_at j).year → place_of (date_at j) < place_of (date_at k)
 rises zero j h p = absurd (omega arith)
 rises (suc k) j h p = go (dec_lt j k) (λ l. rises k j l p)
   where
-    step : (i : ℕ) → From (dateAt i).year → place_of (dateAt i) < place_of (dateAt (suc i))
-    step i q = subst (λ (t : CalendarDate). place_of (dateAt i) < place_of t) (sym (after i)) (next-rises (dateAt i) (date-at-in-calendar i) q)
+    step : (i : ℕ) → From (date_at i).year → place_of (date_at i) < place_of (date_at (suc i))
+    step i q = subst (λ (t : CalendarDate). place_of (date_at i) < place_of t) (sym (after i)) (next-rises (date_at i) (date-at-in-calendar i) q)
 
-    go : Dec (j < k) → (j < k → place_of (dateAt j) < place_of (dateAt k)) → place_of (dateAt j) < place_of (dateAt (suc k))
-    go (yes l) more = omega (arith, more l, step k (years-later From (not-before 4798) j k (omega (arith, l)) p))
+    go : Dec (j < k) → (j < k → place_of (date_at j) < place_of (date_at k)) → place_of (date_at j) < place_of (date_at (suc k))
+    go (yes l) more = omega (arith, more l, step k (years_later From (not_before 4798) j k (omega (arith, l)) p))
     go (no n) more =
         let e : j ≡ k = omega arith in
-        subst (λ (i : ℕ). place_of (dateAt j) < place_of (dateAt (suc i))) e (step j p)
+        subst (λ (i : ℕ). place_of (date_at j) < place_of (date_at (suc i))) e (step j p)
 
 -- ---- the order by fields is that of the places
 by-places : (y m d y' m' d' : ℕ) → m ≤ 12 → d ≤ 31 → m' ≤ 12 → d' ≤ 31
@@ -120,7 +120,7 @@ less_by c a b = go (ltb a (suc c)) refl (ltb b (suc c)) refl
     go false e true f = sym (le-ltb a b (omega (arith, ltb-false a (suc c) e, ltb-true b (suc c) f)))
     go false e false f = same_test (a - suc c) (b - suc c) a b (λ h. omega (arith, h)) (λ h. omega (arith, h, ltb-false a (suc c) e, ltb-false b (suc c) f))
 
-module _ (a b : Triple) (p : validTriple a ≡ answer tt) (q : validTriple b ≡ answer tt) where
+module _ (a b : Triple) (p : valid_triple a ≡ answer tt) (q : valid_triple b ≡ answer tt) where
   good-a : Accepted a.year a.month a.day
   good-a = date-accepted a.year a.month a.day p
 
@@ -136,13 +136,13 @@ module _ (a b : Triple) (p : validTriple a ≡ answer tt) (q : validTriple b ≡
       let v = years b.year a.year y.year x.year in
       let w = sizes a.month b.month x.m-sign y.m-sign in
       let z = sizes b.month a.month y.m-sign x.m-sign in
-      let d = sizes a.day b.day x.d-sign y.d-sign in
+      let d = sizes a.day b.day x.d_sign y.d_sign in
       (λ i. cond (u i) true (cond (v i) false (cond (w i) true (cond (z i) false (d i)))))
       ∙ by-places (since a.year) (nat_abs a.month) (nat_abs a.day) (since b.year) (nat_abs b.month) (nat_abs b.day)
-      x.m-high (omega (arith, x.d-high, short (leapYear a.year) (nat_abs a.month) x.m-low x.m-high))
-      y.m-high (omega (arith, y.d-high, short (leapYear b.year) (nat_abs b.month) y.m-low y.m-high))
+      x.m_high (omega (arith, x.d_high, short (leap_year a.year) (nat_abs a.month) x.m_low x.m_high))
+      y.m_high (omega (arith, y.d_high, short (leap_year b.year) (nat_abs b.month) y.m_low y.m_high))
 
-  pub earlier-by-day : earlier a b ≡ lt_z (mjdNumber a.year a.month a.day) (mjdNumber b.year b.month b.day)
+  pub earlier-by-day : earlier a b ≡ lt_z (mjd_number a.year a.month a.day) (mjd_number b.year b.month b.day)
   earlier-by-day =
       let (j, e, s) = day-of-date a.year a.month a.day p in
       let (k, f, t) = day-of-date b.year b.month b.day q in
@@ -153,12 +153,12 @@ module _ (a b : Triple) (p : validTriple a ≡ answer tt) (q : validTriple b ≡
       ∙ sym (less_by 2578141 j k)
       ∙ sym (λ i. lt_z (e i) (f i))
     where
-      days : (j k : ℕ) → From (dateAt j).year → From (dateAt k).year → ltb j k ≡ ltb (place_of (dateAt j)) (place_of (dateAt k))
-      days j k u v = same_test j k (place_of (dateAt j)) (place_of (dateAt k)) (λ h. rises k j h u) (λ h. back (dec_lt k j) h)
+      days : (j k : ℕ) → From (date_at j).year → From (date_at k).year → ltb j k ≡ ltb (place_of (date_at j)) (place_of (date_at k))
+      days j k u v = same_test j k (place_of (date_at j)) (place_of (date_at k)) (λ h. rises k j h u) (λ h. back (dec_lt k j) h)
         where
-          back : Dec (k < j) → k ≤ j → place_of (dateAt k) ≤ place_of (dateAt j)
+          back : Dec (k < j) → k ≤ j → place_of (date_at k) ≤ place_of (date_at j)
           back (yes l) h = omega (arith, rises j k l v)
           back (no n) h =
               let e : k ≡ j = omega arith in
-              let z : place_of (dateAt k) ≡ place_of (dateAt j) = ap (λ (i : ℕ). place_of (dateAt i)) e in
+              let z : place_of (date_at k) ≡ place_of (date_at j) = ap (λ (i : ℕ). place_of (date_at i)) e in
               omega (arith, z)

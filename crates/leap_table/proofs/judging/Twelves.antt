@@ -6,13 +6,13 @@ use mathlib.Core.List.{List}
 use lib.ListN.{length, take, drop, length-drop}
 use lib.Seq.{length-take-le}
 use borrow.Author.Tests.{le-leb}
-use Rattle.numerals.specs.little_endian.LittleEndian.{u32_at, i32At, signed32}
+use Rattle.numerals.specs.little_endian.LittleEndian.{u32_at, i32_at, signed32}
 use Rattle.numerals.proofs.little_endian.Parts.{four}
 
-pub in-twelve : (s : List ℕ) (at k j : ℕ) → k ≡ 12 → at + 12 ≤ length s → j + 4 ≤ 12 → i32At (take k (drop at s)) j ≡ i32At s (at + j)
+pub in_twelve : (s : List ℕ) (at k j : ℕ) → k ≡ 12 → at + 12 ≤ length s → j + 4 ≤ 12 → i32_at (take k (drop at s)) j ≡ i32_at s (at + j)
 unfolding u32_at
-in-twelve s at k j e h w =
+in_twelve s at k j e h w =
     let n : length (take 12 (drop at s)) ≡ 12 = length-take-le 12 (drop at s) (omega (arith, length-drop at s)) in
     let room : j + 4 ≤ length (take 12 (drop at s)) = omega (arith, n) in
     let there : at + j + 4 ≤ length s = omega arith in
-    ap (λ (m : ℕ). i32At (take m (drop at s)) j) e ∙ ap signed32 (rw (le-leb _ _ room, le-leb _ _ there) (four s at 12 j (omega arith)))
+    ap (λ (m : ℕ). i32_at (take m (drop at s)) j) e ∙ ap signed32 (rw (le-leb _ _ room, le-leb _ _ there) (four s at 12 j (omega arith)))

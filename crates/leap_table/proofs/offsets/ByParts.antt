@@ -11,30 +11,30 @@ use lib.Ieee.{Float, binary64, of_int}
 use lib.Ieee.Scale.{round_same}
 use Rattle.leap_table.specs.declared.rows.AnnouncedRows.{AnnouncedRows}
 use Rattle.leap_table.specs.rows.Table.{none, starts, reached}
-use Rattle.leap_table.specs.rows.Announced.{secondsAt, announcedRow, announcedTable, rowsIn}
-use Rattle.leap_table.specs.offsets.Offset.{secondsOf, offsetAt, wholeF}
+use Rattle.leap_table.specs.rows.Announced.{seconds_at, announced_row, announced_table, rows_in}
+use Rattle.leap_table.specs.offsets.Offset.{seconds_of, offset_at, whole_f}
 use Rattle.leap_table.proofs.offsets.TableYears.{whole-rows-of, row-seconds-of}
 
 -- the seconds of an announced row are their own float
-pub announced-seconds : (t : AnnouncedRows) (k : ℕ) → secondsOf (announcedRow t k) ≡ wholeF (secondsAt t k)
-unfolding secondsOf of_int
-announced-seconds t k = round_same binary64 false (10000000 * secondsAt t k) (10 ^ 7) (secondsAt t k) 1 (omega arith) (omega arith) (go (secondsAt t k))
+pub announced_seconds : (t : AnnouncedRows) (k : ℕ) → seconds_of (announced_row t k) ≡ whole_f (seconds_at t k)
+unfolding seconds_of of_int
+announced_seconds t k = round_same binary64 false (10000000 * seconds_at t k) (10 ^ 7) (seconds_at t k) 1 (omega arith) (omega arith) (go (seconds_at t k))
   where
     go : (s : ℕ) → 10000000 * s * 1 ≡ s * 10 ^ 7
     go s = omega arith
 
 pub seconds-alike : (a b c d : ℕ) (l m s : List ℤ) (k : ℕ)
-    → secondsOf (announcedRow (announcedTable a b m s) k) ≡ secondsOf (announcedRow (announcedTable c d l s) k)
-unfolding secondsOf
+    → seconds_of (announced_row (announced_table a b m s) k) ≡ seconds_of (announced_row (announced_table c d l s) k)
+unfolding seconds_of
 seconds-alike a b c d l m s k = refl
 
 -- ---- from 1972 on, where k rows are reached in month n
-module _ (size : ℕ) (m s : List ℤ) (n k : ℕ) (h : 23664 ≤ n) (e : k ≡ reached (starts (rowsIn size m s)) n) where
+module _ (size : ℕ) (m s : List ℤ) (n k : ℕ) (h : 23664 ≤ n) (e : k ≡ reached (starts (rows_in size m s)) n) where
   pub whole-reached : 15 ≤ k
-  whole-reached = omega (arith, e, whole-rows-of (announcedTable size size m s) n h)
+  whole-reached = omega (arith, e, whole-rows-of (announced_table size size m s) n h)
 
-  pub seconds-reached : (x : Float) → x ≡ secondsOf (get_or (rowsIn size m s) (k - 1) none) → (mjd f : Float) → x ≡ offsetAt (rowsIn size m s) n mjd f
+  pub seconds-reached : (x : Float) → x ≡ seconds_of (get_or (rows_in size m s) (k - 1) none) → (mjd f : Float) → x ≡ offset_at (rows_in size m s) n mjd f
   seconds-reached x p mjd f =
       p
-      ∙ ap (λ (j : ℕ). secondsOf (get_or (rowsIn size m s) (j - 1) none)) e
-      ∙ row-seconds-of (announcedTable size size m s) n h mjd f
+      ∙ ap (λ (j : ℕ). seconds_of (get_or (rows_in size m s) (j - 1) none)) e
+      ∙ row-seconds-of (announced_table size size m s) n h mjd f

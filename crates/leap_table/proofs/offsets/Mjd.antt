@@ -12,30 +12,30 @@ use mir.Val.{SFits, to_z, of_z}
 use mir.Facts.{to_z-of_z}
 use borrow.Author.Tests.{le-leb, lt-ltb, ltb-true}
 use Rattle.refusals.specs.Outcome.{answer, refusal}
-use Rattle.calendar.specs.Calendar.{leapYear}
+use Rattle.calendar.specs.Calendar.{leap_year}
 use Rattle.calendar.specs.Refusals.{next_of}
-use Rattle.calendar.specs.DayCount.{marchCount, civilCount, mjdNumber, mjdOf}
-use Rattle.calendar.specs.Answers.{mjdOutcome, nextOutcome}
+use Rattle.calendar.specs.DayCount.{march_count, civil_count, mjd_number, mjd_of}
+use Rattle.calendar.specs.Answers.{mjd_outcome, next_outcome}
 use Rattle.calendar.specs.declared.CalendarDate.{CalendarDate}
 use Rattle.calendar.specs.declared.MjdAnswer.{MjdAnswer}
 use Rattle.calendar.specs.declared.MjdAnswer.TheVariants as Mjd
 use Rattle.calendar.specs.declared.NextDay.{NextDay}
 use Rattle.calendar.specs.declared.NextDay.TheVariants as Next
-use Rattle.calendar.proofs.Signs.{raised, at-most-i32}
+use Rattle.calendar.proofs.Signs.{raised, at_most_i32}
 use Rattle.calendar.proofs.Accepted.{date-accepted, short}
 use Rattle.calendar.proofs.Mjd.{mjd-given, mjd-valid, same_answer}
 
 -- ---- the size of the number
-march-small : (y m d : ℕ) → y ≤ 2147488447 → m ≤ 22 → d ≤ 31 → marchCount y m d < 900000000000
-march-small y m d p q r = omega arith
+march_small : (y m d : ℕ) → y ≤ 2147488447 → m ≤ 22 → d ≤ 31 → march_count y m d < 900000000000
+march_small y m d p q r = omega arith
 
-civil-small : (y m d : ℕ) → y ≤ 2147488447 → m ≤ 12 → d ≤ 31 → civilCount y m d < 900000000000
-unfolding civilCount
-civil-small y m d p q r = go (leb m 2)
+civil_small : (y m d : ℕ) → y ≤ 2147488447 → m ≤ 12 → d ≤ 31 → civil_count y m d < 900000000000
+unfolding civil_count
+civil_small y m d p q r = go (leb m 2)
   where
-    go : (b : Bool) → cond b (marchCount (y - 1) (m + 10) d) (marchCount y (m - 2) d) < 900000000000
-    go true = march-small (y - 1) (m + 10) d (omega arith) (omega arith) r
-    go false = march-small y (m - 2) d p (omega arith) r
+    go : (b : Bool) → cond b (march_count (y - 1) (m + 10) d) (march_count y (m - 2) d) < 900000000000
+    go true = march_small (y - 1) (m + 10) d (omega arith) (omega arith) r
+    go false = march_small y (m - 2) d p (omega arith) r
 
 difference-small : (n k : ℕ) → nat_abs (sub_ℕ n k) ≤ n + k
 difference-small n k = go (ltb n k) refl
@@ -44,18 +44,18 @@ difference-small n k = go (ltb n k) refl
     go true e = omega (arith, ltb-true n k e)
     go false e = omega arith
 
-pub mjd-small : (y m d n : ℤ) → SFits w32 y → mjdOf y m d ≡ answer n → nat_abs n < 1000000000000
-unfolding mjdNumber
+pub mjd-small : (y m d n : ℤ) → SFits w32 y → mjd_of y m d ≡ answer n → nat_abs n < 1000000000000
+unfolding mjd_number
 mjd-small y m d n f e =
     let z = mjd-valid y m d n e in
     let a = date-accepted y m d z in
-    let r = raised y 4798 4800 2147483647 (omega arith) a.year (at-most-i32 y f) in
+    let r = raised y 4798 4800 2147483647 (omega arith) a.year (at_most_i32 y f) in
     let s = ap nat_abs r.is in
     let u : nat_abs (y +ℤ pos 4800) ≤ 2147488447 = omega (arith, s, r.high) in
-    let b = short (leapYear y) (nat_abs m) a.m-low a.m-high in
-    let c = civil-small (nat_abs (y +ℤ pos 4800)) (nat_abs m) (nat_abs d) u a.m-high (omega (arith, a.d-high, b)) in
-    let g = difference-small (civilCount (nat_abs (y +ℤ pos 4800)) (nat_abs m) (nat_abs d)) 2432076 in
-    let i : nat_abs n ≡ nat_abs (mjdNumber y m d) = ap nat_abs (same_answer (sym e ∙ mjd-given y m d z)) in
+    let b = short (leap_year y) (nat_abs m) a.m_low a.m_high in
+    let c = civil_small (nat_abs (y +ℤ pos 4800)) (nat_abs m) (nat_abs d) u a.m_high (omega (arith, a.d_high, b)) in
+    let g = difference-small (civil_count (nat_abs (y +ℤ pos 4800)) (nat_abs m) (nat_abs d)) 2432076 in
+    let i : nat_abs n ≡ nat_abs (mjd_number y m d) = ap nat_abs (same_answer (sym e ∙ mjd-given y m d z)) in
     omega (arith, c, g, i)
 
 -- ---- its float and the next day's number and float, as the machine reads them back from their bits
@@ -94,26 +94,26 @@ module _ (z : ℤ) (h : nat_abs z < 1000000000000) where
 
 -- ---- what the calendar's calls answer; the machine hands a call its arguments read back from their bits
 module _ (y m d : ℤ) (f : SFits w32 y) (g : SFits w32 m) (h : SFits w32 d) where
-  read-mjd : mjdOf (to_z w32 (of_z w32 y)) (to_z w32 (of_z w32 m)) (to_z w32 (of_z w32 d)) ≡ mjdOf y m d
-  read-mjd = λ i. mjdOf (to_z-of_z f i) (to_z-of_z g i) (to_z-of_z h i)
+  read-mjd : mjd_of (to_z w32 (of_z w32 y)) (to_z w32 (of_z w32 m)) (to_z w32 (of_z w32 d)) ≡ mjd_of y m d
+  read-mjd = λ i. mjd_of (to_z-of_z f i) (to_z-of_z g i) (to_z-of_z h i)
 
   read_next : next_of (to_z w32 (of_z w32 y)) (to_z w32 (of_z w32 m)) (to_z w32 (of_z w32 d)) ≡ next_of y m d
   read_next = λ i. next_of (to_z-of_z f i) (to_z-of_z g i) (to_z-of_z h i)
 
-  module _ (r : MjdAnswer) (e : mjdOutcome r ≡ mjdOf (to_z w32 (of_z w32 y)) (to_z w32 (of_z w32 m)) (to_z w32 (of_z w32 d))) where
-    pub mjd-is : (n : ℤ) → r ≡ Mjd.Mjd n → mjdOf y m d ≡ answer n
-    unfolding mjdOutcome
-    mjd-is n p = sym (ap mjdOutcome (sym p) ∙ e ∙ read-mjd)
+  module _ (r : MjdAnswer) (e : mjd_outcome r ≡ mjd_of (to_z w32 (of_z w32 y)) (to_z w32 (of_z w32 m)) (to_z w32 (of_z w32 d))) where
+    pub mjd-is : (n : ℤ) → r ≡ Mjd.Mjd n → mjd_of y m d ≡ answer n
+    unfolding mjd_outcome
+    mjd-is n p = sym (ap mjd_outcome (sym p) ∙ e ∙ read-mjd)
 
-    pub no-mjd : (k : ℕ) → r ≡ Mjd.Refused k → mjdOf y m d ≡ refusal k
-    unfolding mjdOutcome
-    no-mjd k p = sym (ap mjdOutcome (sym p) ∙ e ∙ read-mjd)
+    pub no_mjd : (k : ℕ) → r ≡ Mjd.Refused k → mjd_of y m d ≡ refusal k
+    unfolding mjd_outcome
+    no_mjd k p = sym (ap mjd_outcome (sym p) ∙ e ∙ read-mjd)
 
-  module _ (r : NextDay) (e : nextOutcome r ≡ next_of (to_z w32 (of_z w32 y)) (to_z w32 (of_z w32 m)) (to_z w32 (of_z w32 d))) where
+  module _ (r : NextDay) (e : next_outcome r ≡ next_of (to_z w32 (of_z w32 y)) (to_z w32 (of_z w32 m)) (to_z w32 (of_z w32 d))) where
     pub next-date : (t : CalendarDate) → r ≡ Next.Date t → next_of y m d ≡ answer t
-    unfolding nextOutcome
-    next-date t p = sym (ap nextOutcome (sym p) ∙ e ∙ read_next)
+    unfolding next_outcome
+    next-date t p = sym (ap next_outcome (sym p) ∙ e ∙ read_next)
 
-    pub no-next-date : (k : ℕ) → r ≡ Next.Refused k → next_of y m d ≡ refusal k
-    unfolding nextOutcome
-    no-next-date k p = sym (ap nextOutcome (sym p) ∙ e ∙ read_next)
+    pub no_next_date : (k : ℕ) → r ≡ Next.Refused k → next_of y m d ≡ refusal k
+    unfolding next_outcome
+    no_next_date k p = sym (ap next_outcome (sym p) ∙ e ∙ read_next)

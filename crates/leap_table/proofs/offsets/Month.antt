@@ -11,7 +11,7 @@ use mir.Syntax.{w32, w64}
 use mir.Val.{SFits, Fits, to_z, of_z}
 use mir.Facts.{to_z-of_z}
 use borrow.Author.Tests.{ltb-true}
-use Rattle.leap_table.specs.rows.Table.{monthNumber, monthOf}
+use Rattle.leap_table.specs.rows.Table.{month_number, month_of}
 
 small : (z : ℤ) → SFits w32 z → nat_abs z ≤ 2147483648
 small (pos n) f = omega (arith, f.sfits)
@@ -20,29 +20,29 @@ small (negsuc n) f = omega (arith, f.sfits)
 pub year-small : (z : ℤ) → SFits w32 z → nat_abs (to_z w32 (of_z w32 z)) ≤ 2147483648
 year-small z f = rw (to_z-of_z f) (small z f)
 
-before-zero : (z : ℤ) (m : ℕ) → lt_z z (pos 0) ≡ true → 0 ≡ monthNumber z m
-unfolding monthNumber
+before-zero : (z : ℤ) (m : ℕ) → lt_z z (pos 0) ≡ true → 0 ≡ month_number z m
+unfolding month_number
 before-zero (pos n) m e = absurd (omega (arith, ltb-true n 0 e))
 before-zero (negsuc n) m e = refl
 
-since-zero : (z : ℤ) (m : ℕ) → lt_z z (pos 0) ≡ false → T (non_neg z) × (monthOf (nat_abs z) m ≡ monthNumber z m)
-unfolding monthNumber
+since-zero : (z : ℤ) (m : ℕ) → lt_z z (pos 0) ≡ false → T (non_neg z) × (month_of (nat_abs z) m ≡ month_number z m)
+unfolding month_number
 since-zero (pos n) m e = (tt, refl)
 since-zero (negsuc n) m e = absurd (true≢false e)
 
 module _ (z : ℤ) (m : ℕ) (f : SFits w32 z) where
-  pub negative : lt_z (to_z w32 (of_z w32 z)) (pos 0) ≡ true → 0 ≡ monthNumber z m
+  pub negative : lt_z (to_z w32 (of_z w32 z)) (pos 0) ≡ true → 0 ≡ month_number z m
   negative e = before-zero z m (ap (λ (x : ℤ). lt_z x (pos 0)) (sym (to_z-of_z f)) ∙ e)
 
-  since : lt_z (to_z w32 (of_z w32 z)) (pos 0) ≡ false → T (non_neg z) × (monthOf (nat_abs z) m ≡ monthNumber z m)
+  since : lt_z (to_z w32 (of_z w32 z)) (pos 0) ≡ false → T (non_neg z) × (month_of (nat_abs z) m ≡ month_number z m)
   since e = since-zero z m (ap (λ (x : ℤ). lt_z x (pos 0)) (sym (to_z-of_z f)) ∙ e)
 
   pub natural : lt_z (to_z w32 (of_z w32 z)) (pos 0) ≡ false → T (non_neg (to_z w32 (of_z w32 z))) × Fits w64 (nat_abs (to_z w32 (of_z w32 z)))
   natural e = (subst (λ (x : ℤ). T (non_neg x)) (sym (to_z-of_z f)) (since e).0, record { fits = omega (arith, year-small z f) })
 
-  pub counted : lt_z (to_z w32 (of_z w32 z)) (pos 0) ≡ false → monthOf (nat_abs (to_z w32 (of_z w32 z))) m ≡ monthNumber z m
-  counted e = ap (λ (x : ℤ). monthOf (nat_abs x) m) (to_z-of_z f) ∙ (since e).1
+  pub counted : lt_z (to_z w32 (of_z w32 z)) (pos 0) ≡ false → month_of (nat_abs (to_z w32 (of_z w32 z))) m ≡ month_number z m
+  counted e = ap (λ (x : ℤ). month_of (nat_abs x) m) (to_z-of_z f) ∙ (since e).1
 
 -- a month as a call of `month_number` is handed it
-pub read-month : (y m : ℤ) → SFits w32 y → SFits w32 m → monthNumber (to_z w32 (of_z w32 y)) (nat_abs (to_z w32 (of_z w32 m))) ≡ monthNumber y (nat_abs m)
-read-month y m f g = λ i. monthNumber (to_z-of_z f i) (nat_abs (to_z-of_z g i))
+pub read-month : (y m : ℤ) → SFits w32 y → SFits w32 m → month_number (to_z w32 (of_z w32 y)) (nat_abs (to_z w32 (of_z w32 m))) ≡ month_number y (nat_abs m)
+read-month y m f g = λ i. month_number (to_z-of_z f i) (nat_abs (to_z-of_z g i))

@@ -15,19 +15,19 @@ use mir.Facts.{to_z-of_z}
 use borrow.Author.Tests.{ltb-false, leb-true}
 use Rattle.refusals.specs.Outcome.{Outcome, answer, onward}
 use Rattle.floats.specs.Whole.{nought, half}
-use Rattle.calendar.specs.Calendar.{date, leapYear, lengths}
-use Rattle.calendar.specs.Refusals.{validDate}
-use Rattle.calendar.specs.DayCount.{mjdNumber}
+use Rattle.calendar.specs.Calendar.{date, leap_year, lengths}
+use Rattle.calendar.specs.Refusals.{valid_date}
+use Rattle.calendar.specs.DayCount.{mjd_number}
 use Rattle.calendar.proofs.Months.{months}
-use Rattle.calendar.proofs.Accepted.{Accepted, date-accepted, in-calendar-valid}
+use Rattle.calendar.proofs.Accepted.{Accepted, date-accepted, in_calendar_valid}
 use Rattle.calendar.proofs.Mjd.{mjd-given}
 use Rattle.calendar.proofs.NextDates.{next-day, next-is}
 use Rattle.leap_table.specs.declared.offsets.DayOffsets.{DayOffsets}
-use Rattle.leap_table.specs.rows.Table.{Row, monthNumber}
-use Rattle.leap_table.specs.offsets.Offset.{offsetAt, inDay, taiUtcOffset}
-use Rattle.leap_table.specs.offsets.Leap.{offsets, offsetsOfDay, dayOffsets, leapOf, leapAtEndOfDay, twoF}
+use Rattle.leap_table.specs.rows.Table.{Row, month_number}
+use Rattle.leap_table.specs.offsets.Offset.{offset_at, in_day, tai_utc_offset}
+use Rattle.leap_table.specs.offsets.Leap.{offsets, offsets_of_day, day_offsets, leap_of, leap_at_end_of_day, two_f}
 use Rattle.leap_table.specs.offsets.Plain.{Plain}
-use Rattle.leap_table.specs.offsets.Rule.{ruleAt}
+use Rattle.leap_table.specs.offsets.Rule.{rule_at}
 use Rattle.leap_table.proofs.offsets.Offsets.{offset-given}
 use Rattle.leap_table.proofs.offsets.Days.{day-given}
 
@@ -39,18 +39,18 @@ long true = months (λ m. 28 ≤ lengths true m) (omega arith) (omega arith) (om
 long false = months (λ m. 28 ≤ lengths false m) (omega arith) (omega arith) (omega arith) (omega arith) (omega arith) (omega arith) (omega arith)
     (omega arith) (omega arith) (omega arith) (omega arith) (omega arith)
 
-up-to-27 : (y m d : ℕ) → 1972 ≤ y → 1 ≤ m → m ≤ 12 → 1 ≤ d → d ≤ 27 → Plain (pos y) (pos m) (pos d)
-unfolding monthNumber
-up-to-27 y m d p a b c e =
-    let h = long (leapYear (pos y)) m a b in
-    let v : validDate (pos y) (pos m) (pos d) ≡ answer tt =
-    in-calendar-valid (date (pos y) m d) (record { m-low = a; m-high = b; d-low = c; d-high = omega arith }) refl in
-    record { same-month = next-day (pos y) (pos m) (pos d) v (omega arith); from-1972 = omega arith }
+up_to_27 : (y m d : ℕ) → 1972 ≤ y → 1 ≤ m → m ≤ 12 → 1 ≤ d → d ≤ 27 → Plain (pos y) (pos m) (pos d)
+unfolding month_number
+up_to_27 y m d p a b c e =
+    let h = long (leap_year (pos y)) m a b in
+    let v : valid_date (pos y) (pos m) (pos d) ≡ answer tt =
+    in_calendar_valid (date (pos y) m d) (record { m_low = a; m_high = b; d_low = c; d_high = omega arith }) refl in
+    record { same_month = next-day (pos y) (pos m) (pos d) v (omega arith); from_1972 = omega arith }
 
 pub plain : (y m d : ℤ) (first last : ℕ) → lt_z y (pos first) ≡ false → lt_z m (pos 1) ≡ false → lt_z (pos 12) m ≡ false → lt_z d (pos 1) ≡ false
     → le_z d (pos last) ≡ true → 1972 ≤ first → last ≤ 27 → Plain y m d
 plain (pos y) (pos m) (pos d) first last p a b c e g h =
-    up-to-27 y m d (omega (arith, ltb-false y first p)) (ltb-false m 1 a) (ltb-false 12 m b) (ltb-false d 1 c) (omega (arith, leb-true d last e))
+    up_to_27 y m d (omega (arith, ltb-false y first p)) (ltb-false m 1 a) (ltb-false 12 m b) (ltb-false d 1 c) (omega (arith, leb-true d last e))
 plain (pos y) (pos m) (negsuc d) first last p a b c e g h = let z : ◌≡◌ {A = ℕ} 0 1 = cc in absurd (omega arith)
 plain (pos y) (negsuc m) d first last p a b c e g h = let z : ◌≡◌ {A = ℕ} 0 1 = cc in absurd (omega arith)
 plain (negsuc y) m d first last p a b c e g h = let z : ◌≡◌ {A = ℕ} 0 1 = cc in absurd (omega arith)
@@ -59,8 +59,8 @@ pub le_left : (z b : ℤ) (t : Bool) → SFits w32 z → le_z (to_z w32 (of_z w3
 le_left z b t f e = ap (λ (x : ℤ). le_z x b) (sym (to_z-of_z f)) ∙ e
 
 -- ---- a plain date is not refused
-valid : (y m d : ℤ) → Plain y m d → validDate y m d ≡ answer tt
-valid y m d p = (next-is y m d _ p.same-month).0
+valid : (y m d : ℤ) → Plain y m d → valid_date y m d ≡ answer tt
+valid y m d p = (next-is y m d _ p.same_month).0
 
 pub plain-accepted : (y m d : ℤ) → Plain y m d → Accepted y m d
 plain-accepted y m d p = date-accepted y m d (valid y m d p)
@@ -71,25 +71,25 @@ read_plain y m d f g h p = rw (to_z-of_z f, to_z-of_z g, to_z-of_z h) at p
 
 -- and told of these again
 pub read-offset : (rows : List Row) (y m : ℤ) → SFits w32 y → SFits w32 m → (s : Float)
-    → ((mjd f : Float) → s ≡ offsetAt rows (monthNumber (to_z w32 (of_z w32 y)) (nat_abs (to_z w32 (of_z w32 m)))) mjd f)
-    → (mjd f : Float) → s ≡ offsetAt rows (monthNumber y (nat_abs m)) mjd f
+    → ((mjd f : Float) → s ≡ offset_at rows (month_number (to_z w32 (of_z w32 y)) (nat_abs (to_z w32 (of_z w32 m)))) mjd f)
+    → (mjd f : Float) → s ≡ offset_at rows (month_number y (nat_abs m)) mjd f
 read-offset rows y m f g s e = rw (to_z-of_z f, to_z-of_z g) at e
 
-pub read-rule : (rows : List Row) (y m : ℤ) → SFits w32 y → SFits w32 m → ruleAt rows (to_z w32 (of_z w32 y)) (to_z w32 (of_z w32 m)) ≡ ruleAt rows y m
-read-rule rows y m f g = λ i. ruleAt rows (to_z-of_z f i) (to_z-of_z g i)
+pub read-rule : (rows : List Row) (y m : ℤ) → SFits w32 y → SFits w32 m → rule_at rows (to_z w32 (of_z w32 y)) (to_z w32 (of_z w32 m)) ≡ rule_at rows y m
+read-rule rows y m f g = λ i. rule_at rows (to_z-of_z f i) (to_z-of_z g i)
 
 -- ---- the offsets, where s is that of the month
-module _ (rows : List Row) (y m d : ℤ) (p : Plain y m d) (s : Float) (e : (mjd f : Float) → s ≡ offsetAt rows (monthNumber y (nat_abs m)) mjd f) where
-  pub plain-offset : (f : Float) → inDay f ≡ true → answer s ≡ taiUtcOffset rows y m d f
+module _ (rows : List Row) (y m d : ℤ) (p : Plain y m d) (s : Float) (e : (mjd f : Float) → s ≡ offset_at rows (month_number y (nat_abs m)) mjd f) where
+  pub plain-offset : (f : Float) → in_day f ≡ true → answer s ≡ tai_utc_offset rows y m d f
   plain-offset f h = ap answer (e _ f) ∙ sym (offset-given rows y m d f h _ (mjd-given y m d (valid y m d p)))
 
-  pub plain-offsets : answer (offsets s s s) ≡ dayOffsets rows y m d
-  unfolding offsetsOfDay
+  pub plain-offsets : answer (offsets s s s) ≡ day_offsets rows y m d
+  unfolding offsets_of_day
   plain-offsets =
-      (λ i. answer (offsets (e (of_int binary64 (mjdNumber y m d)) nought i) (e (of_int binary64 (mjdNumber y m d)) half i)
-      (e (of_int binary64 (suc_ℤ (mjdNumber y m d))) nought i)))
-      ∙ sym (day-given rows y m d _ (mjd-given y m d (valid y m d p)) _ p.same-month)
+      (λ i. answer (offsets (e (of_int binary64 (mjd_number y m d)) nought i) (e (of_int binary64 (mjd_number y m d)) half i)
+      (e (of_int binary64 (suc_ℤ (mjd_number y m d))) nought i)))
+      ∙ sym (day-given rows y m d _ (mjd-given y m d (valid y m d p)) _ p.same_month)
 
-  pub plain-leap : answer (sub binary64 s (sub binary64 (mul binary64 twoF s) s)) ≡ leapAtEndOfDay rows y m d
-  unfolding leapAtEndOfDay leapOf onward
-  plain-leap = ap (λ (o : Outcome DayOffsets). onward o (λ x. answer (leapOf x))) plain-offsets
+  pub plain-leap : answer (sub binary64 s (sub binary64 (mul binary64 two_f s) s)) ≡ leap_at_end_of_day rows y m d
+  unfolding leap_at_end_of_day leap_of onward
+  plain-leap = ap (λ (o : Outcome DayOffsets). onward o (λ x. answer (leap_of x))) plain-offsets

@@ -10,9 +10,9 @@ use lib.IntN.{ℤ, pos}
 use lib.ListN.{get_or}
 use borrow.Author.Tests.{le-leb, lt-leb}
 use Rattle.leap_table.specs.declared.rows.AnnouncedRows.{AnnouncedRows}
-use Rattle.leap_table.specs.rows.Table.{Row, starts, reached, fixedRows, mostRows}
-use Rattle.leap_table.specs.rows.Announced.{natural, announcedRow, rows_to, least, announcedSize, rows_of, announcedTable, rowsIn, oneApart, bySeconds}
-use Rattle.leap_table.proofs.rows.Tables.{least-right, starts_more, secondsBefore, steps-more}
+use Rattle.leap_table.specs.rows.Table.{Row, starts, reached, fixed_rows, most_rows}
+use Rattle.leap_table.specs.rows.Announced.{natural, announced_row, rows_to, least, announced_size, rows_of, announced_table, rows_in, one_apart, by_seconds}
+use Rattle.leap_table.proofs.rows.Tables.{least-right, starts_more, seconds_before, steps-more}
 
 least-same : (a : ℕ) → least a a ≡ a
 least-same a = go (leb a a)
@@ -27,45 +27,45 @@ least-low a b h = rw (le-leb a b h)
 pub least-high : (a b : ℕ) → b < a → least a b ≡ b
 least-high a b h = rw (lt-leb a b h)
 
-pub announced-size : (k : ℕ) (m s : List ℤ) → announcedSize (announcedTable k k m s) ≡ least k 16
-unfolding announcedSize
+pub announced-size : (k : ℕ) (m s : List ℤ) → announced_size (announced_table k k m s) ≡ least k 16
+unfolding announced_size
 announced-size k m s = ap (λ (j : ℕ). least j 16) (least-same k)
 
 -- ---- by value and by parts
-same-places : (t : AnnouncedRows) (a b n : ℕ) → rows_to (announcedTable a b t.months t.seconds) n ≡ rows_to t n
+same-places : (t : AnnouncedRows) (a b n : ℕ) → rows_to (announced_table a b t.months t.seconds) n ≡ rows_to t n
 unfolding rows_to
 same-places t a b zero = refl
-same-places t a b (suc n) = ap (λ (l : List Row). l ++ (announcedRow t n ∷ [])) (same-places t a b n)
+same-places t a b (suc n) = ap (λ (l : List Row). l ++ (announced_row t n ∷ [])) (same-places t a b n)
 
-pub rows_in : (t : AnnouncedRows) (k : ℕ) → k ≡ least t.months_size t.seconds_size → rowsIn k t.months t.seconds ≡ rows_of t
-unfolding announcedSize
-rows_in t k e =
-    same-places t k k (announcedSize (announcedTable k k t.months t.seconds))
+pub rows_in_lem : (t : AnnouncedRows) (k : ℕ) → k ≡ least t.months_size t.seconds_size → rows_in k t.months t.seconds ≡ rows_of t
+unfolding announced_size
+rows_in_lem t k e =
+    same-places t k k (announced_size (announced_table k k t.months t.seconds))
     ∙ ap (rows_to t) (announced-size k t.months t.seconds ∙ ap (λ (j : ℕ). least j 16) e)
 
 module _ (a b c d : ℕ) (l m s : List ℤ) where
   -- ---- the months
-  pub starts-alike : (n : ℕ) → starts (rows_to (announcedTable a b m s) n) ≡ starts (rows_to (announcedTable c d m l) n)
+  pub starts-alike : (n : ℕ) → starts (rows_to (announced_table a b m s) n) ≡ starts (rows_to (announced_table c d m l) n)
   unfolding rows_to
   starts-alike zero = refl
   starts-alike (suc n) =
-      starts_more (announcedTable a b m s) n
+      starts_more (announced_table a b m s) n
       ∙ ap (λ (k : List ℕ). k ++ (natural (get_or m n (pos 0)) ∷ [])) (starts-alike n)
-      ∙ sym (starts_more (announcedTable c d m l) n)
+      ∙ sym (starts_more (announced_table c d m l) n)
 
   -- ---- the seconds
-  before-alike : (n : ℕ) → secondsBefore (announcedTable a b m s) n ≡ secondsBefore (announcedTable c d l s) n
+  before-alike : (n : ℕ) → seconds_before (announced_table a b m s) n ≡ seconds_before (announced_table c d l s) n
   before-alike zero = refl
   before-alike (suc n) = refl
 
-  pub steps_alike : (n : ℕ) → bySeconds (rows_to (announcedTable a b m s) n) ≡ bySeconds (rows_to (announcedTable c d l s) n)
+  pub steps_alike : (n : ℕ) → by_seconds (rows_to (announced_table a b m s) n) ≡ by_seconds (rows_to (announced_table c d l s) n)
   unfolding rows_to
   steps_alike zero = refl
   steps_alike (suc n) =
-      steps-more (announcedTable a b m s) n
-      ∙ (λ i. steps_alike n i && oneApart (before-alike n i) (natural (get_or s n (pos 0))))
-      ∙ sym (steps-more (announcedTable c d l s) n)
+      steps-more (announced_table a b m s) n
+      ∙ (λ i. steps_alike n i && one_apart (before-alike n i) (natural (get_or s n (pos 0))))
+      ∙ sym (steps-more (announced_table c d l s) n)
 
--- no table has more than `mostRows` rows
-pub few-rows : (k rows : ℕ) → rows ≤ fixedRows + least k 16 → rows ≤ mostRows
+-- no table has more than `most_rows` rows
+pub few-rows : (k rows : ℕ) → rows ≤ fixed_rows + least k 16 → rows ≤ most_rows
 few-rows k rows h = omega (arith, h, least-right k 16)

@@ -24,9 +24,9 @@ both_hold : (a b : Bool) → a && b ≡ true → (a ≡ true) × (b ≡ true)
 both_hold true b e = (refl, e)
 both_hold false b e = absurd (true≢false (sym e))
 
-with-true : (b : Bool) → b && true ≡ b
-with-true true = refl
-with-true false = refl
+with_true : (b : Bool) → b && true ≡ b
+with_true true = refl
+with_true false = refl
 
 and_assoc : (a b c : Bool) → a && (b && c) ≡ (a && b) && c
 and_assoc true b c = refl
@@ -34,22 +34,22 @@ and_assoc false b c = refl
 
 pub one_more : {A : Type 0} (to : A → A → Bool) (d : A) (l : List A) (b : A) → 0 < length l → in_turn to (l ++ (b ∷ [])) ≡ in_turn to l && to (last_of d l) b
 one_more to d [] b h = absurd (not-suc-le-zero h)
-one_more to d (a ∷ []) b h = with-true (to a b)
+one_more to d (a ∷ []) b h = with_true (to a b)
 one_more to d (a ∷ (e ∷ l)) b h =
     ap (λ (t : Bool). to a e && t) (one_more to d (e ∷ l) b (omega arith))
     ∙ and_assoc (to a e) (in_turn to (e ∷ l)) (to (last_of e l) b)
 
-pub in-turn-at : {A : Type 0} (to : A → A → Bool) (d : A) (l : List A) → in_turn to l ≡ true → (i : ℕ) → suc i < length l
+pub in_turn_at : {A : Type 0} (to : A → A → Bool) (d : A) (l : List A) → in_turn to l ≡ true → (i : ℕ) → suc i < length l
     → to (get_or l i d) (get_or l (suc i) d) ≡ true
-in-turn-at to d [] e i h = absurd (not-suc-le-zero h)
-in-turn-at to d (a ∷ []) e i h = absurd (not-suc-le-zero (le_of_suc-le-suc h))
-in-turn-at to d (a ∷ (b ∷ l)) e zero h = (both_hold (to a b) (in_turn to (b ∷ l)) e).0
-in-turn-at to d (a ∷ (b ∷ l)) e (suc i) h = in-turn-at to d (b ∷ l) (both_hold (to a b) (in_turn to (b ∷ l)) e).1 i (le_of_suc-le-suc h)
+in_turn_at to d [] e i h = absurd (not-suc-le-zero h)
+in_turn_at to d (a ∷ []) e i h = absurd (not-suc-le-zero (le_of_suc-le-suc h))
+in_turn_at to d (a ∷ (b ∷ l)) e zero h = (both_hold (to a b) (in_turn to (b ∷ l)) e).0
+in_turn_at to d (a ∷ (b ∷ l)) e (suc i) h = in_turn_at to d (b ∷ l) (both_hold (to a b) (in_turn to (b ∷ l)) e).1 i (le_of_suc-le-suc h)
 
 -- ---- a test that asks one thing more at each place
 module _ (f g : ℕ → Bool) (step : (n : ℕ) → f (suc n) ≡ f n && g n) where
-  pub fails-at : (n : ℕ) → g n ≡ false → f (suc n) ≡ false
-  fails-at n e = step n ∙ ap (λ (b : Bool). f n && b) e ∙ off (f n)
+  pub fails_at : (n : ℕ) → g n ≡ false → f (suc n) ≡ false
+  fails_at n e = step n ∙ ap (λ (b : Bool). f n && b) e ∙ off (f n)
     where
       off : (b : Bool) → b && false ≡ false
       off true = refl

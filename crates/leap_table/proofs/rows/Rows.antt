@@ -9,7 +9,7 @@ use lib.Dec.{T, ltb, eqb}
 use lib.ListN.{length, get_or}
 use lib.Ieee.{Float, nan}
 use lib.Ieee.Fits.{and_l, and_r}
-use Rattle.leap_table.specs.rows.Table.{Row, fixed, none, starts, rising, fixedRows}
+use Rattle.leap_table.specs.rows.Table.{Row, fixed, none, starts, rising, fixed_rows}
 
 -- what stands at place i of the list made by f is f of the row at place i
 pub place : (f : Row → Float) (rows : List Row) (i : ℕ) → i < length rows → get_or (map f rows) i nan ≡ f (get_or rows i none)
@@ -17,7 +17,7 @@ place f [] i h = absurd (not-suc-le-zero h)
 place f (r ∷ rows) zero h = refl
 place f (r ∷ rows) (suc i) h = place f rows i (le_of_suc-le-suc h)
 
-pub fixed-length : length fixed ≡ fixedRows
+pub fixed-length : length fixed ≡ fixed_rows
 unfolding fixed
 fixed-length = refl
 
@@ -41,8 +41,8 @@ pub at : (f : ℕ → Row → Bool) (rows : List Row) → T (every f 0 rows) →
 at f rows t k h = subst (λ (m : ℕ). T (f m (get_or rows k none))) (zero-add k) (from f rows 0 t k h)
 
 -- the rows of places 0 to 13 drift, and no other
-driftTest : ℕ → Row → Bool
-driftTest k r = beq (ltb k 14) (not (eqb r.rate 0))
+drift_test : ℕ → Row → Bool
+drift_test k r = beq (ltb k 14) (not (eqb r.rate 0))
 
 same : (a b : Bool) → T (beq a (not b)) → b ≡ not a
 same true true t = absurd t
@@ -50,6 +50,6 @@ same true false t = refl
 same false true t = refl
 same false false t = absurd t
 
-pub drifts : (k : ℕ) → k < fixedRows → eqb (get_or fixed k none).rate 0 ≡ not (ltb k 14)
-unfolding fixed driftTest
-drifts k h = same (ltb k 14) (eqb (get_or fixed k none).rate 0) (at driftTest fixed tt k h)
+pub drifts : (k : ℕ) → k < fixed_rows → eqb (get_or fixed k none).rate 0 ≡ not (ltb k 14)
+unfolding fixed drift_test
+drifts k h = same (ltb k 14) (eqb (get_or fixed k none).rate 0) (at drift_test fixed tt k h)

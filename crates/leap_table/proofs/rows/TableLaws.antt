@@ -16,13 +16,13 @@ use lib.ListN.{length, get_or}
 use borrow.Author.Tests.{ltb-true, ltb-false, le-ltb, leb-true, leb-false, eqb-true, eqb-false, ne_eqb}
 use Rattle.refusals.specs.Outcome.{answer, refusal}
 use Rattle.leap_table.specs.declared.rows.AnnouncedRows.{AnnouncedRows}
-use Rattle.leap_table.specs.rows.Table.{Row, starts, rising, fixedRows, lastMonth, mostRows, lastSeconds}
-use Rattle.leap_table.specs.rows.Announced.{natural, secondsAt, announcedRow, rows_to, least, announcedSize, rows_of, oneApart, bySeconds, table_of}
-use Rattle.leap_table.specs.rows.Announced.{before, laterAt, OneStep, StepAt, Decision, sizes, order, step, taken}
+use Rattle.leap_table.specs.rows.Table.{Row, starts, rising, fixed_rows, last_month, most_rows, last_seconds}
+use Rattle.leap_table.specs.rows.Announced.{natural, seconds_at, announced_row, rows_to, least, announced_size, rows_of, one_apart, by_seconds, table_of}
+use Rattle.leap_table.specs.rows.Announced.{before, later_at, OneStep, StepAt, Decision, sizes, order, step, taken}
 use Rattle.leap_table.proofs.rows.InTurn.{all_hold, first-fails}
-use Rattle.leap_table.proofs.rows.Tables.{table-length, monthBefore, rises-more, secondsBefore, steps-more}
+use Rattle.leap_table.proofs.rows.Tables.{table-length, month_before, rises-more, seconds_before, steps-more}
 use Rattle.leap_table.proofs.rows.TableTests.{rises-none, steps-none}
-use Rattle.leap_table.proofs.rows.TablesTaken.{Taken, when-taken, sizes-differ, sizes-large, not-rising, not-by-seconds, all_right, all-count}
+use Rattle.leap_table.proofs.rows.TablesTaken.{Taken, when_taken, sizes-differ, sizes-large, not_rising, not_by_seconds, all_right, all-count}
 
 -- ---- months, signed
 signed-later : (b : ℕ) (z : ℤ) → ltb b (natural z) ≡ lt_z (pos b) z
@@ -34,35 +34,35 @@ is_positive (pos n) h = refl
 is_positive (negsuc n) h = absurd (not-suc-le-zero h)
 
 -- ---- steps, signed
-step_of : (b n : ℕ) → oneApart b n ≡ true → OneStep (pos b) (pos n)
+step_of : (b n : ℕ) → one_apart b n ≡ true → OneStep (pos b) (pos n)
 step_of b n e = go (eqb n (b + 1)) refl e
   where
     go : (t : Bool) → eqb n (b + 1) ≡ t → t || eqb b (n + 1) ≡ true → OneStep (pos b) (pos n)
     go true p q = inl (ap pos (eqb-true n (b + 1) p ∙ add-one b))
     go false p q = inr (ap pos (eqb-true b (n + 1) q ∙ add-one n))
 
-no-step-of : (b n : ℕ) → oneApart b n ≡ false → OneStep (pos b) (pos n) → ⊥
-no-step-of b n e s = go (eqb n (b + 1)) refl e s
+no_step_of : (b n : ℕ) → one_apart b n ≡ false → OneStep (pos b) (pos n) → ⊥
+no_step_of b n e s = go (eqb n (b + 1)) refl e s
   where
     go : (t : Bool) → eqb n (b + 1) ≡ t → t || eqb b (n + 1) ≡ false → OneStep (pos b) (pos n) → ⊥
     go true p q s = true≢false q
     go false p q (inl z) = let y : n ≡ suc b = cc in eqb-false n (b + 1) p (y ∙ sym (add-one b))
     go false p q (inr z) = let y : b ≡ suc n = cc in eqb-false b (n + 1) q (y ∙ sym (add-one n))
 
-far : (b : ℕ) → 1 < b → oneApart b 0 ≡ false
+far : (b : ℕ) → 1 < b → one_apart b 0 ≡ false
 far b h = rw (ne_eqb 0 (b + 1) (λ e. omega arith), ne_eqb b (0 + 1) (λ e. omega arith))
 
-signed-step : (b : ℕ) (z : ℤ) → 1 < b → oneApart b (natural z) ≡ true → OneStep (pos b) z
+signed-step : (b : ℕ) (z : ℤ) → 1 < b → one_apart b (natural z) ≡ true → OneStep (pos b) z
 signed-step b (pos n) h e = step_of b n e
 signed-step b (negsuc n) h e = absurd (true≢false (sym e ∙ far b h))
 
-signed-no-step : (b : ℕ) (z : ℤ) → 1 < b → oneApart b (natural z) ≡ false → OneStep (pos b) z → ⊥
-signed-no-step b (pos n) h e s = no-step-of b n e s
+signed-no-step : (b : ℕ) (z : ℤ) → 1 < b → one_apart b (natural z) ≡ false → OneStep (pos b) z → ⊥
+signed-no-step b (pos n) h e s = no_step_of b n e s
 signed-no-step b (negsuc n) h e (inl z) = let y : ◌≡◌ {A = ℕ} 0 1 = cc in omega arith
 signed-no-step b (negsuc zero) h e (inr z) = let y : b ≡ 0 = cc in omega arith
 signed-no-step b (negsuc (suc n)) h e (inr z) = let y : ◌≡◌ {A = ℕ} 0 1 = cc in omega arith
 
-pub near : (b n : ℕ) → oneApart b n ≡ true → (n ≡ b + 1) ⊎ (b ≡ n + 1)
+pub near : (b n : ℕ) → one_apart b n ≡ true → (n ≡ b + 1) ⊎ (b ≡ n + 1)
 near b n e = go (eqb n (b + 1)) refl e
   where
     go : (t : Bool) → eqb n (b + 1) ≡ t → t || eqb b (n + 1) ≡ true → (n ≡ b + 1) ⊎ (b ≡ n + 1)
@@ -70,63 +70,63 @@ near b n e = go (eqb n (b + 1)) refl e
     go false p q = inr (eqb-true b (n + 1) q)
 
 module _ (t : AnnouncedRows) where
-  abbrev risesTo : ℕ → Bool
-  risesTo n = rising (starts (rows_to t n))
+  abbrev rises_to : ℕ → Bool
+  rises_to n = rising (starts (rows_to t n))
 
-  abbrev laterTo : ℕ → Bool
-  laterTo n = ltb (monthBefore t n) (announcedRow t n).month
+  abbrev later_to : ℕ → Bool
+  later_to n = ltb (month_before t n) (announced_row t n).month
 
-  abbrev stepsTo : ℕ → Bool
-  stepsTo n = bySeconds (rows_to t n)
+  abbrev steps_to : ℕ → Bool
+  steps_to n = by_seconds (rows_to t n)
 
-  abbrev stepTo : ℕ → Bool
-  stepTo n = oneApart (secondsBefore t n) (secondsAt t n)
+  abbrev step_to : ℕ → Bool
+  step_to n = one_apart (seconds_before t n) (seconds_at t n)
 
   -- where the rows rise up to row i, the month before it is positive
-  pub high-month : (i : ℕ) → risesTo i ≡ true → lastMonth ≤ monthBefore t i
+  pub high-month : (i : ℕ) → rises_to i ≡ true → last_month ≤ month_before t i
   high-month zero e = omega arith
   high-month (suc i) e =
-      let (p, q) = all_hold risesTo laterTo (rises-more t) (suc i) e i (omega arith) in
-      omega (arith, high-month i p, ltb-true (monthBefore t i) (announcedRow t i).month q)
+      let (p, q) = all_hold rises_to later_to (rises-more t) (suc i) e i (omega arith) in
+      omega (arith, high-month i p, ltb-true (month_before t i) (announced_row t i).month q)
 
-  month-read : (i : ℕ) → risesTo i ≡ true → before (pos lastMonth) t.months i ≡ pos (monthBefore t i)
+  month-read : (i : ℕ) → rises_to i ≡ true → before (pos last_month) t.months i ≡ pos (month_before t i)
   month-read zero e = refl
   month-read (suc i) e = is_positive (get_or t.months i (pos 0)) (omega (arith, high-month (suc i) e))
 
-  later-read : (i : ℕ) → risesTo i ≡ true → laterAt t i ≡ laterTo i
-  later-read i e = ap (λ (z : ℤ). lt_z z (get_or t.months i (pos 0))) (month-read i e) ∙ sym (signed-later (monthBefore t i) (get_or t.months i (pos 0)))
+  later-read : (i : ℕ) → rises_to i ≡ true → later_at t i ≡ later_to i
+  later-read i e = ap (λ (z : ℤ). lt_z z (get_or t.months i (pos 0))) (month-read i e) ∙ sym (signed-later (month_before t i) (get_or t.months i (pos 0)))
 
   -- where the steps up to row i are of one second, its seconds are within i of the last fixed row's
-  pub near_last : (i : ℕ) → stepsTo i ≡ true → (lastSeconds ≤ secondsBefore t i + i) × (secondsBefore t i ≤ lastSeconds + i)
+  pub near_last : (i : ℕ) → steps_to i ≡ true → (last_seconds ≤ seconds_before t i + i) × (seconds_before t i ≤ last_seconds + i)
   near_last zero e = (omega arith, omega arith)
   near_last (suc i) e =
-      let (p, q) = all_hold stepsTo stepTo (steps-more t) (suc i) e i (omega arith) in
+      let (p, q) = all_hold steps_to step_to (steps-more t) (suc i) e i (omega arith) in
       let (a, b) = near_last i p in
-      go (near (secondsBefore t i) (secondsAt t i) q) a b
+      go (near (seconds_before t i) (seconds_at t i) q) a b
     where
-      go : (secondsAt t i ≡ secondsBefore t i + 1) ⊎ (secondsBefore t i ≡ secondsAt t i + 1) → lastSeconds ≤ secondsBefore t i + i
-          → secondsBefore t i ≤ lastSeconds + i
-          → (lastSeconds ≤ secondsAt t i + suc i) × (secondsAt t i ≤ lastSeconds + suc i)
+      go : (seconds_at t i ≡ seconds_before t i + 1) ⊎ (seconds_before t i ≡ seconds_at t i + 1) → last_seconds ≤ seconds_before t i + i
+          → seconds_before t i ≤ last_seconds + i
+          → (last_seconds ≤ seconds_at t i + suc i) × (seconds_at t i ≤ last_seconds + suc i)
       go (inl e) a b = (omega arith, omega arith)
       go (inr e) a b = (omega arith, omega arith)
 
-  module _ (i : ℕ) (h : i ≤ 16) (e : stepsTo i ≡ true) where
-    large : 1 < secondsBefore t i
+  module _ (i : ℕ) (h : i ≤ 16) (e : steps_to i ≡ true) where
+    large : 1 < seconds_before t i
     large = omega (arith, (near_last i e).0)
 
-    seconds-read : before (pos lastSeconds) t.seconds i ≡ pos (secondsBefore t i)
+    seconds-read : before (pos last_seconds) t.seconds i ≡ pos (seconds_before t i)
     seconds-read = go i large
       where
-        go : (j : ℕ) → 1 < secondsBefore t j → before (pos lastSeconds) t.seconds j ≡ pos (secondsBefore t j)
+        go : (j : ℕ) → 1 < seconds_before t j → before (pos last_seconds) t.seconds j ≡ pos (seconds_before t j)
         go zero g = refl
         go (suc j) g = is_positive (get_or t.seconds j (pos 0)) (omega arith)
 
-    step-read : stepTo i ≡ true → StepAt t i
+    step-read : step_to i ≡ true → StepAt t i
     step-read q = subst (λ (z : ℤ). OneStep z (get_or t.seconds i (pos 0))) (sym seconds-read)
-        (signed-step (secondsBefore t i) (get_or t.seconds i (pos 0)) large q)
+        (signed-step (seconds_before t i) (get_or t.seconds i (pos 0)) large q)
 
-    no-step-read : stepTo i ≡ false → StepAt t i → ⊥
-    no-step-read q s = signed-no-step (secondsBefore t i) (get_or t.seconds i (pos 0)) large q
+    no_step_read : step_to i ≡ false → StepAt t i → ⊥
+    no_step_read q s = signed-no-step (seconds_before t i) (get_or t.seconds i (pos 0)) large q
         (subst (λ (z : ℤ). OneStep z (get_or t.seconds i (pos 0))) seconds-read s)
 
   -- ---- WHAT BECOMES OF A TABLE, and why: the four cases exclude each other
@@ -139,26 +139,26 @@ module _ (t : AnnouncedRows) where
   pub table-decided : Decision t
   table-decided = by_size (eqb M S) refl (leb M 16) refl
     where
-      by-steps : M ≡ S → M ≤ 16 → risesTo M ≡ true → (b : Bool) → stepsTo M ≡ b → Decision t
+      by-steps : M ≡ S → M ≤ 16 → rises_to M ≡ true → (b : Bool) → steps_to M ≡ b → Decision t
       by-steps p q r true s =
-          taken p q (λ i h. let (x, y) = all_hold risesTo laterTo (rises-more t) M r i h in later-read i x ∙ y)
-          (λ i h. let (x, y) = all_hold stepsTo stepTo (steps-more t) M s i h in step-read i (omega arith) x y)
+          taken p q (λ i h. let (x, y) = all_hold rises_to later_to (rises-more t) M r i h in later-read i x ∙ y)
+          (λ i h. let (x, y) = all_hold steps_to step_to (steps-more t) M s i h in step-read i (omega arith) x y)
           (sym (all_right t p q (sym r) (sym s)))
       by-steps p q r false s =
-          let (i, h, x, y) = first-fails stepsTo stepTo (steps-more t) (steps-none t) M s in
-          step p q (λ j g. let (v, w) = all_hold risesTo laterTo (rises-more t) M r j g in later-read j v ∙ w)
-          i h (no-step-read i (omega (arith, h)) x y) (sym (not-by-seconds t p q (sym r) (sym s)))
+          let (i, h, x, y) = first-fails steps_to step_to (steps-more t) (steps-none t) M s in
+          step p q (λ j g. let (v, w) = all_hold rises_to later_to (rises-more t) M r j g in later-read j v ∙ w)
+          i h (no_step_read i (omega (arith, h)) x y) (sym (not_by_seconds t p q (sym r) (sym s)))
 
-      by_order : M ≡ S → M ≤ 16 → (b : Bool) → risesTo M ≡ b → Decision t
-      by_order p q true r = by-steps p q r (stepsTo M) refl
+      by_order : M ≡ S → M ≤ 16 → (b : Bool) → rises_to M ≡ b → Decision t
+      by_order p q true r = by-steps p q r (steps_to M) refl
       by_order p q false r =
-          let (i, h, x, y) = first-fails risesTo laterTo (rises-more t) (rises-none t) M r in
-          order p q i h (later-read i x ∙ y) (sym (not-rising t p q (sym r)))
+          let (i, h, x, y) = first-fails rises_to later_to (rises-more t) (rises-none t) M r in
+          order p q i h (later-read i x ∙ y) (sym (not_rising t p q (sym r)))
 
       by_size : (a : Bool) → eqb M S ≡ a → (b : Bool) → leb M 16 ≡ b → Decision t
       by_size false p b q = sizes (λ e. absurd (eqb-false M S p e)) (sym (sizes-differ t (eqb-false M S p)))
       by_size true p false q = sizes (λ e. leb-false M 16 q) (sym (sizes-large t (eqb-true M S p) (leb-false M 16 q)))
-      by_size true p true q = by_order (eqb-true M S p) (leb-true M 16 q) (risesTo M) refl
+      by_size true p true q = by_order (eqb-true M S p) (leb-true M 16 q) (rises_to M) refl
 
 -- ---- a table that is taken
 is_true : (b : Bool) → b ≡ true → T b
@@ -166,31 +166,31 @@ is_true b e = subst T (sym e) tt
 
 module _ (t : AnnouncedRows) (rows : List Row) (e : table_of t ≡ answer rows) where
   abbrev k : Taken t rows
-  k = when-taken t rows e
+  k = when_taken t rows e
 
   pub table-rises : T (rising (starts rows))
   table-rises = subst (λ (l : List Row). T (rising (starts l))) (sym k.all) (is_true _ k.in_order)
 
-  pub lengths : (length rows ≡ fixedRows + t.months_size) × (length rows ≤ mostRows)
+  pub lengths : (length rows ≡ fixed_rows + t.months_size) × (length rows ≤ most_rows)
   lengths =
-      let l = ap length k.all ∙ table-length t (announcedSize t) ∙ ap (λ (n : ℕ). fixedRows + n) (all-count t k.one_size k.most) in
+      let l = ap length k.all ∙ table-length t (announced_size t) ∙ ap (λ (n : ℕ). fixed_rows + n) (all-count t k.one_size k.most) in
       (l, omega (arith, l, k.most))
 
   -- the seconds of announced row i, counted from 0, are within i + 1 of the last fixed row's
-  pub announced-seconds-near : (i : ℕ) → i < t.months_size → (lastSeconds ≤ secondsAt t i + suc i) × (secondsAt t i ≤ lastSeconds + suc i)
-  announced-seconds-near i h =
-      let s = ap (λ (n : ℕ). bySeconds (rows_to t n)) (sym (all-count t k.one_size k.most)) ∙ k.by_ones in
+  pub announced_seconds_near : (i : ℕ) → i < t.months_size → (last_seconds ≤ seconds_at t i + suc i) × (seconds_at t i ≤ last_seconds + suc i)
+  announced_seconds_near i h =
+      let s = ap (λ (n : ℕ). by_seconds (rows_to t n)) (sym (all-count t k.one_size k.most)) ∙ k.by_ones in
       near_last t (suc i) (holds_at t.months_size s (suc i) h)
     where
-      holds_at : (m : ℕ) → bySeconds (rows_to t m) ≡ true → (j : ℕ) → j ≤ m → bySeconds (rows_to t j) ≡ true
+      holds_at : (m : ℕ) → by_seconds (rows_to t m) ≡ true → (j : ℕ) → j ≤ m → by_seconds (rows_to t j) ≡ true
       holds_at m s j g = go (ltb j m) refl
         where
           same : (a b : ℕ) → ltb a b ≡ false → a ≤ b → b ≡ a
           same a b p q = omega (arith, ltb-false a b p)
 
-          go : (b : Bool) → ltb j m ≡ b → bySeconds (rows_to t j) ≡ true
-          go true p = (all_hold (λ n. bySeconds (rows_to t n)) (λ n. oneApart (secondsBefore t n) (secondsAt t n)) (steps-more t) m s j (ltb-true j m p)).0
-          go false p = subst (λ (n : ℕ). bySeconds (rows_to t n) ≡ true) (same j m p g) s
+          go : (b : Bool) → ltb j m ≡ b → by_seconds (rows_to t j) ≡ true
+          go true p = (all_hold (λ n. by_seconds (rows_to t n)) (λ n. one_apart (seconds_before t n) (seconds_at t n)) (steps-more t) m s j (ltb-true j m p)).0
+          go false p = subst (λ (n : ℕ). by_seconds (rows_to t n) ≡ true) (same j m p g) s
 
 -- ---- places past the size are not read
 module _ (t u : AnnouncedRows) where
@@ -203,13 +203,13 @@ module _ (t u : AnnouncedRows) where
       (λ i. same_rows n (λ j g. h j (omega arith)) i ++ (record { month = natural (p i); units = 10000000 * natural (q i); start = 0; rate = 0 } ∷ []))
 
   pub spare-unread : t.months_size ≡ u.months_size → t.seconds_size ≡ u.seconds_size
-      → ((i : ℕ) → i < announcedSize t → (get_or t.months i (pos 0) ≡ get_or u.months i (pos 0))
+      → ((i : ℕ) → i < announced_size t → (get_or t.months i (pos 0) ≡ get_or u.months i (pos 0))
       × (get_or t.seconds i (pos 0) ≡ get_or u.seconds i (pos 0))) → table_of t ≡ table_of u
-  unfolding table_of announcedSize
+  unfolding table_of announced_size
   spare-unread p q h =
-      let r : rows_of t ≡ rows_of u = same_rows (announcedSize t) h ∙ (λ i. rows_to u (sized i)) in
-      (λ i. cond (eqb (p i) (q i) && leb (p i) 16) (cond (rising (starts (r i))) (cond (bySeconds (r i)) (answer (r i)) (refusal 22)) (refusal 21))
+      let r : rows_of t ≡ rows_of u = same_rows (announced_size t) h ∙ (λ i. rows_to u (sized i)) in
+      (λ i. cond (eqb (p i) (q i) && leb (p i) 16) (cond (rising (starts (r i))) (cond (by_seconds (r i)) (answer (r i)) (refusal 22)) (refusal 21))
       (refusal 20))
     where
-      sized : announcedSize t ≡ announcedSize u
+      sized : announced_size t ≡ announced_size u
       sized = λ i. least (least (p i) (q i)) 16

@@ -10,22 +10,22 @@ use borrow.Author.Tests.{eq-eqb, ne_eqb, le-leb, lt-leb, eqb-true, leb-true}
 use Rattle.refusals.specs.Outcome.{Outcome, answer, refusal, onward}
 use Rattle.leap_table.specs.declared.rows.AnnouncedRows.{AnnouncedRows}
 use Rattle.leap_table.specs.rows.Table.{Row, fixed, starts, rising}
-use Rattle.leap_table.specs.rows.Announced.{rows_to, announcedSize, rows_of, sizesFit, bySeconds, table_of, unlessRefused}
+use Rattle.leap_table.specs.rows.Announced.{rows_to, announced_size, rows_of, sizes_fit, by_seconds, table_of, unless_refused}
 use Rattle.leap_table.proofs.rows.TableTests.{rises-none, steps-none}
 
 -- ---- the number of a table's refusal, and a call that goes on with its rows
-module _ {B : Type 0} (t : AnnouncedRows) (n : ℕ) (e : unlessRefused n (rows_of t) ≡ table_of t) (next : List Row → Outcome B) where
+module _ {B : Type 0} (t : AnnouncedRows) (n : ℕ) (e : unless_refused n (rows_of t) ≡ table_of t) (next : List Row → Outcome B) where
   pub not_taken : (n ≡ 0 → ⊥) → refusal n ≡ onward (table_of t) next
   unfolding onward
   not_taken h = go n h ∙ ap (λ (o : Outcome (List Row)). onward o next) e
     where
-      go : (k : ℕ) → (k ≡ 0 → ⊥) → refusal k ≡ onward (unlessRefused k (rows_of t)) next
+      go : (k : ℕ) → (k ≡ 0 → ⊥) → refusal k ≡ onward (unless_refused k (rows_of t)) next
       go zero h = absurd (h refl)
       go (suc k) h = refl
 
   pub taken : n ≡ 0 → next (rows_of t) ≡ onward (table_of t) next
   unfolding onward
-  taken h = ap (λ (k : ℕ). onward (unlessRefused k (rows_of t)) next) (sym h) ∙ ap (λ (o : Outcome (List Row)). onward o next) e
+  taken h = ap (λ (k : ℕ). onward (unless_refused k (rows_of t)) next) (sym h) ∙ ap (λ (o : Outcome (List Row)). onward o next) e
 
 -- ---- the three tests, as the code makes them
 module _ (t : AnnouncedRows) where
@@ -43,28 +43,28 @@ module _ (t : AnnouncedRows) where
   unfolding table_of
   sizes-large e h = rw (eq-eqb M S e, lt-leb M 16 h)
 
-  sizes-fit : M ≡ S → M ≤ 16 → sizesFit t ≡ true
+  sizes-fit : M ≡ S → M ≤ 16 → sizes_fit t ≡ true
   sizes-fit e h = rw (eq-eqb M S e, le-leb M 16 h)
 
-  pub all-count : M ≡ S → M ≤ 16 → announcedSize t ≡ M
-  unfolding announcedSize
+  pub all-count : M ≡ S → M ≤ 16 → announced_size t ≡ M
+  unfolding announced_size
   all-count e h = rw (le-leb M S (omega arith), le-leb M 16 h)
 
   module _ (e : M ≡ S) (h : M ≤ 16) where
     by_size : (f : List Row → Bool) (b : Bool) → b ≡ f (rows_to t M) → f (rows_of t) ≡ b
     by_size f b p = ap (λ (k : ℕ). f (rows_to t k)) (all-count e h) ∙ sym p
 
-    pub not-rising : false ≡ rising (starts (rows_to t M)) → refusal 21 ≡ table_of t
+    pub not_rising : false ≡ rising (starts (rows_to t M)) → refusal 21 ≡ table_of t
     unfolding table_of
-    not-rising p = rw (sizes-fit e h, by_size (λ l. rising (starts l)) false p)
+    not_rising p = rw (sizes-fit e h, by_size (λ l. rising (starts l)) false p)
 
-    pub not-by-seconds : true ≡ rising (starts (rows_to t M)) → false ≡ bySeconds (rows_to t M) → refusal 22 ≡ table_of t
+    pub not_by_seconds : true ≡ rising (starts (rows_to t M)) → false ≡ by_seconds (rows_to t M) → refusal 22 ≡ table_of t
     unfolding table_of
-    not-by-seconds p q = rw (sizes-fit e h, by_size (λ l. rising (starts l)) true p, by_size bySeconds false q)
+    not_by_seconds p q = rw (sizes-fit e h, by_size (λ l. rising (starts l)) true p, by_size by_seconds false q)
 
-    pub all_right : true ≡ rising (starts (rows_to t M)) → true ≡ bySeconds (rows_to t M) → answer (rows_of t) ≡ table_of t
+    pub all_right : true ≡ rising (starts (rows_to t M)) → true ≡ by_seconds (rows_to t M) → answer (rows_of t) ≡ table_of t
     unfolding table_of
-    all_right p q = rw (sizes-fit e h, by_size (λ l. rising (starts l)) true p, by_size bySeconds true q)
+    all_right p q = rw (sizes-fit e h, by_size (λ l. rising (starts l)) true p, by_size by_seconds true q)
 
 -- ---- with no announced rows the table is the fixed one, whatever the places hold
 pub table_none : (t : AnnouncedRows) → t.months_size ≡ 0 → t.seconds_size ≡ 0 → table_of t ≡ answer fixed
@@ -74,7 +74,7 @@ table_none t p q =
     let h : t.months_size ≤ 16 = omega arith in
     sym (all_right t e h
     (sym (ap (λ (k : ℕ). rising (starts (rows_to t k))) p ∙ rises-none t))
-    (sym (ap (λ (k : ℕ). bySeconds (rows_to t k)) p ∙ steps-none t)))
+    (sym (ap (λ (k : ℕ). by_seconds (rows_to t k)) p ∙ steps-none t)))
     ∙ ap (λ (k : ℕ). answer (rows_to t k)) (all-count t e h ∙ p)
 
 -- ---- a table that is taken
@@ -83,15 +83,15 @@ pub record Taken (t : AnnouncedRows) (rows : List Row) : Type 0 where
   pub one_size : t.months_size ≡ t.seconds_size
   pub most : t.months_size ≤ 16
   pub in_order : rising (starts (rows_of t)) ≡ true
-  pub by_ones : bySeconds (rows_of t) ≡ true
+  pub by_ones : by_seconds (rows_of t) ≡ true
 
-pub when-taken : (t : AnnouncedRows) (rows : List Row) → table_of t ≡ answer rows → Taken t rows
+pub when_taken : (t : AnnouncedRows) (rows : List Row) → table_of t ≡ answer rows → Taken t rows
 unfolding table_of
-when-taken t rows e = go (eqb t.months_size t.seconds_size) refl (leb t.months_size 16) refl (rising (starts (rows_of t))) refl
-    (bySeconds (rows_of t)) refl e
+when_taken t rows e = go (eqb t.months_size t.seconds_size) refl (leb t.months_size 16) refl (rising (starts (rows_of t))) refl
+    (by_seconds (rows_of t)) refl e
   where
     go : (a : Bool) → eqb t.months_size t.seconds_size ≡ a → (b : Bool) → leb t.months_size 16 ≡ b → (c : Bool)
-        → rising (starts (rows_of t)) ≡ c → (d : Bool) → bySeconds (rows_of t) ≡ d
+        → rising (starts (rows_of t)) ≡ c → (d : Bool) → by_seconds (rows_of t) ≡ d
         → cond (a && b) (cond c (cond d (answer (rows_of t)) (refusal 22)) (refusal 21)) (refusal 20) ≡ answer rows → Taken t rows
     go true p true q true r true s z = record { all = cc; one_size = eqb-true _ _ p; most = leb-true _ _ q; in_order = r; by_ones = s }
     go true p true q true r false s z = let y : ◌≡◌ {A = ℕ} 0 1 = cc in absurd (omega arith)
@@ -100,4 +100,4 @@ when-taken t rows e = go (eqb t.months_size t.seconds_size) refl (leb t.months_s
     go false p b q c r d s z = let y : ◌≡◌ {A = ℕ} 0 1 = cc in absurd (omega arith)
 
 pub none_rows : (t : AnnouncedRows) → table_of t ≡ answer fixed → rows_of t ≡ fixed
-none_rows t e = sym (when-taken t fixed e).all
+none_rows t e = sym (when_taken t fixed e).all

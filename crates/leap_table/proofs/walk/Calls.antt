@@ -11,49 +11,49 @@ use borrow.Author.Tests.{leb-true}
 use Rattle.refusals.specs.Outcome.{Outcome, answer, refusal, onward}
 use Rattle.refusals.proofs.Onward.{came}
 use Rattle.leap_table.specs.rows.Table.{Row, starts, rising}
-use Rattle.leap_table.specs.rows.Announced.{rows_of, table_of, unlessRefused}
+use Rattle.leap_table.specs.rows.Announced.{rows_of, table_of, unless_refused}
 use Rattle.leap_table.specs.declared.rows.AnnouncedRows.{AnnouncedRows}
-use Rattle.leap_table.proofs.rows.TablesTaken.{when-taken}
+use Rattle.leap_table.proofs.rows.TablesTaken.{when_taken}
 use Rattle.leap_table.proofs.rows.TableLaws.{table-rises}
 use Rattle.leap_table.specs.declared.judging.Triple.{Triple}
 use Rattle.leap_table.specs.declared.walk.WalkAnswer.TheVariants.{Compared, Refused}
 use Rattle.leap_table.specs.walk.Rows.{compared}
-use Rattle.leap_table.specs.judging.Judging.{judgedAll, judgedList}
+use Rattle.leap_table.specs.judging.Judging.{judged_all, judged_list}
 use Rattle.leap_table.proofs.judging.Refused.{refused-any}
-use Rattle.leap_table.specs.walk.Walk.{monthIn, tripleOffset, Walked, walked, walk_of}
-use Rattle.leap_table.specs.walk.Call.{walkOutcome, listAfter, WalkCall}
+use Rattle.leap_table.specs.walk.Walk.{month_in, triple_offset, Walked, walked, walk_of}
+use Rattle.leap_table.specs.walk.Call.{walk_outcome, list_after, WalkCall}
 
-pub answered-any : {A : Type 0} (k : ℕ) (a : A) → k ≡ 0 → unlessRefused k a ≡ answer a
-answered-any k a e = ap (λ (x : ℕ). unlessRefused x a) e
+pub answered-any : {A : Type 0} (k : ℕ) (a : A) → k ≡ 0 → unless_refused k a ≡ answer a
+answered-any k a e = ap (λ (x : ℕ). unless_refused x a) e
 
 -- the same, by an answer that says nothing
-by_number : {A : Type 0} (k : ℕ) (a : A) → unlessRefused k a ≡ onward (unlessRefused {A = Unit} k tt) (λ _. answer a)
+by_number : {A : Type 0} (k : ℕ) (a : A) → unless_refused k a ≡ onward (unless_refused {A = Unit} k tt) (λ _. answer a)
 unfolding onward
 by_number zero a = refl
 by_number (suc k) a = refl
 
 module _ (rows : List Row) (dates : List Triple) (places : ℕ) where
   -- the dates are judged, and then there is the walk
-  pub judged-first : (b : Bool) → onward (judgedList b dates places) (λ _. answer (walked rows dates)) ≡ walk_of rows b dates places
-  unfolding walk_of judgedList onward
+  pub judged-first : (b : Bool) → onward (judged_list b dates places) (λ _. answer (walked rows dates)) ≡ walk_of rows b dates places
+  unfolding walk_of judged_list onward
   judged-first true = go (leb (length dates) places)
     where
-      go : (c : Bool) → onward (cond c (judgedAll dates) (refusal 11)) (λ _. answer (walked rows dates)) ≡ cond c
-          (onward (judgedAll dates) (λ _. answer (walked rows dates))) (refusal 11)
+      go : (c : Bool) → onward (cond c (judged_all dates) (refusal 11)) (λ _. answer (walked rows dates)) ≡ cond c
+          (onward (judged_all dates) (λ _. answer (walked rows dates))) (refusal 11)
       go true = refl
       go false = refl
   judged-first false = refl
 
   pub record Through : Type 0 where
     pub fits : length dates ≤ places
-    pub good : judgedAll dates ≡ answer tt
+    pub good : judged_all dates ≡ answer tt
 
   pub through : (b : Bool) (x : Walked) → walk_of rows b dates places ≡ answer x → Through
   unfolding walk_of
   through true x e = go (leb (length dates) places) refl e
     where
-      go : (c : Bool) → leb (length dates) places ≡ c → cond c (onward (judgedAll dates) (λ _. answer (walked rows dates))) (refusal 11) ≡ answer x → Through
-      go true p q = let (u, v, w) = came (judgedAll dates) (λ _. answer (walked rows dates)) x q in record { fits = leb-true (length dates) places p; good = v }
+      go : (c : Bool) → leb (length dates) places ≡ c → cond c (onward (judged_all dates) (λ _. answer (walked rows dates))) (refusal 11) ≡ answer x → Through
+      go true p q = let (u, v, w) = came (judged_all dates) (λ _. answer (walked rows dates)) x q in record { fits = leb-true (length dates) places p; good = v }
       go false p q = let z : ◌≡◌ {A = ℕ} 0 1 = cc in absurd (omega arith)
   through false x e = let z : ◌≡◌ {A = ℕ} 0 1 = cc in absurd (omega arith)
 
@@ -67,41 +67,41 @@ module _ (t : AnnouncedRows) (b : Bool) (dates : List Triple) (places : ℕ) whe
 
   -- the number by which the list is refused is that of the walk
   abbrev judged : Outcome Unit
-  judged = onward (table_of t) (λ _. judgedList b dates places)
+  judged = onward (table_of t) (λ _. judged_list b dates places)
 
-  pub judged-walk : (k : ℕ) → unlessRefused k tt ≡ judged → unlessRefused k (walked (rows_of t) dates) ≡ whole
+  pub judged-walk : (k : ℕ) → unless_refused k tt ≡ judged → unless_refused k (walked (rows_of t) dates) ≡ whole
   unfolding onward
   judged-walk k e = by_number k (walked (rows_of t) dates) ∙ ap (λ (o : Outcome Unit). onward o (λ _. answer (walked (rows_of t) dates))) e ∙ go (table_of t) refl
     where
-      go : (o : Outcome (List Row)) → table_of t ≡ o → onward (onward o (λ _. judgedList b dates places)) (λ _. answer (walked (rows_of t) dates)) ≡ onward o next
-      go (answer rows) p = ap (λ (l : List Row). onward (judgedList b dates places) (λ _. answer (walked l dates))) (sym (when-taken t rows p).all)
+      go : (o : Outcome (List Row)) → table_of t ≡ o → onward (onward o (λ _. judged_list b dates places)) (λ _. answer (walked (rows_of t) dates)) ≡ onward o next
+      go (answer rows) p = ap (λ (l : List Row). onward (judged_list b dates places) (λ _. answer (walked l dates))) (sym (when_taken t rows p).all)
           ∙ judged-first rows dates places b
       go (refusal j) p = refl
 
   pub record Passed : Type 0 where
     pub order : T (rising (starts (rows_of t)))
     pub fits : length dates ≤ places
-    pub good : judgedAll dates ≡ answer tt
+    pub good : judged_all dates ≡ answer tt
 
-  pub passed : (k : ℕ) → unlessRefused k tt ≡ judged → k ≡ 0 → Passed
+  pub passed : (k : ℕ) → unless_refused k tt ≡ judged → k ≡ 0 → Passed
   passed k e h =
       let (rows, p, q) = came (table_of t) next (walked (rows_of t) dates) (sym (judged-walk k e) ∙ answered-any k (walked (rows_of t) dates) h) in
       let r = through rows dates places b (walked (rows_of t) dates) q in
       record {
-        order = subst (λ (l : List Row). T (rising (starts l))) (when-taken t rows p).all (table-rises t rows p);
+        order = subst (λ (l : List Row). T (rising (starts l))) (when_taken t rows p).all (table-rises t rows p);
         fits = r.fits;
         good = r.good;
       }
 
   module _ {A : Type 0} (write : List Float → List A) (before : List A) where
-    pub refused-call : (k : ℕ) → unlessRefused k tt ≡ judged → (k ≡ 0 → ⊥) → WalkCall write whole before (Refused k) before
-    unfolding walkOutcome onward listAfter
+    pub refused-call : (k : ℕ) → unless_refused k tt ≡ judged → (k ≡ 0 → ⊥) → WalkCall write whole before (Refused k) before
+    unfolding walk_outcome onward list_after
     refused-call k e h = rw (sym (judged-walk k e) ∙ refused-any k (walked (rows_of t) dates) h) (record { says = refl; holds = refl })
 
-    pub walked_call : (k : ℕ) → unlessRefused k tt ≡ judged → k ≡ 0 → (c : ℕ) (after : List A) (room : ℕ)
-        → c ≡ compared (starts (rows_of t)) (map monthIn dates) → after ≡ write (map (tripleOffset (rows_of t)) dates) ++ drop room before
-        → length (write (map (tripleOffset (rows_of t)) dates)) ≡ room → WalkCall write whole before (Compared c) after
-    unfolding walkOutcome onward listAfter
+    pub walked_call : (k : ℕ) → unless_refused k tt ≡ judged → k ≡ 0 → (c : ℕ) (after : List A) (room : ℕ)
+        → c ≡ compared (starts (rows_of t)) (map month_in dates) → after ≡ write (map (triple_offset (rows_of t)) dates) ++ drop room before
+        → length (write (map (triple_offset (rows_of t)) dates)) ≡ room → WalkCall write whole before (Compared c) after
+    unfolding walk_outcome onward list_after
     walked_call k e h c after room p q r =
         rw (sym (judged-walk k e) ∙ answered-any k (walked (rows_of t) dates) h)
-        (record { says = ap answer p; holds = q ∙ ap (λ (n : ℕ). write (map (tripleOffset (rows_of t)) dates) ++ drop n before) (sym r) })
+        (record { says = ap answer p; holds = q ∙ ap (λ (n : ℕ). write (map (triple_offset (rows_of t)) dates) ++ drop n before) (sym r) })

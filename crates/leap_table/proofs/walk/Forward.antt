@@ -8,27 +8,27 @@ use mathlib.Core.Bool.{true, false, cond}
 use mathlib.Core.List.{List, [], ◌∷◌}
 use lib.Dec.{T, leb}
 use lib.ListN.{length, get_or, drop, get_or-eq_default, length-map}
-use lib.Seq.{drop-cons}
+use lib.Seq.{drop_cons}
 use lib.Ieee.{Float, binary64, add, sub, mul}
 use borrow.Author.Tests.{le-leb, lt-leb}
-use Rattle.leap_table.specs.rows.Table.{Row, starts, reached, rising, mostRows}
-use Rattle.leap_table.specs.offsets.Forward.{never, byTerms}
+use Rattle.leap_table.specs.rows.Table.{Row, starts, reached, rising, most_rows}
+use Rattle.leap_table.specs.offsets.Forward.{never, by_terms}
 use Rattle.leap_table.specs.declared.offsets.walk_rows.RowTerms.{RowTerms}
 use Rattle.leap_table.proofs.rows.Reached.{at_most, low, high}
-use Rattle.leap_table.specs.offsets.Offset.{offsetBy}
+use Rattle.leap_table.specs.offsets.Offset.{offset_by}
 use Rattle.leap_table.specs.declared.walk.Walk.{Walk}
-use Rattle.leap_table.specs.walk.Rows.{heldAgainst, left, compared}
+use Rattle.leap_table.specs.walk.Rows.{held_against, left, compared}
 use Rattle.leap_table.specs.walk.Asked.{Standing, Stepped}
 
 -- ---- the offset by a row's terms, in its two cases
 module _ (t : RowTerms) (mjd f : Float) where
-  pub stays : t.drifts ≡ false → t.seconds ≡ byTerms t mjd f
-  unfolding byTerms
+  pub stays : t.drifts ≡ false → t.seconds ≡ by_terms t mjd f
+  unfolding by_terms
   stays e = rw e
 
   pub goes : t.drifts ≡ true → (x y : Float) → x ≡ mjd → y ≡ f
-      → add binary64 t.seconds (mul binary64 (sub binary64 (add binary64 x y) t.start) t.rate) ≡ byTerms t mjd f
-  unfolding byTerms
+      → add binary64 t.seconds (mul binary64 (sub binary64 (add binary64 x y) t.start) t.rate) ≡ by_terms t mjd f
+  unfolding by_terms
   goes e x y p q = rw (e, p, q)
 
 -- ---- a place in the list and what stands there
@@ -60,39 +60,39 @@ module _ (l : List ℕ) where
 
   module _ (n : ℕ) where
     -- a row that has begun is passed, and counts
-    pub passes : (k : ℕ) → k < length l → get_or l k 0 ≤ n → (heldAgainst (drop k l) n ≡ suc (heldAgainst (drop (suc k) l) n))
+    pub passes : (k : ℕ) → k < length l → get_or l k 0 ≤ n → (held_against (drop k l) n ≡ suc (held_against (drop (suc k) l) n))
         × (left (drop k l) n ≡ left (drop (suc k) l) n)
-    unfolding heldAgainst left
+    unfolding held_against left
     passes k h g =
-        let e = drop-cons l k 0 h in
+        let e = drop_cons l k 0 h in
         let b = le-leb (get_or l k 0) n g in
-        (ap (λ (m : List ℕ). heldAgainst m n) e ∙ rw b, ap (λ (m : List ℕ). left m n) e ∙ rw b)
+        (ap (λ (m : List ℕ). held_against m n) e ∙ rw b, ap (λ (m : List ℕ). left m n) e ∙ rw b)
 
     -- a row that has not begun ends it, and counts; where no row is left nothing does
-    pub halts : (k : ℕ) → (k < length l → n < get_or l k 0) → (left (drop k l) n ≡ drop k l) × (heldAgainst (drop k l) n ≡ cond (leb (length l) k) 0 1)
-    unfolding heldAgainst left
+    pub halts : (k : ℕ) → (k < length l → n < get_or l k 0) → (left (drop k l) n ≡ drop k l) × (held_against (drop k l) n ≡ cond (leb (length l) k) 0 1)
+    unfolding held_against left
     halts k g = go (dec_lt k (length l))
       where
-        go : Dec (k < length l) → (left (drop k l) n ≡ drop k l) × (heldAgainst (drop k l) n ≡ cond (leb (length l) k) 0 1)
+        go : Dec (k < length l) → (left (drop k l) n ≡ drop k l) × (held_against (drop k l) n ≡ cond (leb (length l) k) 0 1)
         go (yes w) =
-            let e = drop-cons l k 0 w in
+            let e = drop_cons l k 0 w in
             let b = lt-leb (get_or l k 0) n (g w) in
             let c = lt-leb (length l) k w in
-            (ap (λ (m : List ℕ). left m n) e ∙ rw b (sym e), ap (λ (m : List ℕ). heldAgainst m n) e ∙ rw (b, c))
+            (ap (λ (m : List ℕ). left m n) e ∙ rw b (sym e), ap (λ (m : List ℕ). held_against m n) e ∙ rw (b, c))
         go (no w) =
             let e = drop_past k (omega arith) in
             let c = le-leb (length l) k (omega arith) in
-            (ap (λ (m : List ℕ). left m n) e ∙ sym e, ap (λ (m : List ℕ). heldAgainst m n) e ∙ rw c)
+            (ap (λ (m : List ℕ). left m n) e ∙ sym e, ap (λ (m : List ℕ). held_against m n) e ∙ rw c)
 
-    pub stops : (k : ℕ) → n < get_or l k never → (left (drop k l) n ≡ drop k l) × (heldAgainst (drop k l) n ≡ cond (leb (length l) k) 0 1)
+    pub stops : (k : ℕ) → n < get_or l k never → (left (drop k l) n ≡ drop k l) × (held_against (drop k l) n ≡ cond (leb (length l) k) 0 1)
     stops k g = halts k (λ w. omega (arith, there k 0 never w))
 
     -- from place k to place k + d
     pub between : (d k : ℕ) → k + d ≤ length l → ((j : ℕ) → k ≤ j → j < k + d → get_or l j 0 ≤ n)
-        → (heldAgainst (drop k l) n ≡ d + heldAgainst (drop (k + d) l) n) × (left (drop k l) n ≡ left (drop (k + d) l) n)
+        → (held_against (drop k l) n ≡ d + held_against (drop (k + d) l) n) × (left (drop k l) n ≡ left (drop (k + d) l) n)
     between zero k h g =
         let e : k ≡ k + 0 = omega arith in
-        (ap (λ (x : ℕ). heldAgainst (drop x l) n) e ∙ zero_more (heldAgainst (drop (k + 0) l) n), ap (λ (x : ℕ). left (drop x l) n) e)
+        (ap (λ (x : ℕ). held_against (drop x l) n) e ∙ zero_more (held_against (drop (k + 0) l) n), ap (λ (x : ℕ). left (drop x l) n) e)
       where
         zero_more : (x : ℕ) → x ≡ 0 + x
         zero_more x = omega arith
@@ -100,13 +100,13 @@ module _ (l : List ℕ) where
         let p = passes k (omega arith) (g k (omega arith) (omega arith)) in
         let q = between d (suc k) (omega arith) (λ j a b. g j (omega arith) (omega arith)) in
         let e : suc k + d ≡ k + suc d = omega arith in (
-          p.0 ∙ ap suc (q.0 ∙ ap (λ (x : ℕ). d + heldAgainst (drop x l) n) e) ∙ suc-more d (heldAgainst (drop (k + suc d) l) n),
+          p.0 ∙ ap suc (q.0 ∙ ap (λ (x : ℕ). d + held_against (drop x l) n) e) ∙ suc_more d (held_against (drop (k + suc d) l) n),
           p.1 ∙ q.1
               ∙ ap (λ (x : ℕ). left (drop x l) n) e,
         )
       where
-        suc-more : (a b : ℕ) → suc (a + b) ≡ suc a + b
-        suc-more a b = omega arith
+        suc_more : (a b : ℕ) → suc (a + b) ≡ suc a + b
+        suc_more a b = omega arith
 
     -- in a list that rises the rows passed are those that the look-up finds
     pub found : T (rising l) → (k : ℕ) → k ≤ length l → ((j : ℕ) → j < k → get_or l j 0 ≤ n) → n < get_or l k never → k ≡ reached l n
@@ -123,7 +123,7 @@ module _ (l : List ℕ) where
 -- ---- the rows passed in one month
 pub record Walking (rows : List Row) (month k₀ c₀ k next c : ℕ) : Type 0 where
   pub most : k ≤ length rows
-  pub small : length rows ≤ mostRows
+  pub small : length rows ≤ most_rows
   pub few : c₀ < 0x8000_0000_0000_0000
   pub forward : k₀ ≤ k
   pub is-next : next ≡ get_or (starts rows) k never
@@ -134,9 +134,9 @@ module _ (rows : List Row) (month : ℕ) where
   as_many : length (starts rows) ≡ length rows
   as_many = length-map rows (λ (r : Row). r.month)
 
-  pub walking-starts : (w : Walk) (k : ℕ) → k ≡ w.reached → Standing rows w → w.compared < 0x8000_0000_0000_0000
+  pub walking_starts : (w : Walk) (k : ℕ) → k ≡ w.reached → Standing rows w → w.compared < 0x8000_0000_0000_0000
       → Walking rows month k w.compared k w.next w.compared
-  walking-starts w k e s h =
+  walking_starts w k e s h =
       record {
         most = omega (arith, s.most);
         small = s.small;
@@ -148,13 +148,13 @@ module _ (rows : List Row) (month : ℕ) where
       }
 
   module _ (k₀ c₀ k next c : ℕ) (w : Walking rows month k₀ c₀ k next c) (h : month < 1099511627776) where
-    pub walking-in : next ≤ month → k < length rows
-    walking-in g = omega (arith, in_list (starts rows) k month (omega arith) (omega (arith, w.is-next)), as_many)
+    pub walking_in : next ≤ month → k < length rows
+    walking_in g = omega (arith, in_list (starts rows) k month (omega arith) (omega (arith, w.is-next)), as_many)
 
-    pub walking-goes : next ≤ month → (r : ℕ) → r ≡ get_or (starts rows) (k + 1) never → Walking rows month k₀ c₀ (k + 1) r (c + 1)
-    walking-goes g r e =
+    pub walking_goes : next ≤ month → (r : ℕ) → r ≡ get_or (starts rows) (k + 1) never → Walking rows month k₀ c₀ (k + 1) r (c + 1)
+    walking_goes g r e =
         record {
-          most = omega (arith, walking-in g);
+          most = omega (arith, walking_in g);
           small = w.small;
           few = w.few;
           forward = omega (arith, w.forward);
@@ -168,12 +168,12 @@ module _ (rows : List Row) (month : ℕ) where
         at j a b (no x) =
             let e : k ≡ j = omega arith in
             subst (λ (i : ℕ). get_or (starts rows) i 0 ≤ month) e
-            (omega (arith, there (starts rows) k 0 never (omega (arith, walking-in g, as_many)), w.is-next))
+            (omega (arith, there (starts rows) k 0 never (omega (arith, walking_in g, as_many)), w.is-next))
 
-  pub walking-ends : (w : Walk) (n k next c : ℕ) → n ≡ length rows → Walking rows month w.reached w.compared k next c → month < next → (t : RowTerms)
-      → ((mjd f : Float) → byTerms t mjd f ≡ offsetBy rows k mjd f)
+  pub walking_ends : (w : Walk) (n k next c : ℕ) → n ≡ length rows → Walking rows month w.reached w.compared k next c → month < next → (t : RowTerms)
+      → ((mjd f : Float) → by_terms t mjd f ≡ offset_by rows k mjd f)
       → Stepped rows w month (record { rows = n; reached = k; next = next; terms = t; compared = c })
-  walking-ends w n k next c z a h t e =
+  walking_ends w n k next c z a h t e =
       record {
         stands = record { all = z; most = a.most; small = a.small; next = a.is-next; terms = e };
         forward = a.forward;

@@ -3,18 +3,18 @@ use mathlib.Core.Path.{◌≡◌}
 use mathlib.Core.List.{List}
 use Rattle.refusals.specs.Outcome.{answer}
 use Rattle.floats.specs.Whole.{nought}
-use Rattle.calendar.specs.DayCount.{mjdNumber}
+use Rattle.calendar.specs.DayCount.{mjd_number}
 use Rattle.calendar.proofs.Mjd.{mjd-given}
 use Rattle.leap_table.specs.rows.Table.{Row}
-use Rattle.leap_table.specs.offsets.Offset.{taiUtcOffset}
-use Rattle.leap_table.proofs.offsets.Offsets.{in-day-zero, offset-given}
+use Rattle.leap_table.specs.offsets.Offset.{tai_utc_offset}
+use Rattle.leap_table.proofs.offsets.Offsets.{in_day_zero, offset-given}
 use Rattle.leap_table.specs.declared.judging.Triple.{Triple}
-use Rattle.leap_table.specs.judging.Judging.{validTriple}
-use Rattle.leap_table.specs.walk.Walk.{tripleOffset}
+use Rattle.leap_table.specs.judging.Judging.{valid_triple}
+use Rattle.leap_table.specs.walk.Walk.{triple_offset}
 
 -- EACH OFFSET is the one that the look-up gives for its date
-pub offset-of-look-up : (rows : List Row) (t : Triple) → validTriple t ≡ answer tt
-    → taiUtcOffset rows t.year t.month t.day nought ≡ answer (tripleOffset rows t)
-unfolding tripleOffset
-offset-of-look-up rows t e = offset-given rows t.year t.month t.day nought in-day-zero (mjdNumber t.year t.month t.day)
+pub offset-of-look-up : (rows : List Row) (t : Triple) → valid_triple t ≡ answer tt
+    → tai_utc_offset rows t.year t.month t.day nought ≡ answer (triple_offset rows t)
+unfolding triple_offset
+offset-of-look-up rows t e = offset-given rows t.year t.month t.day nought in_day_zero (mjd_number t.year t.month t.day)
     (mjd-given t.year t.month t.day e)

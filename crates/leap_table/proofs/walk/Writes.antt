@@ -8,8 +8,8 @@ use lib.ListN.{length, take, drop, set, length-append, length-drop, take-append-
 use lib.Ieee.{Float}
 use lib.Seq.{take_at, drop_at, drop-drop, length-take-le, set_split}
 use Rattle.leap_table.specs.declared.judging.Triple.{Triple}
-use Rattle.leap_table.specs.judging.Lists.{datesFrom}
-use Rattle.leap_table.proofs.judging.Judges.{next-date, no-date, all-dates}
+use Rattle.leap_table.specs.judging.Lists.{dates_from}
+use Rattle.leap_table.proofs.judging.Judges.{next-date, no_date, all-dates}
 
 -- Up to place `at` all is written; `rest` is what the list is to hold from there on, and still holds what it held.
 pub record Putting {A : Type 0} (all rest before now : List A) (at : ℕ) : Type 0 where
@@ -18,12 +18,12 @@ pub record Putting {A : Type 0} (all rest before now : List A) (at : ℕ) : Type
   pub kept : drop at now ≡ drop at before
 
 module _ {A : Type 0} (all before : List A) where
-  pub putting-starts : Putting all all before before 0
-  putting-starts = record { long = refl; done = refl; kept = refl }
+  pub putting_starts : Putting all all before before 0
+  putting_starts = record { long = refl; done = refl; kept = refl }
 
-  pub putting-goes : (rest rest' now now' vs : List A) (at : ℕ) → Putting all rest before now at → rest ≡ vs ++ rest' → now' ≡ take at now
+  pub putting_goes : (rest rest' now now' vs : List A) (at : ℕ) → Putting all rest before now at → rest ≡ vs ++ rest' → now' ≡ take at now
       ++ (vs ++ drop (at + length vs) now) → at + length vs ≤ length now → Putting all rest' before now' (at + length vs)
-  putting-goes rest rest' now now' vs at p e o h =
+  putting_goes rest rest' now now' vs at p e o h =
       let q : now' ≡ (take at now ++ vs) ++ drop (at + length vs) now = o ∙ sym (append_assoc (take at now) vs (drop (at + length vs) now)) in
       let n : length (take at now ++ vs) ≡ at + length vs = length-append (take at now) vs
       ∙ ap (λ (k : ℕ). k + length vs) (length-take-le at now (omega arith)) in
@@ -43,8 +43,8 @@ module _ {A : Type 0} (all before : List A) where
           back : length (drop (at + length vs) now) ≡ length now - (at + length vs) → at + length vs + length (drop (at + length vs) now) ≡ length now
           back z = omega arith
 
-  pub putting-ends : (now : List A) (at : ℕ) → Putting all (drop at before) before now at → now ≡ all
-  putting-ends now at p = sym (take-append-drop at now) ∙ ap (λ (r : List A). take at now ++ r) p.kept ∙ sym p.done
+  pub putting_ends : (now : List A) (at : ℕ) → Putting all (drop at before) before now at → now ≡ all
+  putting_ends now at p = sym (take-append-drop at now) ∙ ap (λ (r : List A). take at now ++ r) p.kept ∙ sym p.done
 
 -- one element
 pub one-put : {A : Type 0} (l : List A) (i : ℕ) (a : A) → i < length l → set l i a ≡ take i l ++ ((a ∷ []) ++ drop (i + 1) l)
@@ -55,42 +55,42 @@ module _ {A : Type 0} (write : List Float → List A) (put : Float → List A) (
     (nil : write [] ≡ []) (cons : (x : Float) (l : List Float) → write (x ∷ l) ≡ put x ++ write l) (each : (x : Float) → length (put x) ≡ size)
     (off : Triple → Float) (f : ℕ → Triple) (n : ℕ) (before : List A) where
   abbrev pub whole : List A
-  whole = write (map off (datesFrom f 0 n)) ++ drop (at n) before
+  whole = write (map off (dates_from f 0 n)) ++ drop (at n) before
 
   abbrev pub rest : ℕ → List A
-  rest i = write (map off (datesFrom f i (n - i))) ++ drop (at n) before
+  rest i = write (map off (dates_from f i (n - i))) ++ drop (at n) before
 
-  pub writing-starts : Putting whole (rest 0) before before (at 0)
-  writing-starts =
+  pub writing_starts : Putting whole (rest 0) before before (at 0)
+  writing_starts =
       subst (λ (k : ℕ). Putting whole (rest 0) before before k) (sym none)
-      (subst (λ (d : List Triple). Putting whole (write (map off d) ++ drop (at n) before) before before 0) (all-dates f n 0) (putting-starts whole before))
+      (subst (λ (d : List Triple). Putting whole (write (map off d) ++ drop (at n) before) before before 0) (all-dates f n 0) (putting_starts whole before))
 
-  pub writing-goes : (i : ℕ) (now now' : List A) (x : Float) → i < n → Putting whole (rest i) before now (at i) → x ≡ off (f i) → now' ≡ take (at i) now
+  pub writing_goes : (i : ℕ) (now now' : List A) (x : Float) → i < n → Putting whole (rest i) before now (at i) → x ≡ off (f i) → now' ≡ take (at i) now
       ++ (put x ++ drop (at i + size) now) → at i + size ≤ length now → Putting whole (rest (i + 1)) before now' (at (i + 1))
-  writing-goes i now now' x h p e o l =
+  writing_goes i now now' x h p e o l =
       subst (λ (k : ℕ). Putting whole (rest (i + 1)) before now' k) (ap (λ (k : ℕ). at i + k) (each x) ∙ sym (more i))
-      (putting-goes whole before (rest i) (rest (i + 1)) now now' (put x) (at i) p
+      (putting_goes whole before (rest i) (rest (i + 1)) now now' (put x) (at i) p
       (ap (λ (d : List Triple). write (map off d) ++ drop (at n) before) (next-date f n i h)
       ∙ ap (λ (y : List A). y ++ drop (at n) before)
-      (ap (λ (y : Float). write (y ∷ map off (datesFrom f (i + 1) (n - (i + 1))))) (sym e) ∙ cons x (map off (datesFrom f (i + 1) (n - (i + 1)))))
-      ∙ append_assoc (put x) (write (map off (datesFrom f (i + 1) (n - (i + 1))))) (drop (at n) before))
+      (ap (λ (y : Float). write (y ∷ map off (dates_from f (i + 1) (n - (i + 1))))) (sym e) ∙ cons x (map off (dates_from f (i + 1) (n - (i + 1)))))
+      ∙ append_assoc (put x) (write (map off (dates_from f (i + 1) (n - (i + 1))))) (drop (at n) before))
       (o ∙ ap (λ (k : ℕ). take (at i) now ++ (put x ++ drop (at i + k) now)) (sym (each x)))
       (omega (arith, each x)))
 
-  pub writing-ends : (i : ℕ) (now : List A) → i ≤ n → n ≤ i → Putting whole (rest i) before now (at i) → now ≡ whole
-  writing-ends i now h g p =
+  pub writing_ends : (i : ℕ) (now : List A) → i ≤ n → n ≤ i → Putting whole (rest i) before now (at i) → now ≡ whole
+  writing_ends i now h g p =
       let e : n ≡ i = omega arith in
-      putting-ends whole before now (at i)
+      putting_ends whole before now (at i)
       (subst (λ (r : List A). Putting whole r before now (at i))
-      (ap (λ (d : List Triple). write (map off d) ++ drop (at n) before) (no-date f n i g) ∙ ap (λ (y : List A). y ++ drop (at n) before) nil
+      (ap (λ (d : List Triple). write (map off d) ++ drop (at n) before) (no_date f n i g) ∙ ap (λ (y : List A). y ++ drop (at n) before) nil
       ∙ ap (λ (k : ℕ). drop (at k) before) e) p)
 
-  pub written-length : (k i : ℕ) → length (write (map off (datesFrom f i k))) ≡ size * k
-  unfolding datesFrom
+  pub written-length : (k i : ℕ) → length (write (map off (dates_from f i k))) ≡ size * k
+  unfolding dates_from
   written-length zero i = ap length nil ∙ sym (mul-zero size)
   written-length (suc k) i =
-      ap length (cons (off (f i)) (map off (datesFrom f (suc i) k)))
-      ∙ length-append (put (off (f i))) (write (map off (datesFrom f (suc i) k)))
+      ap length (cons (off (f i)) (map off (dates_from f (suc i) k)))
+      ∙ length-append (put (off (f i))) (write (map off (dates_from f (suc i) k)))
       ∙ (λ x. each (off (f i)) x + written-length k (suc i) x)
       ∙ one_more size (size * k) (size * suc k) (mul-suc size k)
     where

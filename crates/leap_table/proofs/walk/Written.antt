@@ -9,61 +9,61 @@ use lib.ListN.{length, get_or, take, drop}
 use lib.Ieee.{Float}
 use borrow.Author.Tests.{eq-eqb}
 use Rattle.refusals.specs.Outcome.{answer}
-use Rattle.numerals.specs.little_endian.LittleEndian.{fourAt, u32_at, i32At, signed32}
+use Rattle.numerals.specs.little_endian.LittleEndian.{four_at, u32_at, i32_at, signed32}
 use Rattle.numerals.specs.little_endian.Written.{all_bytes}
-use Rattle.numerals.proofs.little_endian.Items.{written-length, item-at, item-u32}
+use Rattle.numerals.proofs.little_endian.Items.{written-length, item_at, item_u32}
 use Rattle.numerals.proofs.little_endian.RoundTrip.{read-signed-4}
 use Rattle.leap_table.specs.declared.judging.Triple.{Triple}
 use Rattle.leap_table.specs.rows.Table.{Row}
-use Rattle.leap_table.specs.judging.Lists.{datesFrom, tripleIn}
-use Rattle.leap_table.specs.walk.Walk.{tripleOffset, walked, walk_of}
-use Rattle.leap_table.specs.walk.Call.{listAfter}
-use Rattle.leap_table.specs.walk.Lists.{walkOfBytes, in_eights}
-use Rattle.leap_table.specs.walk.Writer.{tripleBytes, DateFits, offsetBytes}
+use Rattle.leap_table.specs.judging.Lists.{dates_from, triple_in}
+use Rattle.leap_table.specs.walk.Walk.{triple_offset, walked, walk_of}
+use Rattle.leap_table.specs.walk.Call.{list_after}
+use Rattle.leap_table.specs.walk.Lists.{walk_of_bytes, in_eights}
+use Rattle.leap_table.specs.walk.Writer.{triple_bytes, DateFits, offset_bytes}
 
-twelve : (t : Triple) → length (tripleBytes t) ≡ 12
-unfolding tripleBytes
+twelve : (t : Triple) → length (triple_bytes t) ≡ 12
+unfolding triple_bytes
 twelve t = refl
 
 -- the three fields of a date's own bytes
 module _ (t : Triple) (f : DateFits t) where
-  field-0 : i32At (tripleBytes t) 0 ≡ t.year
-  unfolding tripleBytes u32_at fourAt
-  field-0 = read-signed-4 t.year f.year-fits
+  field_0 : i32_at (triple_bytes t) 0 ≡ t.year
+  unfolding triple_bytes u32_at four_at
+  field_0 = read-signed-4 t.year f.year_fits
 
-  field-4 : i32At (tripleBytes t) 4 ≡ t.month
-  unfolding tripleBytes u32_at fourAt
-  field-4 = read-signed-4 t.month f.month-fits
+  field_4 : i32_at (triple_bytes t) 4 ≡ t.month
+  unfolding triple_bytes u32_at four_at
+  field_4 = read-signed-4 t.month f.month_fits
 
-  field-8 : i32At (tripleBytes t) 8 ≡ t.day
-  unfolding tripleBytes u32_at fourAt
-  field-8 = read-signed-4 t.day f.day-fits
+  field_8 : i32_at (triple_bytes t) 8 ≡ t.day
+  unfolding triple_bytes u32_at four_at
+  field_8 = read-signed-4 t.day f.day_fits
 
 -- EACH DATE AT ITS PLACE
 module _ (ds : List Triple) (i : ℕ) (d : Triple) (h : i < length ds) (f : DateFits (get_or ds i d)) where
   abbrev bytes : List ℕ
-  bytes = all_bytes tripleBytes ds
+  bytes = all_bytes triple_bytes ds
 
-  field : (o : ℕ) → o + 4 ≤ 12 → (n : ℕ) → n ≡ 12 * i + o → i32At bytes n ≡ i32At (tripleBytes (get_or ds i d)) o
+  field : (o : ℕ) → o + 4 ≤ 12 → (n : ℕ) → n ≡ 12 * i + o → i32_at bytes n ≡ i32_at (triple_bytes (get_or ds i d)) o
   field o k n e =
       let a : n ≡ length {A = ℕ} [] + 12 * i + o = omega arith in
       ap signed32 (ap (u32_at bytes) a ∙ ap (λ (s : List ℕ). u32_at s (length {A = ℕ} [] + 12 * i + o)) (sym (append-nil bytes))
-      ∙ item-u32 tripleBytes 12 twelve [] ds [] i d h o k)
+      ∙ item_u32 triple_bytes 12 twelve [] ds [] i d h o k)
 
-  pub date-back : tripleIn bytes i ≡ get_or ds i d
+  pub date-back : triple_in bytes i ≡ get_or ds i d
   date-back j = record {
-    year = (field 0 (omega arith) (12 * i) (omega arith) ∙ field-0 (get_or ds i d) f) j;
-    month = (field 4 (omega arith) (12 * i + 4) refl ∙ field-4 (get_or ds i d) f) j;
-    day = (field 8 (omega arith) (12 * i + 8) refl ∙ field-8 (get_or ds i d) f) j;
+    year = (field 0 (omega arith) (12 * i) (omega arith) ∙ field_0 (get_or ds i d) f) j;
+    month = (field 4 (omega arith) (12 * i + 4) refl ∙ field_4 (get_or ds i d) f) j;
+    day = (field 8 (omega arith) (12 * i + 8) refl ∙ field_8 (get_or ds i d) f) j;
   }
 
 -- the dates of a reader that has each of them
-pub dates-are : (f : ℕ → Triple) (i : ℕ) (ds : List Triple) (d : Triple) → ((j : ℕ) → j < length ds → f (i + j) ≡ get_or ds j d) → datesFrom f i (length ds) ≡ ds
-unfolding datesFrom
-dates-are f i [] d h = refl
-dates-are f i (t ∷ ds) d h =
-    ap (λ (x : Triple). x ∷ datesFrom f (suc i) (length ds)) (ap f (sym (plain i)) ∙ h 0 (omega arith))
-    ∙ ap (λ (l : List Triple). t ∷ l) (dates-are f (suc i) ds d (λ j k. ap f (next i j) ∙ h (suc j) (omega arith)))
+pub dates_are : (f : ℕ → Triple) (i : ℕ) (ds : List Triple) (d : Triple) → ((j : ℕ) → j < length ds → f (i + j) ≡ get_or ds j d) → dates_from f i (length ds) ≡ ds
+unfolding dates_from
+dates_are f i [] d h = refl
+dates_are f i (t ∷ ds) d h =
+    ap (λ (x : Triple). x ∷ dates_from f (suc i) (length ds)) (ap f (sym (plain i)) ∙ h 0 (omega arith))
+    ∙ ap (λ (l : List Triple). t ∷ l) (dates_are f (suc i) ds d (λ j k. ap f (next i j) ∙ h (suc j) (omega arith)))
   where
     plain : (n : ℕ) → n + 0 ≡ n
     plain n = omega arith
@@ -73,24 +73,24 @@ dates-are f i (t ∷ ds) d h =
 
 -- THE WALK OVER A LIST OF DATES in bytes, of any length
 pub walk_of-list : (rows : List Row) (ds : List Triple) (d : Triple) (room : ℕ) → ((i : ℕ) → i < length ds → DateFits (get_or ds i d))
-    → walkOfBytes rows (all_bytes tripleBytes ds) room ≡ walk_of rows true ds (room / 8)
+    → walk_of_bytes rows (all_bytes triple_bytes ds) room ≡ walk_of rows true ds (room / 8)
 walk_of-list rows ds d room f =
-    let n : length (all_bytes tripleBytes ds) ≡ 12 * length ds = written-length tripleBytes 12 twelve ds in
-    let whole : length (all_bytes tripleBytes ds) % 12 ≡ 0 = omega arith in
-    let many : length (all_bytes tripleBytes ds) / 12 ≡ length ds = omega arith in
-    let dates : datesFrom (tripleIn (all_bytes tripleBytes ds)) 0 (length (all_bytes tripleBytes ds) / 12) ≡ ds =
-    ap (datesFrom (tripleIn (all_bytes tripleBytes ds)) 0) many
-    ∙ dates-are (tripleIn (all_bytes tripleBytes ds)) 0 ds d (λ j k. ap (tripleIn (all_bytes tripleBytes ds)) (none j) ∙ date-back ds j d k (f j k)) in
-    (λ j. walk_of rows (eq-eqb (length (all_bytes tripleBytes ds) % 12) 0 whole j) (dates j) (room / 8))
+    let n : length (all_bytes triple_bytes ds) ≡ 12 * length ds = written-length triple_bytes 12 twelve ds in
+    let whole : length (all_bytes triple_bytes ds) % 12 ≡ 0 = omega arith in
+    let many : length (all_bytes triple_bytes ds) / 12 ≡ length ds = omega arith in
+    let dates : dates_from (triple_in (all_bytes triple_bytes ds)) 0 (length (all_bytes triple_bytes ds) / 12) ≡ ds =
+    ap (dates_from (triple_in (all_bytes triple_bytes ds)) 0) many
+    ∙ dates_are (triple_in (all_bytes triple_bytes ds)) 0 ds d (λ j k. ap (triple_in (all_bytes triple_bytes ds)) (none j) ∙ date-back ds j d k (f j k)) in
+    (λ j. walk_of rows (eq-eqb (length (all_bytes triple_bytes ds) % 12) 0 whole j) (dates j) (room / 8))
   where
     none : (j : ℕ) → 0 + j ≡ j
     none j = omega arith
 
 -- THE OFFSETS, each at its place
-eights-written : (fs : List Float) → in_eights fs ≡ all_bytes offsetBytes fs
+eights_written : (fs : List Float) → in_eights fs ≡ all_bytes offset_bytes fs
 unfolding in_eights all_bytes
-eights-written [] = refl
-eights-written (x ∷ fs) = ap (λ (l : List ℕ). offsetBytes x ++ l) (eights-written fs)
+eights_written [] = refl
+eights_written (x ∷ fs) = ap (λ (l : List ℕ). offset_bytes x ++ l) (eights_written fs)
 
 offset-of : (g : Triple → Float) (ds : List Triple) (i : ℕ) (d : Triple) → i < length ds → get_or (map g ds) i (g d) ≡ g (get_or ds i d)
 offset-of g [] i d h = refl
@@ -103,13 +103,13 @@ as_many g (t ∷ ds) = ap suc (as_many g ds)
 
 -- whatever the lent bytes held: the eight from 8 times i on are the offset of date i
 pub offset_at : (rows : List Row) (ds : List Triple) (before : List ℕ) (i : ℕ) (d : Triple) → i < length ds
-    → take 8 (drop (8 * i) (listAfter in_eights (answer (walked rows ds)) before)) ≡ offsetBytes (tripleOffset rows (get_or ds i d))
-unfolding listAfter
+    → take 8 (drop (8 * i) (list_after in_eights (answer (walked rows ds)) before)) ≡ offset_bytes (triple_offset rows (get_or ds i d))
+unfolding list_after
 offset_at rows ds before i d h =
-    let fs = map (tripleOffset rows) ds in
+    let fs = map (triple_offset rows) ds in
     let rest = drop (length (in_eights fs)) before in
     let e : 8 * i ≡ length {A = ℕ} [] + 8 * i = omega arith in
-    ap (λ (s : List ℕ). take 8 (drop (8 * i) (s ++ rest))) (eights-written fs)
-    ∙ ap (λ (n : ℕ). take 8 (drop n (all_bytes offsetBytes fs ++ rest))) e
-    ∙ item-at offsetBytes 8 (λ x. refl) [] fs rest i (tripleOffset rows d) (omega (arith, as_many (tripleOffset rows) ds))
-    ∙ ap offsetBytes (offset-of (tripleOffset rows) ds i d h)
+    ap (λ (s : List ℕ). take 8 (drop (8 * i) (s ++ rest))) (eights_written fs)
+    ∙ ap (λ (n : ℕ). take 8 (drop n (all_bytes offset_bytes fs ++ rest))) e
+    ∙ item_at offset_bytes 8 (λ x. refl) [] fs rest i (triple_offset rows d) (omega (arith, as_many (triple_offset rows) ds))
+    ∙ ap offset_bytes (offset-of (triple_offset rows) ds i d h)

@@ -12,18 +12,18 @@ use Rattle.leap_table.specs.declared.offsets.SecondsByRule.TheVariants as Ruled
 use Rattle.leap_table.specs.declared.offsets.DayByRule.{DayByRule}
 use Rattle.leap_table.specs.declared.offsets.DayByRule.TheVariants as RuledDay
 
-unfoldable pub secondsOutcome : SecondsAnswer → Outcome Float
-secondsOutcome (Offset.Seconds x) = answer x
-secondsOutcome (Offset.Refused number) = refusal number
+unfoldable pub seconds_outcome : SecondsAnswer → Outcome Float
+seconds_outcome (Offset.Seconds x) = answer x
+seconds_outcome (Offset.Refused number) = refusal number
 
-unfoldable pub dayOffsetsOutcome : DayOffsetsAnswer → Outcome DayOffsets
-dayOffsetsOutcome (Day.Offsets o) = answer o
-dayOffsetsOutcome (Day.Refused number) = refusal number
+unfoldable pub day_offsets_outcome : DayOffsetsAnswer → Outcome DayOffsets
+day_offsets_outcome (Day.Offsets o) = answer o
+day_offsets_outcome (Day.Refused number) = refusal number
 
-unfoldable pub secondsByRuleOutcome : SecondsByRule → Outcome (Float × Rule)
-secondsByRuleOutcome (Ruled.Seconds x rule) = answer (x, rule)
-secondsByRuleOutcome (Ruled.Refused number) = refusal number
+unfoldable pub seconds_by_rule_outcome : SecondsByRule → Outcome (Float × Rule)
+seconds_by_rule_outcome (Ruled.Seconds x rule) = answer (x, rule)
+seconds_by_rule_outcome (Ruled.Refused number) = refusal number
 
-unfoldable pub dayByRuleOutcome : DayByRule → Outcome (DayOffsets × Rule)
-dayByRuleOutcome (RuledDay.Day o rule) = answer (o, rule)
-dayByRuleOutcome (RuledDay.Refused number) = refusal number
+unfoldable pub day_by_rule_outcome : DayByRule → Outcome (DayOffsets × Rule)
+day_by_rule_outcome (RuledDay.Day o rule) = answer (o, rule)
+day_by_rule_outcome (RuledDay.Refused number) = refusal number

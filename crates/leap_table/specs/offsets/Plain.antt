@@ -4,13 +4,13 @@ use Rattle.std.specs.Prelude.{◌≡◌, ℕ, zero, suc, ◌+◌, ◌≤◌, ℤ
 use Rattle.refusals.specs.Outcome.{answer}
 use Rattle.calendar.specs.Calendar.{date}
 use Rattle.calendar.specs.Refusals.{next_of}
-use Rattle.leap_table.specs.rows.Table.{fixed, fixedRows, monthNumber, reached, starts}
+use Rattle.leap_table.specs.rows.Table.{fixed, fixed_rows, month_number, reached, starts}
 
 pub record Plain (y m d : ℤ) : Type 0 where
-  pub same-month : next_of y m d ≡ answer (date y (nat_abs m) (nat_abs d + 1))
-  pub from-1972 : 23664 ≤ monthNumber y (nat_abs m)
+  pub same_month : next_of y m d ≡ answer (date y (nat_abs m) (nat_abs d + 1))
+  pub from_1972 : 23664 ≤ month_number y (nat_abs m)
 
 -- the rows reached in month n by how many announced ones are: in the fixed table where none is
-abbrev pub byFound : ℕ → ℕ → ℕ
-byFound n zero = reached (starts fixed) n
-byFound n (suc k) = fixedRows + suc k
+abbrev pub by_found : ℕ → ℕ → ℕ
+by_found n zero = reached (starts fixed) n
+by_found n (suc k) = fixed_rows + suc k

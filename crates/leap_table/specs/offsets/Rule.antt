@@ -6,42 +6,42 @@ use Rattle.calendar.specs.declared.CalendarDate.{CalendarDate}
 use Rattle.leap_table.specs.declared.offsets.DayOffsets.{DayOffsets}
 use Rattle.leap_table.specs.declared.offsets.Rule.{Rule}
 use Rattle.leap_table.specs.declared.offsets.Rule.TheVariants.{Absent, Drifting, Whole}
-use Rattle.leap_table.specs.rows.Table.{Row, monthNumber, starts, reached, none}
-use Rattle.leap_table.specs.offsets.Offset.{taiUtcOffset}
-use Rattle.leap_table.specs.offsets.Leap.{dayOffsets, leapAtEndOfDay}
+use Rattle.leap_table.specs.rows.Table.{Row, month_number, starts, reached, none}
+use Rattle.leap_table.specs.offsets.Offset.{tai_utc_offset}
+use Rattle.leap_table.specs.offsets.Leap.{day_offsets, leap_at_end_of_day}
 
 -- by the number of rows reached; a row whose rate is 0 does not drift
-unfoldable pub ruleBy : List Row → ℕ → Rule
-ruleBy rows zero = Absent
-ruleBy rows (suc i) = cond (eqb (get_or rows i none).rate 0) (Whole i) (Drifting i)
+unfoldable pub rule_by : List Row → ℕ → Rule
+rule_by rows zero = Absent
+rule_by rows (suc i) = cond (eqb (get_or rows i none).rate 0) (Whole i) (Drifting i)
 
 -- in month n
-unfoldable pub ruleOf : List Row → ℕ → Rule
-ruleOf rows n = ruleBy rows (reached (starts rows) n)
+unfoldable pub rule_of : List Row → ℕ → Rule
+rule_of rows n = rule_by rows (reached (starts rows) n)
 
 -- on a date of year y and month m
-unfoldable pub ruleAt : List Row → ℤ → ℤ → Rule
-ruleAt rows y m = ruleOf rows (monthNumber y (nat_abs m))
+unfoldable pub rule_at : List Row → ℤ → ℤ → Rule
+rule_at rows y m = rule_of rows (month_number y (nat_abs m))
 
 -- on a calendar date
-unfoldable pub ruleOn : List Row → CalendarDate → Rule
-ruleOn rows t = ruleAt rows t.year (pos t.month)
+unfoldable pub rule_on : List Row → CalendarDate → Rule
+rule_on rows t = rule_at rows t.year (pos t.month)
 
 -- an answer with its rule; a refusal has none
-unfoldable pub withRule : {A : Type 0} → Outcome A → Rule → Outcome (A × Rule)
-withRule o r = onward o (λ a. answer (a, r))
+unfoldable pub with_rule : {A : Type 0} → Outcome A → Rule → Outcome (A × Rule)
+with_rule o r = onward o (λ a. answer (a, r))
 
 -- the answer without its rule
 unfoldable pub forget : {A : Type 0} → Outcome (A × Rule) → Outcome A
 forget o = onward o (λ p. answer p.0)
 
 -- the offset at a fraction of a day
-unfoldable pub offsetByRule : List Row → ℤ → ℤ → ℤ → Float → Outcome (Float × Rule)
-offsetByRule rows y m d fraction = withRule (taiUtcOffset rows y m d fraction) (ruleAt rows y m)
+unfoldable pub offset_by_rule : List Row → ℤ → ℤ → ℤ → Float → Outcome (Float × Rule)
+offset_by_rule rows y m d fraction = with_rule (tai_utc_offset rows y m d fraction) (rule_at rows y m)
 
 -- the offsets of a day and its leap, for the calls that pass on the rule of the day at 0h
-unfoldable pub dayByRule : List Row → ℤ → ℤ → ℤ → Outcome (DayOffsets × Rule)
-dayByRule rows y m d = withRule (dayOffsets rows y m d) (ruleAt rows y m)
+unfoldable pub day_by_rule : List Row → ℤ → ℤ → ℤ → Outcome (DayOffsets × Rule)
+day_by_rule rows y m d = with_rule (day_offsets rows y m d) (rule_at rows y m)
 
-unfoldable pub leapByRule : List Row → ℤ → ℤ → ℤ → Outcome (Float × Rule)
-leapByRule rows y m d = withRule (leapAtEndOfDay rows y m d) (ruleAt rows y m)
+unfoldable pub leap_by_rule : List Row → ℤ → ℤ → ℤ → Outcome (Float × Rule)
+leap_by_rule rows y m d = with_rule (leap_at_end_of_day rows y m d) (rule_at rows y m)

@@ -6,7 +6,7 @@ use Rattle.std.proofs.Math.IntN.{suc_ℤ}
 use Rattle.std.specs.Int.Signed.{lt_z}
 use Rattle.refusals.specs.Outcome.{Outcome, answer, refusal}
 use Rattle.leap_table.specs.declared.rows.AnnouncedRows.{AnnouncedRows}
-use Rattle.leap_table.specs.rows.Table.{Row, fixed, starts, in_turn, rising, lastMonth, lastSeconds}
+use Rattle.leap_table.specs.rows.Table.{Row, fixed, starts, in_turn, rising, last_month, last_seconds}
 
 -- a number counted from 0; a negative one, which no accepted table has, counts as 0
 abbrev pub natural : ℤ → ℕ
@@ -14,55 +14,55 @@ natural (pos n) = n
 natural (negsuc n) = 0
 
 -- the announced row of place i
-abbrev pub secondsAt : AnnouncedRows → ℕ → ℕ
-secondsAt t i = natural (get_or t.seconds i (pos 0))
+abbrev pub seconds_at : AnnouncedRows → ℕ → ℕ
+seconds_at t i = natural (get_or t.seconds i (pos 0))
 
-abbrev pub announcedRow : AnnouncedRows → ℕ → Row
-announcedRow t i = record { month = natural (get_or t.months i (pos 0)); units = 10000000 * secondsAt t i; start = 0; rate = 0 }
+abbrev pub announced_row : AnnouncedRows → ℕ → Row
+announced_row t i = record { month = natural (get_or t.months i (pos 0)); units = 10000000 * seconds_at t i; start = 0; rate = 0 }
 
 -- the fixed rows, and after them the first n announced ones
 unfoldable pub rows_to : AnnouncedRows → ℕ → List Row
 rows_to t zero = fixed
-rows_to t (suc n) = rows_to t n ++ (announcedRow t n ∷ [])
+rows_to t (suc n) = rows_to t n ++ (announced_row t n ∷ [])
 
 -- how many announced rows count: as many as the smaller size says, and at most 16
 abbrev pub least : ℕ → ℕ → ℕ
 least a b = cond (leb a b) a b
 
-unfoldable pub announcedSize : AnnouncedRows → ℕ
-announcedSize t = least (least t.months_size t.seconds_size) 16
+unfoldable pub announced_size : AnnouncedRows → ℕ
+announced_size t = least (least t.months_size t.seconds_size) 16
 
 -- all rows of a table, of a refused one too
 abbrev pub rows_of : AnnouncedRows → List Row
-rows_of t = rows_to t (announcedSize t)
+rows_of t = rows_to t (announced_size t)
 
 -- a table by its parts, as code has it that is lent the two arrays by reference
-abbrev pub announcedTable : ℕ → ℕ → List ℤ → List ℤ → AnnouncedRows
-announcedTable a b months seconds = record { months_size = a; seconds_size = b; months = months; seconds = seconds }
+abbrev pub announced_table : ℕ → ℕ → List ℤ → List ℤ → AnnouncedRows
+announced_table a b months seconds = record { months_size = a; seconds_size = b; months = months; seconds = seconds }
 
 -- the fixed rows, and after them as many announced ones as one size says, at most 16
-abbrev pub rowsIn : ℕ → List ℤ → List ℤ → List Row
-rowsIn size months seconds = rows_of (announcedTable size size months seconds)
+abbrev pub rows_in : ℕ → List ℤ → List ℤ → List Row
+rows_in size months seconds = rows_of (announced_table size size months seconds)
 
 -- ---- the three tests
-abbrev pub sizesFit : AnnouncedRows → Bool
-sizesFit t = eqb t.months_size t.seconds_size && leb t.months_size 16
+abbrev pub sizes_fit : AnnouncedRows → Bool
+sizes_fit t = eqb t.months_size t.seconds_size && leb t.months_size 16
 
-abbrev pub oneApart : ℕ → ℕ → Bool
-oneApart a b = eqb b (a + 1) || eqb a (b + 1)
+abbrev pub one_apart : ℕ → ℕ → Bool
+one_apart a b = eqb b (a + 1) || eqb a (b + 1)
 
-abbrev pub oneSecond : Row → Row → Bool
-oneSecond r s = oneApart (r.units / 10000000) (s.units / 10000000)
+abbrev pub one_second : Row → Row → Bool
+one_second r s = one_apart (r.units / 10000000) (s.units / 10000000)
 
 -- the rows of places 0 to 13 drift; those after them are whole seconds
-abbrev pub bySeconds : List Row → Bool
-bySeconds rows = in_turn oneSecond (drop 14 rows)
+abbrev pub by_seconds : List Row → Bool
+by_seconds rows = in_turn one_second (drop 14 rows)
 
 unfoldable pub table_of : AnnouncedRows → Outcome (List Row)
 table_of t =
-    cond (sizesFit t)
+    cond (sizes_fit t)
     (cond (rising (starts (rows_of t)))
-    (cond (bySeconds (rows_of t)) (answer (rows_of t)) (refusal 22))
+    (cond (by_seconds (rows_of t)) (answer (rows_of t)) (refusal 22))
     (refusal 21))
     (refusal 20)
 
@@ -72,31 +72,31 @@ before z l zero = z
 before z l (suc i) = get_or l i (pos 0)
 
 -- the month start of place i is later than the one before, that of the first later than the last fixed row's
-abbrev pub laterAt : AnnouncedRows → ℕ → Bool
-laterAt t i = lt_z (before (pos lastMonth) t.months i) (get_or t.months i (pos 0))
+abbrev pub later_at : AnnouncedRows → ℕ → Bool
+later_at t i = lt_z (before (pos last_month) t.months i) (get_or t.months i (pos 0))
 
 -- the seconds of place i are one more or one less than those before, those of the first than the last fixed row's
 abbrev pub OneStep : ℤ → ℤ → Type 0
 OneStep a b = (b ≡ suc_ℤ a) ⊎ (a ≡ suc_ℤ b)
 
 abbrev pub StepAt : AnnouncedRows → ℕ → Type 0
-StepAt t i = OneStep (before (pos lastSeconds) t.seconds i) (get_or t.seconds i (pos 0))
+StepAt t i = OneStep (before (pos last_seconds) t.seconds i) (get_or t.seconds i (pos 0))
 
 -- what becomes of a table, and why
 pub data Decision (t : AnnouncedRows) : Type 0 where
   sizes : (t.months_size ≡ t.seconds_size → 16 < t.months_size) → table_of t ≡ refusal 20 → Decision t
-  order : t.months_size ≡ t.seconds_size → t.months_size ≤ 16 → (i : ℕ) → i < t.months_size → laterAt t i ≡ false → table_of t ≡ refusal 21
+  order : t.months_size ≡ t.seconds_size → t.months_size ≤ 16 → (i : ℕ) → i < t.months_size → later_at t i ≡ false → table_of t ≡ refusal 21
       → Decision t
-  step : t.months_size ≡ t.seconds_size → t.months_size ≤ 16 → ((i : ℕ) → i < t.months_size → laterAt t i ≡ true) → (i : ℕ) → i < t.months_size
+  step : t.months_size ≡ t.seconds_size → t.months_size ≤ 16 → ((i : ℕ) → i < t.months_size → later_at t i ≡ true) → (i : ℕ) → i < t.months_size
       → (StepAt t i → ⊥) → table_of t ≡ refusal 22 → Decision t
-  taken : t.months_size ≡ t.seconds_size → t.months_size ≤ 16 → ((i : ℕ) → i < t.months_size → laterAt t i ≡ true)
+  taken : t.months_size ≡ t.seconds_size → t.months_size ≤ 16 → ((i : ℕ) → i < t.months_size → later_at t i ≡ true)
       → ((i : ℕ) → i < t.months_size → StepAt t i) → table_of t ≡ answer (rows_of t) → Decision t
 
 -- 0 for what is not refused
-abbrev pub unlessRefused : {A : Type 0} → ℕ → A → Outcome A
-unlessRefused zero a = answer a
-unlessRefused (suc k) a = refusal (suc k)
+abbrev pub unless_refused : {A : Type 0} → ℕ → A → Outcome A
+unless_refused zero a = answer a
+unless_refused (suc k) a = refusal (suc k)
 
 -- the number r says what becomes of the table t: 0 that it is taken
 abbrev pub Judged : ℕ → AnnouncedRows → Type 0
-Judged r t = unlessRefused r (rows_of t) ≡ table_of t
+Judged r t = unless_refused r (rows_of t) ≡ table_of t

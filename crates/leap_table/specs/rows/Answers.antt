@@ -4,6 +4,6 @@ use Rattle.refusals.specs.Outcome.{Outcome, answer, refusal}
 use Rattle.leap_table.specs.declared.rows.RowsAnswer.{RowsAnswer}
 use Rattle.leap_table.specs.declared.rows.RowsAnswer.TheVariants as Rows
 
-unfoldable pub rowsOutcome : RowsAnswer → Outcome ℕ
-rowsOutcome (Rows.Rows n) = answer n
-rowsOutcome (Rows.Refused number) = refusal number
+unfoldable pub rows_outcome : RowsAnswer → Outcome ℕ
+rows_outcome (Rows.Rows n) = answer n
+rows_outcome (Rows.Refused number) = refusal number

@@ -10,28 +10,28 @@ pub record Row : Type 0 where
   pub start : ℕ
   pub rate : ℕ
 
-abbrev pub monthOf : ℕ → ℕ → ℕ
-monthOf y m = 12 * y + m - 1
+abbrev pub month_of : ℕ → ℕ → ℕ
+month_of y m = 12 * y + m - 1
 
 abbrev pub row : ℕ → ℕ → ℕ → ℕ → ℕ → Row
-row y m u s r = record { month = monthOf y m; units = u; start = s; rate = r }
+row y m u s r = record { month = month_of y m; units = u; start = s; rate = r }
 
 -- The table's numbers, which are held against its rows: how many rows it has, and the month and the whole seconds of its last; and how many rows and seconds
 -- it has at most with sixteen announced ones.
-abbrev pub fixedRows : ℕ
-fixedRows = 42
+abbrev pub fixed_rows : ℕ
+fixed_rows = 42
 
-abbrev pub lastMonth : ℕ
-lastMonth = 24204
+abbrev pub last_month : ℕ
+last_month = 24204
 
-abbrev pub lastSeconds : ℕ
-lastSeconds = 37
+abbrev pub last_seconds : ℕ
+last_seconds = 37
 
-abbrev pub mostRows : ℕ
-mostRows = fixedRows + 16
+abbrev pub most_rows : ℕ
+most_rows = fixed_rows + 16
 
-abbrev pub mostSeconds : ℕ
-mostSeconds = lastSeconds + 16
+abbrev pub most_seconds : ℕ
+most_seconds = last_seconds + 16
 
 -- the table: year, month, units, start, rate
 unfoldable pub fixed : List Row
@@ -85,9 +85,9 @@ abbrev pub none : Row
 none = record { month = 0; units = 0; start = 0; rate = 0 }
 
 -- the number of a date's month; 0 in the years before year 0, when no row has begun
-unfoldable pub monthNumber : ℤ → ℕ → ℕ
-monthNumber (pos y) m = monthOf y m
-monthNumber (negsuc y) m = 0
+unfoldable pub month_number : ℤ → ℕ → ℕ
+month_number (pos y) m = month_of y m
+month_number (negsuc y) m = 0
 
 -- the months in which the rows begin
 abbrev pub starts : List Row → List ℕ
@@ -95,14 +95,14 @@ starts rows = map (λ (r : Row). r.month) rows
 
 -- How many rows stand up to the last whose month has begun; 0 where none has begun. `reached` works from the end: what the later rows say, with one row on top
 -- of them. No order of the rows is assumed.
-abbrev pub onTop : ℕ → Bool → ℕ
-onTop (suc k) b = suc (suc k)
-onTop zero true = 1
-onTop zero false = 0
+abbrev pub on_top : ℕ → Bool → ℕ
+on_top (suc k) b = suc (suc k)
+on_top zero true = 1
+on_top zero false = 0
 
 unfoldable pub reached : List ℕ → ℕ → ℕ
 reached [] n = 0
-reached (a ∷ rest) n = onTop (reached rest n) (leb a n)
+reached (a ∷ rest) n = on_top (reached rest n) (leb a n)
 
 -- each element stands to the one after it as `to` asks
 abbrev pub in_turn : {A : Type 0} → (A → A → Bool) → List A → Bool
@@ -117,5 +117,5 @@ rising l = in_turn ltb l
 -- i is the place of the last month of the list that has begun in month n
 pub record LastBegun (l : List ℕ) (n i : ℕ) : Type 0 where
   pub in_list : i < length l
-  pub has-begun : get_or l i 0 ≤ n
-  pub later-not : (j : ℕ) → i < j → j < length l → n < get_or l j 0
+  pub has_begun : get_or l i 0 ≤ n
+  pub later_not : (j : ℕ) → i < j → j < length l → n < get_or l j 0

@@ -1,21 +1,21 @@
 -- What the functions below the calls ask and keep: where a walk stands, what one step of it does, and dates that nothing is refused of. Assumes nothing.
 use Rattle.std.specs.Prelude.{ℕ, suc, ◌+◌, ◌≤◌, ◌<◌, ◌≡◌, cond, List, leb, length, get_or, Float}
 use Rattle.refusals.specs.Outcome.{answer}
-use Rattle.leap_table.specs.rows.Table.{Row, starts, mostRows}
-use Rattle.leap_table.specs.offsets.Offset.{offsetBy}
-use Rattle.leap_table.specs.offsets.Forward.{never, byTerms}
+use Rattle.leap_table.specs.rows.Table.{Row, starts, most_rows}
+use Rattle.leap_table.specs.offsets.Offset.{offset_by}
+use Rattle.leap_table.specs.offsets.Forward.{never, by_terms}
 use Rattle.leap_table.specs.declared.judging.Triple.{Triple}
 use Rattle.leap_table.specs.declared.walk.Walk.{Walk}
-use Rattle.leap_table.specs.judging.Judging.{validTriple}
-use Rattle.leap_table.specs.walk.Walk.{monthIn}
+use Rattle.leap_table.specs.judging.Judging.{valid_triple}
+use Rattle.leap_table.specs.walk.Walk.{month_in}
 
 -- what a walk holds is of the rows that it has reached
 pub record Standing (rows : List Row) (w : Walk) : Type 0 where
   pub all : w.rows ≡ length rows
   pub most : w.reached ≤ length rows
   pub next : w.next ≡ get_or (starts rows) w.reached never
-  pub terms : (mjd f : Float) → byTerms w.terms mjd f ≡ offsetBy rows w.reached mjd f
-  pub small : length rows ≤ mostRows
+  pub terms : (mjd f : Float) → by_terms w.terms mjd f ≡ offset_by rows w.reached mjd f
+  pub small : length rows ≤ most_rows
 
 pub record AtStart (rows : List Row) (w : Walk) : Type 0 where
   pub stands : Standing rows w
@@ -36,5 +36,5 @@ CountsNext w r = r ≡ w.compared + cond (leb w.rows w.reached) 0 1
 
 -- dates that nothing is refused of: each is good, and their months do not fall
 pub record GoodDates (f : ℕ → Triple) (n : ℕ) : Type 0 where
-  pub good : (i : ℕ) → i < n → validTriple (f i) ≡ answer tt
-  pub rise : (i : ℕ) → suc i < n → monthIn (f i) ≤ monthIn (f (suc i))
+  pub good : (i : ℕ) → i < n → valid_triple (f i) ≡ answer tt
+  pub rise : (i : ℕ) → suc i < n → month_in (f i) ≤ month_in (f (suc i))

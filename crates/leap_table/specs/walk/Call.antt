@@ -7,20 +7,20 @@ use Rattle.leap_table.specs.declared.walk.WalkAnswer.TheVariants.{Compared, Refu
 use Rattle.leap_table.specs.walk.Walk.{Walked}
 
 -- the outcome that each case of the enum is: the number of rows compared, or a refusal
-unfoldable pub walkOutcome : WalkAnswer → Outcome ℕ
-walkOutcome (Compared n) = answer n
-walkOutcome (Refused k) = refusal k
+unfoldable pub walk_outcome : WalkAnswer → Outcome ℕ
+walk_outcome (Compared n) = answer n
+walk_outcome (Refused k) = refusal k
 
 -- the offsets as floats are themselves
-abbrev pub asFloats : List Float → List Float
-asFloats l = l
+abbrev pub as_floats : List Float → List Float
+as_floats l = l
 
 -- the offsets, as `write` writes them, at the start of the lent list and the rest as it was; refused, all as it was
-unfoldable pub listAfter : {A : Type 0} → (List Float → List A) → Outcome Walked → List A → List A
-listAfter write (answer w) l = write w.offsets ++ drop (length (write w.offsets)) l
-listAfter write (refusal k) l = l
+unfoldable pub list_after : {A : Type 0} → (List Float → List A) → Outcome Walked → List A → List A
+list_after write (answer w) l = write w.offsets ++ drop (length (write w.offsets)) l
+list_after write (refusal k) l = l
 
 -- r is the number of rows compared, or the refusal, and the lent list, which held `before`, holds `after`
 pub record WalkCall {A : Type 0} (write : List Float → List A) (o : Outcome Walked) (before : List A) (r : WalkAnswer) (after : List A) : Type 0 where
-  pub says : walkOutcome r ≡ onward o (λ w. answer w.rowsCompared)
-  pub holds : after ≡ listAfter write o before
+  pub says : walk_outcome r ≡ onward o (λ w. answer w.rows_compared)
+  pub holds : after ≡ list_after write o before

@@ -4,20 +4,20 @@ use Rattle.std.specs.Prelude.{ℕ, ◌/◌, ◌%◌, List, [], ◌∷◌, ◌++�
 use Rattle.std.specs.Float.{binary64}
 use Rattle.std.specs.Float.Ieee.{to_bits}
 use Rattle.refusals.specs.Outcome.{Outcome}
-use Rattle.numerals.specs.little_endian.LittleEndian.{eightBytes}
+use Rattle.numerals.specs.little_endian.LittleEndian.{eight_bytes}
 use Rattle.leap_table.specs.rows.Table.{Row}
-use Rattle.leap_table.specs.judging.Lists.{datesFrom, tripleAt, tripleIn}
+use Rattle.leap_table.specs.judging.Lists.{dates_from, triple_at, triple_in}
 use Rattle.leap_table.specs.walk.Walk.{Walked, walk_of}
 
 -- the walk over numbers and so many places
-abbrev pub walkOfNumbers : List Row → List ℤ → ℕ → Outcome Walked
-walkOfNumbers rows l places = walk_of rows (eqb (length l % 3) 0) (datesFrom (tripleAt l) 0 (length l / 3)) places
+abbrev pub walk_of_numbers : List Row → List ℤ → ℕ → Outcome Walked
+walk_of_numbers rows l places = walk_of rows (eqb (length l % 3) 0) (dates_from (triple_at l) 0 (length l / 3)) places
 
 -- the walk over bytes and so many bytes of room
-abbrev pub walkOfBytes : List Row → List ℕ → ℕ → Outcome Walked
-walkOfBytes rows s room = walk_of rows (eqb (length s % 12) 0) (datesFrom (tripleIn s) 0 (length s / 12)) (room / 8)
+abbrev pub walk_of_bytes : List Row → List ℕ → ℕ → Outcome Walked
+walk_of_bytes rows s room = walk_of rows (eqb (length s % 12) 0) (dates_from (triple_in s) 0 (length s / 12)) (room / 8)
 
 -- floats as their patterns, eight bytes each
 unfoldable pub in_eights : List Float → List ℕ
 in_eights [] = []
-in_eights (x ∷ l) = eightBytes (to_bits binary64 x) ++ in_eights l
+in_eights (x ∷ l) = eight_bytes (to_bits binary64 x) ++ in_eights l

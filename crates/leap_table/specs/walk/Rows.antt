@@ -5,9 +5,9 @@ use Rattle.leap_table.specs.rows.Table.{reached}
 
 -- Of the starts of the rows not yet reached: how many a month is held against. Each that has begun is reached and the next is looked at; the first that has not
 -- begun counts too, and ends it.
-unfoldable pub heldAgainst : List ℕ → ℕ → ℕ
-heldAgainst [] n = 0
-heldAgainst (a ∷ rest) n = cond (leb a n) (suc (heldAgainst rest n)) 1
+unfoldable pub held_against : List ℕ → ℕ → ℕ
+held_against [] n = 0
+held_against (a ∷ rest) n = cond (leb a n) (suc (held_against rest n)) 1
 
 -- and the starts that are then still not reached
 unfoldable pub left : List ℕ → ℕ → List ℕ
@@ -17,19 +17,19 @@ left (a ∷ rest) n = cond (leb a n) (left rest n) (a ∷ rest)
 -- over the months of all dates, each going on where the one before it stopped
 unfoldable pub compared : List ℕ → List ℕ → ℕ
 compared starts [] = 0
-compared starts (n ∷ months) = heldAgainst starts n + compared (left starts n) months
+compared starts (n ∷ months) = held_against starts n + compared (left starts n) months
 
 -- ---- the words of `compared-closed`: months in time order, none before n
-unfoldable pub inTime : ℕ → List ℕ → Bool
-inTime n [] = true
-inTime n (m ∷ months) = leb n m && inTime m months
+unfoldable pub in_time : ℕ → List ℕ → Bool
+in_time n [] = true
+in_time n (m ∷ months) = leb n m && in_time m months
 
 -- the rows reached in the last month; k where there is no month
-unfoldable pub lastReached : List ℕ → ℕ → List ℕ → ℕ
-lastReached starts k [] = k
-lastReached starts k (m ∷ months) = lastReached starts (reached starts m) months
+unfoldable pub last_reached : List ℕ → ℕ → List ℕ → ℕ
+last_reached starts k [] = k
+last_reached starts k (m ∷ months) = last_reached starts (reached starts m) months
 
 -- how many months leave a row that is not reached
-unfoldable pub withRowLeft : List ℕ → List ℕ → ℕ
-withRowLeft starts [] = 0
-withRowLeft starts (m ∷ months) = cond (leb (length starts) (reached starts m)) 0 1 + withRowLeft starts months
+unfoldable pub with_row_left : List ℕ → List ℕ → ℕ
+with_row_left starts [] = 0
+with_row_left starts (m ∷ months) = cond (leb (length starts) (reached starts m)) 0 1 + with_row_left starts months

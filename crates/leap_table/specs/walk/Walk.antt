@@ -5,34 +5,34 @@ use Rattle.std.specs.Float.{binary64}
 use Rattle.std.specs.Float.Ieee.{of_int}
 use Rattle.refusals.specs.Outcome.{Outcome, answer, refusal, onward}
 use Rattle.floats.specs.Whole.{nought}
-use Rattle.calendar.specs.DayCount.{mjdNumber}
-use Rattle.leap_table.specs.rows.Table.{Row, starts, monthNumber}
-use Rattle.leap_table.specs.offsets.Offset.{offsetAt}
+use Rattle.calendar.specs.DayCount.{mjd_number}
+use Rattle.leap_table.specs.rows.Table.{Row, starts, month_number}
+use Rattle.leap_table.specs.offsets.Offset.{offset_at}
 use Rattle.leap_table.specs.declared.judging.Triple.{Triple}
 use Rattle.leap_table.specs.walk.Rows.{compared}
-use Rattle.leap_table.specs.judging.Judging.{judgedAll}
+use Rattle.leap_table.specs.judging.Judging.{judged_all}
 
 -- the number of a date's month
-abbrev pub monthIn : Triple → ℕ
-monthIn t = monthNumber t.year (nat_abs t.month)
+abbrev pub month_in : Triple → ℕ
+month_in t = month_number t.year (nat_abs t.month)
 
 -- the offset of a date at 0h, by the row of its month: that of document 01's look-up (`offset-of-look-up`)
-unfoldable pub tripleOffset : List Row → Triple → Float
-tripleOffset rows t = offsetAt rows (monthIn t) (of_int binary64 (mjdNumber t.year t.month t.day)) nought
+unfoldable pub triple_offset : List Row → Triple → Float
+triple_offset rows t = offset_at rows (month_in t) (of_int binary64 (mjd_number t.year t.month t.day)) nought
 
 -- the rows compared, and the offsets in the order of the dates
 pub record Walked : Type 0 where
-  pub rowsCompared : ℕ
+  pub rows_compared : ℕ
   pub offsets : List Float
 
 abbrev pub walked : List Row → List Triple → Walked
-walked rows dates = record { rowsCompared = compared (starts rows) (map monthIn dates); offsets = map (tripleOffset rows) dates }
+walked rows dates = record { rows_compared = compared (starts rows) (map month_in dates); offsets = map (triple_offset rows) dates }
 
 -- `whole`: there is no broken triple
 unfoldable pub walk_of : List Row → Bool → List Triple → ℕ → Outcome Walked
 walk_of rows whole dates places =
     cond whole
     (cond (leb (length dates) places)
-    (onward (judgedAll dates) (λ _. answer (walked rows dates)))
+    (onward (judged_all dates) (λ _. answer (walked rows dates)))
     (refusal 11))
     (refusal 14)

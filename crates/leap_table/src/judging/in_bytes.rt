@@ -1,9 +1,9 @@
 // The same of dates that are bytes, for callers from C: twelve bytes a date, the lowest first.
 ghost use Rattle.std.specs.Prelude.{◌≡◌, ◌+◌, ◌*◌, ◌≤◌, length};
 ghost use Rattle.refusals.specs.Outcome.{onward};
-ghost use Rattle.leap_table.specs.rows.Announced.{table_of, unlessRefused};
-ghost use Rattle.leap_table.specs.judging.Judging.{judgedAll};
-ghost use Rattle.leap_table.specs.judging.Lists.{datesFrom, tripleIn, judgedBytes};
+ghost use Rattle.leap_table.specs.rows.Announced.{table_of, unless_refused};
+ghost use Rattle.leap_table.specs.judging.Judging.{judged_all};
+ghost use Rattle.leap_table.specs.judging.Lists.{dates_from, triple_in, judged_bytes};
 
 use super::Triple;
 use crate::rows::AnnouncedRows;
@@ -11,7 +11,7 @@ use crate::rows::AnnouncedRows;
 // Date i of a list that has it. Read from a part of twelve bytes, its numbers need no test of the length.
 pub(crate) fn triple_in(dates: &[u8], i: usize) -> Triple
     requires { 12 * i + 12 ≤ length dates.now }
-    ensures { result ≡ tripleIn dates.now i }
+    ensures { result ≡ triple_in dates.now i }
 {
     let at = 12 * i;
     let end = at + 12;
@@ -24,7 +24,7 @@ pub(crate) fn triple_in(dates: &[u8], i: usize) -> Triple
 // The number by which the n dates are refused, 0 if they are not.
 fn judge_all(dates: &[u8], n: usize) -> u32
     requires { 12 * n ≤ length dates.now }
-    ensures { unlessRefused result tt ≡ judgedAll (datesFrom (tripleIn dates.now) 0 n) }
+    ensures { unless_refused result tt ≡ judged_all (dates_from (triple_in dates.now) 0 n) }
 {
     let mut before = Triple {
         year: -4799,
@@ -47,7 +47,7 @@ fn judge_all(dates: &[u8], n: usize) -> u32
 // The number by which a walk with these dates is refused, 0 if it is not, as `numbers_refusal` gives it: 14 where the bytes of `dates` are no multiple of 12,
 // 11 where `room` bytes are fewer than eight for each date.
 pub fn bytes_refusal(dates: &[u8], table: AnnouncedRows, room: usize) -> u32
-    ensures { unlessRefused result tt ≡ onward (table_of table) (λ _. judgedBytes dates.now room) }
+    ensures { unless_refused result tt ≡ onward (table_of table) (λ _. judged_bytes dates.now room) }
 {
     let number = crate::rows::table_refusal(table);
     if number != 0 {

@@ -1,14 +1,14 @@
 // The seconds of a row that a caller lends.
 ghost use Rattle.std.specs.Prelude.{◌≡◌, [], ◌<◌};
 ghost use Rattle.leap_table.specs.rows.Announced as L;
-ghost use Rattle.leap_table.specs.offsets.Offset.{secondsOf};
+ghost use Rattle.leap_table.specs.offsets.Offset.{seconds_of};
 
 use crate::rows::natural;
 
 // The seconds of the row of place i.
 pub(crate) fn seconds_at(seconds: &[i32; 16], i: usize) -> f64
     requires { i < 16 }
-    ensures { result ≡ secondsOf (L.announcedRow (L.announcedTable 0 0 [] seconds.now) i) }
+    ensures { result ≡ seconds_of (L.announced_row (L.announced_table 0 0 [] seconds.now) i) }
 {
     natural(seconds[i]) as f64
 }

@@ -1,7 +1,7 @@
 // The look-up in the fixed rows, and what they say: the table of constants.rs.
 ghost use Rattle.std.specs.Prelude.{◌≡◌, ◌-◌, ◌<◌, ◌≤◌, get_or, drop, length};
-ghost use Rattle.leap_table.specs.rows.Table.{fixed, fixedRows, starts, reached, none};
-ghost use Rattle.leap_table.specs.offsets.Offset.{secondsOf, start_of, rateOf};
+ghost use Rattle.leap_table.specs.rows.Table.{fixed, fixed_rows, starts, reached, none};
+ghost use Rattle.leap_table.specs.offsets.Offset.{seconds_of, start_of, rate_of};
 
 use crate::rows::{FIXED_SIZE, MONTHS};
 
@@ -39,7 +39,7 @@ fn rows_reached(months: &[u64], end: usize, n: u64) -> usize
 
 // The same in the fixed table. The years before 1972, in which rows drift, and those up to 1987 do not look at the rows after them.
 pub(crate) fn fixed_rows_reached(n: u64) -> usize
-    ensures { (result ≡ reached (starts fixed) n) × (result ≤ fixedRows) }
+    ensures { (result ≡ reached (starts fixed) n) × (result ≤ fixed_rows) }
 {
     if 23856 <= n {
         return rows_reached(&MONTHS, FIXED_SIZE, n);
@@ -53,7 +53,7 @@ pub(crate) fn fixed_rows_reached(n: u64) -> usize
 // The decimals of row i as floats, each the nearest.
 pub(crate) fn seconds_at(i: usize) -> f64
     requires { i < 14 }
-    ensures { result ≡ secondsOf (get_or fixed i none) }
+    ensures { result ≡ seconds_of (get_or fixed i none) }
 {
     SECONDS[i]
 }
@@ -67,7 +67,7 @@ pub(crate) fn start_at(i: usize) -> f64
 
 pub(crate) fn rate_at(i: usize) -> f64
     requires { i < 14 }
-    ensures { result ≡ rateOf (get_or fixed i none) }
+    ensures { result ≡ rate_of (get_or fixed i none) }
 {
     RATES[i]
 }
@@ -75,8 +75,8 @@ pub(crate) fn rate_at(i: usize) -> f64
 // The seconds of the last of 15 or more rows: 10 in the row of 1972, whose place is 14, and one more in each later row, so that they are the number of rows
 // less 5. They are counted and not read from a table, since the compiled code copies a table whenever it is read by an index.
 pub(crate) fn whole_seconds(rows: usize) -> f64
-    requires { (15 ≤ rows) × (rows ≤ fixedRows) }
-    ensures { result ≡ secondsOf (get_or fixed (rows - 1) none) }
+    requires { (15 ≤ rows) × (rows ≤ fixed_rows) }
+    ensures { result ≡ seconds_of (get_or fixed (rows - 1) none) }
 {
     let seconds = (rows - 5) as u32;
     seconds as f64

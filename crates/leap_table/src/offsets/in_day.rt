@@ -2,10 +2,10 @@
 ghost use Rattle.std.specs.Prelude.{◌≡◌, true};
 ghost use Rattle.floats.specs.Whole.{nought};
 ghost use Rattle.refusals.specs.Outcome.{onward};
-ghost use Rattle.leap_table.specs.rows.Announced.{rowsIn, table_of};
-ghost use Rattle.leap_table.specs.offsets.Offset.{inDay};
-ghost use Rattle.leap_table.specs.offsets.Rule.{forget, offsetByRule};
-ghost use Rattle.leap_table.specs.offsets.Answers.{secondsOutcome, secondsByRuleOutcome};
+ghost use Rattle.leap_table.specs.rows.Announced.{rows_in, table_of};
+ghost use Rattle.leap_table.specs.offsets.Offset.{in_day};
+ghost use Rattle.leap_table.specs.offsets.Rule.{forget, offset_by_rule};
+ghost use Rattle.leap_table.specs.offsets.Answers.{seconds_outcome, seconds_by_rule_outcome};
 
 use super::look_up::{
     month_number, of_plain_day, offset_by, plain_day, rule_by, table_rows_reached,
@@ -23,8 +23,8 @@ fn by_mjd<'a>(
     months: &'a [i32; 16],
     seconds: &'a [i32; 16],
 ) -> SecondsByRule
-    requires { inDay fraction ≡ true }
-    ensures { secondsByRuleOutcome result ≡ offsetByRule (rowsIn size months.now seconds.now) year month day fraction }
+    requires { in_day fraction ≡ true }
+    ensures { seconds_by_rule_outcome result ≡ offset_by_rule (rows_in size months.now seconds.now) year month day fraction }
 {
     match calendar::modified_julian_day(year, month, day) {
         calendar::MjdAnswer::Refused(number) => SecondsByRule::Refused(number),
@@ -45,7 +45,7 @@ pub fn get_tai_utc_offset_by_arrays<'a>(
     months: &'a [i32; 16],
     seconds: &'a [i32; 16],
 ) -> SecondsByRule
-    ensures { secondsByRuleOutcome result ≡ offsetByRule (rowsIn size months.now seconds.now) year month day fraction }
+    ensures { seconds_by_rule_outcome result ≡ offset_by_rule (rows_in size months.now seconds.now) year month day fraction }
 {
     if !(0.0 <= fraction) {
         return SecondsByRule::Refused(refusals::FRACTION_NOT_IN_DAY);
@@ -70,7 +70,7 @@ pub fn offset_at_0h_by_arrays<'a>(
     months: &'a [i32; 16],
     seconds: &'a [i32; 16],
 ) -> SecondsByRule
-    ensures { secondsByRuleOutcome result ≡ offsetByRule (rowsIn size months.now seconds.now) year month day nought }
+    ensures { seconds_by_rule_outcome result ≡ offset_by_rule (rows_in size months.now seconds.now) year month day nought }
 {
     if plain_day(year, month, day) {
         let found = of_plain_day(year, month, day, size, months, seconds);
@@ -81,7 +81,7 @@ pub fn offset_at_0h_by_arrays<'a>(
 }
 
 pub(crate) fn without_rule(found: SecondsByRule) -> SecondsAnswer
-    ensures { secondsOutcome result ≡ forget (secondsByRuleOutcome found) }
+    ensures { seconds_outcome result ≡ forget (seconds_by_rule_outcome found) }
 {
     match found {
         SecondsByRule::Refused(number) => SecondsAnswer::Refused(number),
@@ -97,7 +97,7 @@ pub fn get_tai_utc_offset(
     fraction: f64,
     table: AnnouncedRows,
 ) -> SecondsByRule
-    ensures { secondsByRuleOutcome result ≡ onward (table_of table) (λ rows. offsetByRule rows year month day fraction) }
+    ensures { seconds_by_rule_outcome result ≡ onward (table_of table) (λ rows. offset_by_rule rows year month day fraction) }
 {
     let number = table_refusal(table);
     if number != 0 {

@@ -1,11 +1,11 @@
 // The row of a month, and what it says: the offset and the rule.
 ghost use Rattle.std.specs.Prelude.{◌≡◌, true, cond, List, [], ℕ, ◌+◌, ◌-◌, ◌≤◌, ◌<◌, ℤ, pos, nat_abs, Float, get_or};
 ghost use Rattle.std.specs.Int.Signed.{le_z};
-ghost use Rattle.leap_table.specs.rows.Table.{fixedRows, mostRows, starts, reached, monthNumber, none};
-ghost use Rattle.leap_table.specs.rows.Announced.{least, announcedTable, rowsIn, rows_to};
-ghost use Rattle.leap_table.specs.offsets.Offset.{secondsOf, offsetAt, offsetBy};
-ghost use Rattle.leap_table.specs.offsets.Rule.{ruleAt, ruleBy};
-ghost use Rattle.leap_table.specs.offsets.Plain.{Plain, byFound};
+ghost use Rattle.leap_table.specs.rows.Table.{fixed_rows, most_rows, starts, reached, month_number, none};
+ghost use Rattle.leap_table.specs.rows.Announced.{least, announced_table, rows_in, rows_to};
+ghost use Rattle.leap_table.specs.offsets.Offset.{seconds_of, offset_at, offset_by};
+ghost use Rattle.leap_table.specs.offsets.Rule.{rule_at, rule_by};
+ghost use Rattle.leap_table.specs.offsets.Plain.{Plain, by_found};
 
 use super::fixed_rows::{fixed_rows_reached, rate_at, seconds_at, start_at, whole_seconds};
 use super::{Rule, announced};
@@ -34,7 +34,7 @@ fn found_next(announced: i32, month: i32, i: u32, found: u32) -> u32
 // compared at once.
 fn announced_rows_reached(size: u32, months: &[i32; 16], n: u64) -> u32
     requires { size ≤ 16 }
-    ensures { (byFound n result ≡ reached (starts (rows_to (announcedTable 0 0 months.now []) size)) n) × (result ≤ size) }
+    ensures { (by_found n result ≡ reached (starts (rows_to (announced_table 0 0 months.now []) size)) n) × (result ≤ size) }
 {
     let month = as_announced(n);
     let mut found = 0;
@@ -49,7 +49,7 @@ fn announced_rows_reached(size: u32, months: &[i32; 16], n: u64) -> u32
 
 // How many rows of a table stand up to the last that has begun. The seconds of the rows do not matter.
 pub(crate) fn any_rows_reached(size: usize, months: &[i32; 16], n: u64) -> usize
-    ensures { ((seconds : List ℤ) → result ≡ reached (starts (rowsIn size months.now seconds)) n) × (result ≤ fixedRows + least size 16) }
+    ensures { ((seconds : List ℤ) → result ≡ reached (starts (rows_in size months.now seconds)) n) × (result ≤ fixed_rows + least size 16) }
 {
     let found = announced_rows_reached(crate::rows::at_most_16(size) as u32, months, n);
     if found == 0 {
@@ -60,7 +60,7 @@ pub(crate) fn any_rows_reached(size: usize, months: &[i32; 16], n: u64) -> usize
 
 // The same, with a short way for a table that lends no rows.
 pub(crate) fn table_rows_reached(size: usize, months: &[i32; 16], n: u64) -> usize
-    ensures { ((seconds : List ℤ) → result ≡ reached (starts (rowsIn size months.now seconds)) n) × (result ≤ fixedRows + least size 16) }
+    ensures { ((seconds : List ℤ) → result ≡ reached (starts (rows_in size months.now seconds)) n) × (result ≤ fixed_rows + least size 16) }
 {
     if size == 0 {
         return fixed_rows_reached(n);
@@ -70,9 +70,9 @@ pub(crate) fn table_rows_reached(size: usize, months: &[i32; 16], n: u64) -> usi
 
 // The seconds of the last of 15 or more rows of a table. The months of the rows do not matter.
 pub(crate) fn seconds_of_row(seconds: &[i32; 16], rows: usize) -> f64
-    requires { (15 ≤ rows) × (rows ≤ mostRows) }
-    ensures { (size : ℕ) (months : List ℤ) → rows ≤ fixedRows + least size 16
-        → result ≡ secondsOf (get_or (rowsIn size months seconds.now) (rows - 1) none) }
+    requires { (15 ≤ rows) × (rows ≤ most_rows) }
+    ensures { (size : ℕ) (months : List ℤ) → rows ≤ fixed_rows + least size 16
+        → result ≡ seconds_of (get_or (rows_in size months seconds.now) (rows - 1) none) }
 {
     if rows <= FIXED_SIZE {
         return whole_seconds(rows);
@@ -82,9 +82,9 @@ pub(crate) fn seconds_of_row(seconds: &[i32; 16], rows: usize) -> f64
 
 // The offset by the number of rows reached.
 pub(crate) fn offset_by(seconds: &[i32; 16], rows: usize, mjd: f64, fraction: f64) -> f64
-    requires { rows ≤ mostRows }
-    ensures { (size : ℕ) (months : List ℤ) → rows ≤ fixedRows + least size 16
-        → result ≡ offsetBy (rowsIn size months seconds.now) rows mjd fraction }
+    requires { rows ≤ most_rows }
+    ensures { (size : ℕ) (months : List ℤ) → rows ≤ fixed_rows + least size 16
+        → result ≡ offset_by (rows_in size months seconds.now) rows mjd fraction }
 {
     if rows == 0 {
         return 0.0;
@@ -98,8 +98,8 @@ pub(crate) fn offset_by(seconds: &[i32; 16], rows: usize, mjd: f64, fraction: f6
 
 // The rule by the number of rows reached: the rows of places 0 to 13 drift, in every table.
 pub(crate) fn rule_by(rows: usize) -> Rule
-    requires { rows ≤ mostRows }
-    ensures { (size : ℕ) (months seconds : List ℤ) → rows ≤ fixedRows + least size 16 → result ≡ ruleBy (rowsIn size months seconds) rows }
+    requires { rows ≤ most_rows }
+    ensures { (size : ℕ) (months seconds : List ℤ) → rows ≤ fixed_rows + least size 16 → result ≡ rule_by (rows_in size months seconds) rows }
 {
     if rows == 0 {
         return Rule::Absent;
@@ -113,8 +113,8 @@ pub(crate) fn rule_by(rows: usize) -> Rule
 
 // The rule of 15 or more rows: none of them drifts.
 fn whole_rule(rows: usize) -> Rule
-    requires { (15 ≤ rows) × (rows ≤ mostRows) }
-    ensures { (size : ℕ) (months seconds : List ℤ) → rows ≤ fixedRows + least size 16 → result ≡ ruleBy (rowsIn size months seconds) rows }
+    requires { (15 ≤ rows) × (rows ≤ most_rows) }
+    ensures { (size : ℕ) (months seconds : List ℤ) → rows ≤ fixed_rows + least size 16 → result ≡ rule_by (rows_in size months seconds) rows }
 {
     Rule::Whole((rows - 1) as u32)
 }
@@ -122,7 +122,7 @@ fn whole_rule(rows: usize) -> Rule
 // The number of a date's month; 0 in the years before year 0, when no row has begun.
 pub(crate) fn month_number(year: i32, month: u32) -> u64
     requires { (1 ≤ month) × (month ≤ 12) }
-    ensures { result ≡ monthNumber year month }
+    ensures { result ≡ month_number year month }
 {
     if year < 0 {
         return 0;
@@ -167,8 +167,8 @@ pub(crate) fn of_plain_day<'a>(
 ) -> PlainDay
     requires { Plain year month day }
     ensures { ((mjd fraction : Float)
-        → result.seconds ≡ offsetAt (rowsIn size months.now seconds.now) (monthNumber year (nat_abs month)) mjd fraction)
-        × (result.rule ≡ ruleAt (rowsIn size months.now seconds.now) year month) }
+        → result.seconds ≡ offset_at (rows_in size months.now seconds.now) (month_number year (nat_abs month)) mjd fraction)
+        × (result.rule ≡ rule_at (rows_in size months.now seconds.now) year month) }
 {
     let rows = table_rows_reached(size, months, month_number(year, month as u32));
     PlainDay {

@@ -1,8 +1,8 @@
 // TAI-UTC of a month in whole seconds, for those who count a time from 1972 on in whole numbers.
 ghost use Rattle.std.specs.Prelude.{◌≡◌, ◌≤◌, ◌<◌};
 ghost use Rattle.leap_table.specs.rows.Announced.{rows_of};
-ghost use Rattle.leap_table.specs.offsets.Offset.{secondsIn};
-ghost use Rattle.leap_table.specs.offsets.WholeSeconds.{wholeSeconds};
+ghost use Rattle.leap_table.specs.offsets.Offset.{seconds_in};
+ghost use Rattle.leap_table.specs.offsets.WholeSeconds.{whole_seconds};
 
 use super::look_up::{month_number, table_rows_reached};
 use crate::rows::{AnnouncedRows, FIXED_SIZE, natural, size_of};
@@ -10,7 +10,7 @@ use crate::rows::{AnnouncedRows, FIXED_SIZE, natural, size_of};
 // The seconds of the row reached in a month from January 1972 on.
 fn seconds_in(t: AnnouncedRows, month: u64) -> u32
     requires { 23664 ≤ month }
-    ensures { (result ≡ secondsIn (rows_of t) month) × (result < 2147483648) }
+    ensures { (result ≡ seconds_in (rows_of t) month) × (result < 2147483648) }
 {
     let rows = table_rows_reached(size_of(t), &t.months, month);
     if rows <= FIXED_SIZE {
@@ -22,7 +22,7 @@ fn seconds_in(t: AnnouncedRows, month: u64) -> u32
 
 // TAI-UTC of a month in whole seconds by the rows of a table that is tested elsewhere; 0 in the years before 1972 and for a number that is no month.
 pub fn whole_seconds_by_rows(year: i32, month: u32, table: AnnouncedRows) -> u32
-    ensures { (result ≡ wholeSeconds (rows_of table) year month) × (result < 2147483648) }
+    ensures { (result ≡ whole_seconds (rows_of table) year month) × (result < 2147483648) }
 {
     if year < 1972 {
         return 0;

@@ -1,9 +1,9 @@
 // The table read forward, row by row, as a walk needs it: document 02, item 2.
 ghost use Rattle.std.specs.Prelude.{◌≡◌, ◌<◌, ◌≤◌, get_or, length, Float};
 ghost use Rattle.leap_table.specs.rows.Table.{fixed, starts};
-ghost use Rattle.leap_table.specs.rows.Announced.{announcedSize, rows_of};
-ghost use Rattle.leap_table.specs.offsets.Offset.{offsetBy};
-ghost use Rattle.leap_table.specs.offsets.Forward.{never, byTerms};
+ghost use Rattle.leap_table.specs.rows.Announced.{announced_size, rows_of};
+ghost use Rattle.leap_table.specs.offsets.Offset.{offset_by};
+ghost use Rattle.leap_table.specs.offsets.Forward.{never, by_terms};
 
 use crate::rows::{AnnouncedRows, FIXED_SIZE, MONTHS};
 
@@ -30,7 +30,7 @@ fn month_at(months: &[u64], i: usize) -> u64
 
 // How many announced rows count.
 fn announced_size(t: AnnouncedRows) -> usize
-    ensures { (result ≡ announcedSize t) × (result ≤ 16) }
+    ensures { (result ≡ announced_size t) × (result ≤ 16) }
 {
     crate::rows::at_most_16(crate::rows::size_of(t))
 }
@@ -58,7 +58,7 @@ pub fn row_start(table: AnnouncedRows, i: usize) -> u64
 
 // The terms of the last of so many rows of a table; 0 s where there is none.
 pub fn row_terms(table: AnnouncedRows, rows: usize) -> RowTerms
-    ensures { (mjd fraction : Float) → byTerms result mjd fraction ≡ offsetBy (rows_of table) rows mjd fraction }
+    ensures { (mjd fraction : Float) → by_terms result mjd fraction ≡ offset_by (rows_of table) rows mjd fraction }
 {
     if rows == 0 {
         return RowTerms {

@@ -1,11 +1,11 @@
 // TAI-UTC at the start, the middle and the end of a day, and the leap at its end.
 ghost use Rattle.std.specs.Prelude.{◌≡◌, List, ◌+◌, ◌<◌, ◌≤◌, ℤ, nat_abs};
 ghost use Rattle.refusals.specs.Outcome.{answer, onward};
-ghost use Rattle.leap_table.specs.rows.Table.{fixedRows, starts, reached};
-ghost use Rattle.leap_table.specs.rows.Announced.{least, rowsIn, table_of};
-ghost use Rattle.leap_table.specs.offsets.Leap.{offsetsOfDay, dayOffsets, leapAtEndOfDay};
-ghost use Rattle.leap_table.specs.offsets.Rule.{ruleOf, dayByRule, leapByRule};
-ghost use Rattle.leap_table.specs.offsets.Answers.{secondsOutcome, secondsByRuleOutcome, dayOffsetsOutcome, dayByRuleOutcome};
+ghost use Rattle.leap_table.specs.rows.Table.{fixed_rows, starts, reached};
+ghost use Rattle.leap_table.specs.rows.Announced.{least, rows_in, table_of};
+ghost use Rattle.leap_table.specs.offsets.Leap.{offsets_of_day, day_offsets, leap_at_end_of_day};
+ghost use Rattle.leap_table.specs.offsets.Rule.{rule_of, day_by_rule, leap_by_rule};
+ghost use Rattle.leap_table.specs.offsets.Answers.{seconds_outcome, seconds_by_rule_outcome, day_offsets_outcome, day_by_rule_outcome};
 
 use super::in_day::without_rule;
 use super::look_up::{
@@ -16,8 +16,8 @@ use crate::rows::{AnnouncedRows, size_of, table_refusal};
 
 // The rows reached in the month of the next day: looked up again only where it is another month.
 fn next_rows_reached(size: usize, months: &[i32; 16], rows: usize, month: u64, next: u64) -> usize
-    requires { ((seconds : List ℤ) → rows ≡ reached (starts (rowsIn size months.now seconds)) month) × (rows ≤ fixedRows + least size 16) }
-    ensures { ((seconds : List ℤ) → result ≡ reached (starts (rowsIn size months.now seconds)) next) × (result ≤ fixedRows + least size 16) }
+    requires { ((seconds : List ℤ) → rows ≡ reached (starts (rows_in size months.now seconds)) month) × (rows ≤ fixed_rows + least size 16) }
+    ensures { ((seconds : List ℤ) → result ≡ reached (starts (rows_in size months.now seconds)) next) × (result ≤ fixed_rows + least size 16) }
 {
     if next == month {
         return rows;
@@ -35,9 +35,9 @@ fn offsets_of_day<'a>(
     mjd: i64,
 ) -> DayByRule
     requires { nat_abs mjd < 1000000000000 }
-    ensures { dayByRuleOutcome result ≡ answer (
-      offsetsOfDay (rowsIn size months.now seconds.now) month next mjd,
-      ruleOf (rowsIn size months.now seconds.now) month,
+    ensures { day_by_rule_outcome result ≡ answer (
+      offsets_of_day (rows_in size months.now seconds.now) month next mjd,
+      rule_of (rows_in size months.now seconds.now) month,
     ) }
 {
     let rows = table_rows_reached(size, months, month);
@@ -61,7 +61,7 @@ fn by_next_day<'a>(
     months: &'a [i32; 16],
     seconds: &'a [i32; 16],
 ) -> DayByRule
-    ensures { dayByRuleOutcome result ≡ dayByRule (rowsIn size months.now seconds.now) year month day }
+    ensures { day_by_rule_outcome result ≡ day_by_rule (rows_in size months.now seconds.now) year month day }
 {
     match calendar::modified_julian_day(year, month, day) {
         calendar::MjdAnswer::Refused(number) => DayByRule::Refused(number),
@@ -88,7 +88,7 @@ pub fn day_offsets_by_arrays<'a>(
     months: &'a [i32; 16],
     seconds: &'a [i32; 16],
 ) -> DayByRule
-    ensures { dayByRuleOutcome result ≡ dayByRule (rowsIn size months.now seconds.now) year month day }
+    ensures { day_by_rule_outcome result ≡ day_by_rule (rows_in size months.now seconds.now) year month day }
 {
     if plain_day(year, month, day) {
         let found = of_plain_day(year, month, day, size, months, seconds);
@@ -105,7 +105,7 @@ pub fn day_offsets_by_arrays<'a>(
 
 // TAI-UTC at the start, the middle and the end of a day. Refusals in order: 20 to 22 the table, 1 to 3 the date, then 5 no next day.
 pub fn day_offsets(year: i32, month: i32, day: i32, table: AnnouncedRows) -> DayOffsetsAnswer
-    ensures { dayOffsetsOutcome result ≡ onward (table_of table) (λ rows. dayOffsets rows year month day) }
+    ensures { day_offsets_outcome result ≡ onward (table_of table) (λ rows. day_offsets rows year month day) }
 {
     let number = table_refusal(table);
     if number != 0 {
@@ -133,7 +133,7 @@ pub fn leap_at_end_of_day_by_arrays<'a>(
     months: &'a [i32; 16],
     seconds: &'a [i32; 16],
 ) -> SecondsByRule
-    ensures { secondsByRuleOutcome result ≡ leapByRule (rowsIn size months.now seconds.now) year month day }
+    ensures { seconds_by_rule_outcome result ≡ leap_by_rule (rows_in size months.now seconds.now) year month day }
 {
     if plain_day(year, month, day) {
         let found = of_plain_day(year, month, day, size, months, seconds);
@@ -151,7 +151,7 @@ pub fn leap_at_end_of_day_by_arrays<'a>(
 
 // How much longer the day is than 86,400 s and its drift: a leap second, one left out, or a step before 1972. Refusals as for its offsets.
 pub fn leap_at_end_of_day(year: i32, month: i32, day: i32, table: AnnouncedRows) -> SecondsAnswer
-    ensures { secondsOutcome result ≡ onward (table_of table) (λ rows. leapAtEndOfDay rows year month day) }
+    ensures { seconds_outcome result ≡ onward (table_of table) (λ rows. leap_at_end_of_day rows year month day) }
 {
     let number = table_refusal(table);
     if number != 0 {

@@ -39,7 +39,7 @@ pub fn at_most_16(size: usize) -> usize
 // Whether each announced row is later than the one before.
 fn rises(months: &[i32; 16], size: usize) -> bool
     requires { size ≤ 16 }
-    ensures { result ≡ rising (starts (L.rows_to (L.announcedTable 0 0 months.now []) size)) }
+    ensures { result ≡ rising (starts (L.rows_to (L.announced_table 0 0 months.now []) size)) }
 {
     let mut before = LAST_MONTH;
     let mut i = 0;
@@ -56,7 +56,7 @@ fn rises(months: &[i32; 16], size: usize) -> bool
 
 fn one_apart(a: u32, b: u32) -> bool
     requires { (a < 2147483648) × (b < 2147483648) }
-    ensures { result ≡ L.oneApart a b }
+    ensures { result ≡ L.one_apart a b }
 {
     if b == a + 1 {
         return true;
@@ -67,7 +67,7 @@ fn one_apart(a: u32, b: u32) -> bool
 // Whether each announced row is one second more or less than the one before.
 fn steps(seconds: &[i32; 16], size: usize) -> bool
     requires { size ≤ 16 }
-    ensures { result ≡ L.bySeconds (L.rows_to (L.announcedTable 0 0 [] seconds.now) size) }
+    ensures { result ≡ L.by_seconds (L.rows_to (L.announced_table 0 0 [] seconds.now) size) }
 {
     let mut before = LAST_SECONDS;
     let mut i = 0;
@@ -89,7 +89,7 @@ pub fn announced_refusal<'a>(
     months: &'a [i32; 16],
     seconds: &'a [i32; 16],
 ) -> u32
-    ensures { L.Judged result (L.announcedTable months_size seconds_size months.now seconds.now) }
+    ensures { L.Judged result (L.announced_table months_size seconds_size months.now seconds.now) }
 {
     if months_size != seconds_size {
         return refusals::TABLE_SIZES_WRONG;

@@ -4,9 +4,9 @@ ghost use Rattle.refusals.specs.Outcome.{onward};
 ghost use Rattle.leap_table.specs.rows.Table.{starts, rising};
 ghost use Rattle.leap_table.specs.rows.Announced.{rows_of, table_of};
 ghost use Rattle.leap_table.specs.walk.Rows.{compared};
-ghost use Rattle.leap_table.specs.walk.Walk.{monthIn, tripleOffset};
-ghost use Rattle.leap_table.specs.judging.Lists.{datesFrom, tripleIn};
-ghost use Rattle.leap_table.specs.walk.Lists.{walkOfBytes, in_eights};
+ghost use Rattle.leap_table.specs.walk.Walk.{month_in, triple_offset};
+ghost use Rattle.leap_table.specs.judging.Lists.{dates_from, triple_in};
+ghost use Rattle.leap_table.specs.walk.Lists.{walk_of_bytes, in_eights};
 ghost use Rattle.leap_table.specs.walk.Call.{WalkCall};
 ghost use Rattle.leap_table.specs.walk.Asked.{GoodDates};
 
@@ -15,9 +15,9 @@ use crate::rows::AnnouncedRows;
 
 // Walks through the table with n dates, writes their offsets, and says how many rows it compared.
 fn walk_all(dates: &[u8], n: usize, table: AnnouncedRows, out: &mut [u8]) -> u64
-    requires { (GoodDates (tripleIn dates.now) n) × (T (rising (starts (rows_of table)))) × (12 * n ≤ length dates.now) × (8 * n ≤ length out.old) }
-    ensures { (result ≡ compared (starts (rows_of table)) (map monthIn (datesFrom (tripleIn dates.now) 0 n)))
-        × (out.new ≡ in_eights (map (tripleOffset (rows_of table)) (datesFrom (tripleIn dates.now) 0 n)) ++ drop (8 * n) out.old) }
+    requires { (GoodDates (triple_in dates.now) n) × (T (rising (starts (rows_of table)))) × (12 * n ≤ length dates.now) × (8 * n ≤ length out.old) }
+    ensures { (result ≡ compared (starts (rows_of table)) (map month_in (dates_from (triple_in dates.now) 0 n)))
+        × (out.new ≡ in_eights (map (triple_offset (rows_of table)) (dates_from (triple_in dates.now) 0 n)) ++ drop (8 * n) out.old) }
 {
     let mut w = super::at_start(table);
     let mut i = 0;
@@ -39,7 +39,7 @@ fn walk_all(dates: &[u8], n: usize, table: AnnouncedRows, out: &mut [u8]) -> u64
 // The offsets at 0h as `offsets_at_0h` gives them, from dates and into places that are bytes. Refusals as there, 14 where the bytes of `dates` are no multiple
 // of 12.
 pub fn offsets_at_0h_bytes(dates: &[u8], table: AnnouncedRows, out: &mut [u8]) -> WalkAnswer
-    ensures { WalkCall in_eights (onward (table_of table) (λ rows. walkOfBytes rows dates.now (length out.old))) out.old
+    ensures { WalkCall in_eights (onward (table_of table) (λ rows. walk_of_bytes rows dates.now (length out.old))) out.old
         result out.new }
 {
     let number = crate::judging::bytes_refusal(dates, table, out.len());

@@ -7,15 +7,15 @@ use mathlib.Core.Bool.{Bool, true, false}
 use lib.ListN.{length}
 use Rattle.leap_table.specs.rows.Announced.{least}
 use Rattle.line_listing.specs.lines.StampLine.{Stamps, stamps}
-use Rattle.line_listing.specs.head.Counts.{firstEnd, secondEnd}
+use Rattle.line_listing.specs.head.Counts.{first_end, second_end}
 use borrow.Author.Tests.{eq-eqb, ne_eqb}
 use Rattle.numerals.specs.digits.Placed.{Placed, Placing}
 use Rattle.numerals.proofs.digits.Places.{then, placed-as, nothing-at}
 use Rattle.reasons.proofs.sentences.Placing.{placed-length}
 use Rattle.line_listing.specs.declared.head.RunEnd.{RunEnd}
-use Rattle.line_listing.specs.head.Head.{counted, blockEnd, runLine, runIfNamed, oneIfNamed, headText}
+use Rattle.line_listing.specs.head.Head.{counted, block_end, run_line, run_if_named, one_if_named, head_text}
 use Rattle.line_listing.specs.head.Asked.{PlacedIn}
-use Rattle.utc.specs.text.Ascii.{asciiBytes}
+use Rattle.utc.specs.text.Ascii.{ascii_bytes}
 
 -- two pieces
 pub and_then : {d s t d' d'' : List ℕ} {at m n r r2 : ℕ} → PlacedIn d at s m r d' → PlacedIn d' r t n r2 d'' → at + m + n ≤ length d
@@ -30,8 +30,8 @@ and_then a b h = record {
 pub piece : {d t d' : List ℕ} {at r : ℕ} → Placing d at t r d' → at + length t ≤ length d → PlacedIn d at t (length t) r d'
 piece p h = let q = p.written h in record { placed = q; within = omega (arith, q.ends); long = placed-length q h }
 
-pub in-as : {d s t d' : List ℕ} {at m r : ℕ} → s ≡ t → PlacedIn d at s m r d' → PlacedIn d at t m r d'
-in-as e p = record { placed = placed-as e p.placed; within = p.within; long = p.long }
+pub in_as : {d s t d' : List ℕ} {at m r : ℕ} → s ≡ t → PlacedIn d at s m r d' → PlacedIn d at t m r d'
+in_as e p = record { placed = placed-as e p.placed; within = p.within; long = p.long }
 
 pub at_most : {d t d' : List ℕ} {at m n r : ℕ} → m ≤ n → PlacedIn d at t m r d' → PlacedIn d at t n r d'
 at_most h p = record { placed = p.placed; within = omega (arith, p.within); long = p.long }
@@ -40,22 +40,22 @@ pub none-placed : (d : List ℕ) (at m : ℕ) → at ≤ length d → PlacedIn d
 none-placed d at m h = record { placed = nothing-at d at h; within = omega arith; long = refl }
 
 -- ---- the block that ended a run
-pub not-ended : (e : RunEnd) → e.refused ≡ 0 → [] ≡ blockEnd e
-unfolding blockEnd
-not-ended e h = sym (rw (eq-eqb e.refused 0 h))
+pub not_ended : (e : RunEnd) → e.refused ≡ 0 → [] ≡ block_end e
+unfolding block_end
+not_ended e h = sym (rw (eq-eqb e.refused 0 h))
 
-pub ended : (e : RunEnd) → (e.refused ≡ 0 → ⊥) → counted (asciiBytes " block ") e.block ++ counted (asciiBytes " refused ") e.refused ≡ blockEnd e
-unfolding blockEnd
+pub ended : (e : RunEnd) → (e.refused ≡ 0 → ⊥) → counted (ascii_bytes " block ") e.block ++ counted (ascii_bytes " refused ") e.refused ≡ block_end e
+unfolding block_end
 ended e h = sym (rw (ne_eqb e.refused 0 h))
 
 -- ---- a run that is named, and one that is not
 module _ (name : List ℕ) (e : RunEnd) (js ks ns : List ℕ) (from n : ℕ) where
-  pub has-line : e.named ≡ true → runLine name e js ks ns from n ≡ runIfNamed name e js ks ns from n
-  unfolding runIfNamed
+  pub has-line : e.named ≡ true → run_line name e js ks ns from n ≡ run_if_named name e js ks ns from n
+  unfolding run_if_named
   has-line h = sym (rw h)
 
-  pub no_line : e.named ≡ false → [] ≡ runIfNamed name e js ks ns from n
-  unfolding runIfNamed
+  pub no_line : e.named ≡ false → [] ≡ run_if_named name e js ks ns from n
+  unfolding run_if_named
   no_line h = sym (rw h)
 
 -- ---- the first lines by the ends of the runs and the number of runs that are named
@@ -65,11 +65,11 @@ module _ (gps tai utc : RunEnd) (js ks ns : List ℕ) (first second : ℕ) where
 
   abbrev by-ends : ℕ → ℕ → ℕ → List ℕ
   by-ends named a b =
-      (((counted (asciiBytes "line up ") named ++ asciiBytes " runs\n") ++ runIfNamed (asciiBytes "gps ") gps js ks ns 0 a)
-      ++ runIfNamed (asciiBytes "tai ") tai js ks ns a (b - a))
-      ++ runIfNamed (asciiBytes "utc ") utc js ks ns b (length ns - b)
+      (((counted (ascii_bytes "line up ") named ++ ascii_bytes " runs\n") ++ run_if_named (ascii_bytes "gps ") gps js ks ns 0 a)
+      ++ run_if_named (ascii_bytes "tai ") tai js ks ns a (b - a))
+      ++ run_if_named (ascii_bytes "utc ") utc js ks ns b (length ns - b)
 
-  pub head-is : (a b x y z : ℕ) → a ≡ least first (length ns) → b ≡ least second (length ns - a) → x ≡ oneIfNamed gps.named → y ≡ oneIfNamed tai.named
-      → z ≡ oneIfNamed utc.named → by-ends (x + y + z) a (a + b) ≡ headText gps tai utc all
-  unfolding headText firstEnd secondEnd
-  head-is a b x y z e f g h i = rw (g, h, i, f, e) refl
+  pub head_is : (a b x y z : ℕ) → a ≡ least first (length ns) → b ≡ least second (length ns - a) → x ≡ one_if_named gps.named → y ≡ one_if_named tai.named
+      → z ≡ one_if_named utc.named → by-ends (x + y + z) a (a + b) ≡ head_text gps tai utc all
+  unfolding head_text first_end second_end
+  head_is a b x y z e f g h i = rw (g, h, i, f, e) refl

@@ -7,7 +7,7 @@ use mathlib.Core.Bool.{Bool, true, false, cond}
 use mathlib.Core.List.{List}
 use lib.Dec.{eqb}
 use lib.ListN.{get_or}
-use Rattle.line_listing.specs.head.Counts.{notFinite, kind_at, kindsIn}
+use Rattle.line_listing.specs.head.Counts.{not_finite, kind_at, kinds_in}
 
 abbrev four : ℕ → ℕ
 four k = cond (eqb k 0) 1 0 + cond (eqb k 1) 1 0 + cond (eqb k 2) 1 0 + cond (eqb k 3) 1 0
@@ -18,17 +18,17 @@ one-kind false true c = refl
 one-kind false false true = refl
 one-kind false false false = refl
 
-kind-once : (js ks ns : List ℕ) (p : ℕ) → four (kind_at js ks ns p) ≡ 1
+kind_once : (js ks ns : List ℕ) (p : ℕ) → four (kind_at js ks ns p) ≡ 1
 unfolding kind_at
-kind-once js ks ns p = one-kind (eqb (get_or ns p 0) 0) (eqb (get_or ns p 0) 17) (notFinite js ks p)
+kind_once js ks ns p = one-kind (eqb (get_or ns p 0) 0) (eqb (get_or ns p 0) 17) (not_finite js ks p)
 
 sums : (a b c d x y z w m n : ℕ) → a + b + c + d ≡ n → x + y + z + w ≡ 1 → (a + x) + (b + y) + (c + z) + (d + w) ≡ suc n
 sums a b c d x y z w m n e f = omega arith
 
 -- NOT FINITE, REFUSED, LEFT OUT AND ORDERED are all
 pub counts_all : (js ks ns : List ℕ) (from n : ℕ)
-    → kindsIn js ks ns 0 from n + kindsIn js ks ns 1 from n + kindsIn js ks ns 2 from n + kindsIn js ks ns 3 from n ≡ n
-unfolding kindsIn
+    → kinds_in js ks ns 0 from n + kinds_in js ks ns 1 from n + kinds_in js ks ns 2 from n + kinds_in js ks ns 3 from n ≡ n
+unfolding kinds_in
 counts_all js ks ns from zero = refl
-counts_all js ks ns from (suc n) = sums (kindsIn js ks ns 0 from n) (kindsIn js ks ns 1 from n) (kindsIn js ks ns 2 from n) (kindsIn js ks ns 3 from n)
-    _ _ _ _ 0 n (counts_all js ks ns from n) (kind-once js ks ns (from + n))
+counts_all js ks ns from (suc n) = sums (kinds_in js ks ns 0 from n) (kinds_in js ks ns 1 from n) (kinds_in js ks ns 2 from n) (kinds_in js ks ns 3 from n)
+    _ _ _ _ 0 n (counts_all js ks ns from n) (kind_once js ks ns (from + n))

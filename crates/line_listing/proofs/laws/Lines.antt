@@ -6,47 +6,47 @@ use mathlib.Core.Path.{◌≡◌, refl, sym, ap, ◌∙◌}
 use mathlib.Core.Bool.{Bool, true, false}
 use mathlib.Core.List.{List, [], ◌∷◌, ◌++◌, append_assoc, append-nil}
 use borrow.Author.Tests.{ne_eqb}
-use Rattle.numerals.specs.digits.Decimal.{digitsIn, digitsOf}
-use Rattle.utc.specs.text.Ascii.{asciiBytes}
+use Rattle.numerals.specs.digits.Decimal.{digits_in, digits_of}
+use Rattle.utc.specs.text.Ascii.{ascii_bytes}
 use Rattle.leap_table.specs.rows.Table.{Row}
-use Rattle.line_listing.specs.lines.StampLine.{Stamps, lineInOrder, dateOfPlace, numberOfPlace, recorder, indexIn}
-use Rattle.line_listing.specs.lines.StampLine.{sentenceBehind, numberTold, refused, stampTold, lineBy, placeLine}
-use Rattle.line_listing.specs.lines.Parts.{listedLines}
+use Rattle.line_listing.specs.lines.StampLine.{Stamps, line_in_order, date_of_place, number_of_place, recorder, index_in}
+use Rattle.line_listing.specs.lines.StampLine.{sentence_behind, number_told, refused, stamp_told, line_by, place_line}
+use Rattle.line_listing.specs.lines.Parts.{listed_lines}
 
 -- A STAMP WITH A NUMBER is told by it, and never by a text
-pub numbered-told : (s : Bool) (rows : List Row) (all : Stamps) (p : ℕ) → (numberOfPlace all p ≡ 0 → ⊥)
-    → stampTold s rows (dateOfPlace all p) (numberOfPlace all p) ≡ refused s (numberOfPlace all p) (dateOfPlace all p)
-unfolding stampTold
-numbered-told s rows all p h = rw (ne_eqb (numberOfPlace all p) 0 h)
+pub numbered-told : (s : Bool) (rows : List Row) (all : Stamps) (p : ℕ) → (number_of_place all p ≡ 0 → ⊥)
+    → stamp_told s rows (date_of_place all p) (number_of_place all p) ≡ refused s (number_of_place all p) (date_of_place all p)
+unfolding stamp_told
+numbered-told s rows all p h = rw (ne_eqb (number_of_place all p) 0 h)
 
 -- so the table does not matter
-pub numbered-by-any-rows : (s : Bool) (rows rows' : List Row) (all : Stamps) (p : ℕ) → (numberOfPlace all p ≡ 0 → ⊥)
-    → placeLine s rows all p ≡ placeLine s rows' all p
-unfolding placeLine lineBy
+pub numbered-by-any-rows : (s : Bool) (rows rows' : List Row) (all : Stamps) (p : ℕ) → (number_of_place all p ≡ 0 → ⊥)
+    → place_line s rows all p ≡ place_line s rows' all p
+unfolding place_line line_by
 numbered-by-any-rows s rows rows' all p h =
-    ap (λ (t : List ℕ). (((recorder all.first all.second p ++ digitsOf (indexIn all.first all.second p)) ++ (32 ∷ [])) ++ t) ++ (10 ∷ []))
+    ap (λ (t : List ℕ). (((recorder all.first all.second p ++ digits_of (index_in all.first all.second p)) ++ (32 ∷ [])) ++ t) ++ (10 ∷ []))
     (numbered-told s rows all p h ∙ sym (numbered-told s rows' all p h))
 
 -- PARTS JOIN: j lines from a line on and k lines from where they end are the j + k lines
 pub parts_join : (s : Bool) (rows : List Row) (all : Stamps) (order : List ℕ) (line j k : ℕ)
-    → listedLines s rows all order line (j + k) ≡ listedLines s rows all order line j ++ listedLines s rows all order (line + j) k
-unfolding listedLines
+    → listed_lines s rows all order line (j + k) ≡ listed_lines s rows all order line j ++ listed_lines s rows all order (line + j) k
+unfolding listed_lines
 parts_join s rows all order line j zero =
-    ap (listedLines s rows all order line) (let e : j + 0 ≡ j = omega arith in e) ∙ sym (append-nil (listedLines s rows all order line j))
+    ap (listed_lines s rows all order line) (let e : j + 0 ≡ j = omega arith in e) ∙ sym (append-nil (listed_lines s rows all order line j))
 parts_join s rows all order line j (suc k) =
-    ap (listedLines s rows all order line) (let e : j + suc k ≡ suc (j + k) = omega arith in e)
-    ∙ ap (λ (l : List ℕ). l ++ placeLine s rows all (lineInOrder order (line + (j + k)))) (parts_join s rows all order line j k)
-    ∙ ap (λ (n : ℕ). (listedLines s rows all order line j ++ listedLines s rows all order (line + j) k) ++ placeLine s rows all (lineInOrder order n))
+    ap (listed_lines s rows all order line) (let e : j + suc k ≡ suc (j + k) = omega arith in e)
+    ∙ ap (λ (l : List ℕ). l ++ place_line s rows all (line_in_order order (line + (j + k)))) (parts_join s rows all order line j k)
+    ∙ ap (λ (n : ℕ). (listed_lines s rows all order line j ++ listed_lines s rows all order (line + j) k) ++ place_line s rows all (line_in_order order n))
     (let e : line + (j + k) ≡ line + j + k = omega arith in e)
-    ∙ append_assoc (listedLines s rows all order line j) (listedLines s rows all order (line + j) k) (placeLine s rows all (lineInOrder order (line + j + k)))
+    ∙ append_assoc (listed_lines s rows all order line j) (listed_lines s rows all order (line + j) k) (place_line s rows all (line_in_order order (line + j + k)))
 
 -- A STAMP OF NUMBER 6 OR 9, as every one that is not finite has it (22.4 of docs/GUARANTEES.md), by whatever rows, in whatever order and runs
-pub six-told : (rows : List Row) (all : Stamps) (p : ℕ) → numberOfPlace all p ≡ 6 → stampTold false rows (dateOfPlace all p) (numberOfPlace all p) ≡
-    asciiBytes "refused 6"
-unfolding stampTold refused numberTold sentenceBehind digitsOf digitsIn
-six-told rows all p e = ap (stampTold false rows (dateOfPlace all p)) e
+pub six-told : (rows : List Row) (all : Stamps) (p : ℕ) → number_of_place all p ≡ 6 → stamp_told false rows (date_of_place all p) (number_of_place all p) ≡
+    ascii_bytes "refused 6"
+unfolding stamp_told refused number_told sentence_behind digits_of digits_in
+six-told rows all p e = ap (stamp_told false rows (date_of_place all p)) e
 
-pub nine-told : (rows : List Row) (all : Stamps) (p : ℕ) → numberOfPlace all p ≡ 9 → stampTold false rows (dateOfPlace all p) (numberOfPlace all p) ≡
-    asciiBytes "refused 9"
-unfolding stampTold refused numberTold sentenceBehind digitsOf digitsIn
-nine-told rows all p e = ap (stampTold false rows (dateOfPlace all p)) e
+pub nine-told : (rows : List Row) (all : Stamps) (p : ℕ) → number_of_place all p ≡ 9 → stamp_told false rows (date_of_place all p) (number_of_place all p) ≡
+    ascii_bytes "refused 9"
+unfolding stamp_told refused number_told sentence_behind digits_of digits_in
+nine-told rows all p e = ap (stamp_told false rows (date_of_place all p)) e

@@ -9,29 +9,29 @@ use lib.Dec.{eqb, leb, ltb}
 use lib.ListN.{length, length-append}
 use borrow.Author.Tests.{ltb-true, ltb-false, ne_eqb}
 use Rattle.refusals.specs.Outcome.{Outcome, answer, refusal, onward}
-use Rattle.numerals.specs.digits.Decimal.{digitsOf}
+use Rattle.numerals.specs.digits.Decimal.{digits_of}
 use Rattle.numerals.proofs.digits.Decimal.{digits-few}
 use Rattle.julian.specs.declared.JulianDate.{JulianDate}
 use Rattle.reasons.specs.declared.Values.{Values}
 use Rattle.reasons.specs.declared.Values.TheVariants.{Parts}
 use Rattle.reasons.specs.declared.sentences.Reason.{Reason}
 use Rattle.reasons.specs.Widths.{OfWidth}
-use Rattle.reasons.specs.Offending.{offending, partsField}
-use Rattle.reasons.specs.sentences.Render.{render, namedText}
-use Rattle.reasons.specs.sentences.Texts.{fixedText}
-use Rattle.reasons.specs.Sentence.{reasonOf, sentence}
-use Rattle.reasons.proofs.SentenceLengths.{reason-short}
+use Rattle.reasons.specs.Offending.{offending, parts_field}
+use Rattle.reasons.specs.sentences.Render.{render, named_text}
+use Rattle.reasons.specs.sentences.Texts.{fixed_text}
+use Rattle.reasons.specs.Sentence.{reason_of, sentence}
+use Rattle.reasons.proofs.SentenceLengths.{reason_short}
 use Rattle.reasons.proofs.sentences.FixedTexts.{text-short}
-use Rattle.line_listing.specs.lines.StampLine.{asSentence, sentenceBehind, numberTold}
-use Rattle.line_listing.specs.lines.Parts.{longestLine}
+use Rattle.line_listing.specs.lines.StampLine.{as_sentence, sentence_behind, number_told}
+use Rattle.line_listing.specs.lines.Parts.{longest_line}
 
-pub room-low : (s : Bool) → 43 ≤ longestLine s
-unfolding longestLine
+pub room-low : (s : Bool) → 43 ≤ longest_line s
+unfolding longest_line
 room-low true = omega arith
 room-low false = omega arith
 
-pub room-high : (s : Bool) → longestLine s ≤ 84
-unfolding longestLine
+pub room-high : (s : Bool) → longest_line s ≤ 84
+unfolding longest_line
 room-high true = omega arith
 room-high false = omega arith
 
@@ -42,56 +42,56 @@ module _ (k : ℕ) (d : JulianDate) where
 
   short : length (render reason) ≤ 57
   unfolding OfWidth
-  short = reason-short k (Parts d.jd1 d.jd2) tt
+  short = reason_short k (Parts d.jd1 d.jd2) tt
 
   -- from 10 on no part is named
   shorter : 10 ≤ k → length (render reason) ≤ 50
-  unfolding render offending partsField namedText
+  unfolding render offending parts_field named_text
   shorter h =
       let e = ne_eqb k 6 (λ (z : k ≡ 6). let w : ⊥ = omega arith in w) in
       let f = ne_eqb k 9 (λ (z : k ≡ 9). let w : ⊥ = omega arith in w) in
       let t = text-short k in
-      rw (e, f) (omega (arith, length-append (fixedText k) []))
+      rw (e, f) (omega (arith, length-append (fixed_text k) []))
 
-  told : (b : Bool) → length (asSentence (onward (cond b (answer reason) (refusal 18)) (λ r. answer (render r)))) ≤ 2 + length (render reason)
-  unfolding asSentence onward
+  told : (b : Bool) → length (as_sentence (onward (cond b (answer reason) (refusal 18)) (λ r. answer (render r)))) ≤ 2 + length (render reason)
+  unfolding as_sentence onward
   told true = omega arith
   told false = omega arith
 
-  behind-most : length (sentenceBehind true k d) ≤ 2 + length (render reason)
-  unfolding sentenceBehind sentence reasonOf
+  behind-most : length (sentence_behind true k d) ≤ 2 + length (render reason)
+  unfolding sentence_behind sentence reason_of
   behind-most = told (leb 1 k && leb k 28)
 
-  all_most : (s : Bool) → length (sentenceBehind s k d) ≤ 2 + length (render reason)
-  unfolding sentenceBehind
+  all_most : (s : Bool) → length (sentence_behind s k d) ≤ 2 + length (render reason)
+  unfolding sentence_behind
   all_most true = behind-most
   all_most false = omega arith
 
-  none-without : length (sentenceBehind false k d) ≡ 0
-  unfolding sentenceBehind
+  none-without : length (sentence_behind false k d) ≡ 0
+  unfolding sentence_behind
   none-without = refl
 
 -- ---- a number and its sentence
 module _ (k : ℕ) (d : JulianDate) (byte : k < 256) where
-  three : length (digitsOf k) ≤ 3
+  three : length (digits_of k) ≤ 3
   three = digits-few 2 k (omega arith)
 
-  with-sentence : length (digitsOf k ++ sentenceBehind true k d) ≤ 60
-  with-sentence = go (ltb k 10) refl
+  with_sentence : length (digits_of k ++ sentence_behind true k d) ≤ 60
+  with_sentence = go (ltb k 10) refl
     where
-      go : (b : Bool) → ltb k 10 ≡ b → length (digitsOf k ++ sentenceBehind true k d) ≤ 60
+      go : (b : Bool) → ltb k 10 ≡ b → length (digits_of k ++ sentence_behind true k d) ≤ 60
       go true e =
-          let one : length (digitsOf k) ≤ 1 = digits-few 0 k (omega (arith, ltb-true k 10 e)) in
-          omega (arith, length-append (digitsOf k) (sentenceBehind true k d), behind-most k d, short k d, one)
+          let one : length (digits_of k) ≤ 1 = digits-few 0 k (omega (arith, ltb-true k 10 e)) in
+          omega (arith, length-append (digits_of k) (sentence_behind true k d), behind-most k d, short k d, one)
       go false e =
-          omega (arith, length-append (digitsOf k) (sentenceBehind true k d), behind-most k d, shorter k d (ltb-false k 10 e), three)
+          omega (arith, length-append (digits_of k) (sentence_behind true k d), behind-most k d, shorter k d (ltb-false k 10 e), three)
 
-  pub number-most : (s : Bool) → length (numberTold s k d) + 24 ≤ longestLine s
-  unfolding numberTold longestLine
-  number-most true = omega (arith, with-sentence)
-  number-most false = omega (arith, length-append (digitsOf k) (sentenceBehind false k d), none-without k d, three)
+  pub number-most : (s : Bool) → length (number_told s k d) + 24 ≤ longest_line s
+  unfolding number_told longest_line
+  number-most true = omega (arith, with_sentence)
+  number-most false = omega (arith, length-append (digits_of k) (sentence_behind false k d), none-without k d, three)
 
 -- the digits and the sentence apart
-pub told-apart : (s : Bool) (k : ℕ) (d : JulianDate) → length (numberTold s k d) ≡ length (digitsOf k) + length (sentenceBehind s k d)
-unfolding numberTold
-told-apart s k d = length-append (digitsOf k) (sentenceBehind s k d)
+pub told-apart : (s : Bool) (k : ℕ) (d : JulianDate) → length (number_told s k d) ≡ length (digits_of k) + length (sentence_behind s k d)
+unfolding number_told
+told-apart s k d = length-append (digits_of k) (sentence_behind s k d)

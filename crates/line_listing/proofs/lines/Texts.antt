@@ -13,12 +13,12 @@ use Rattle.leap_table.specs.declared.offsets.Rule.{Rule}
 use Rattle.leap_table.specs.offsets.Rule.{forget}
 use Rattle.utc.specs.declared.text.TextAnswer.{TextAnswer}
 use Rattle.utc.specs.declared.text.TextAnswer.TheVariants.{Written, Refused}
-use Rattle.utc.specs.text.Answer.{TextPut, textOutcome}
+use Rattle.utc.specs.text.Answer.{TextPut, text_outcome}
 use Rattle.utc.specs.declared.iso_texts.TextByRule.{TextByRule}
 use Rattle.utc.specs.declared.iso_texts.TextByRule.TheVariants as Ruled
-use Rattle.utc.specs.iso_texts.ByRule.{expandedByRule, textByRuleOutcome, TextRuleCall}
-use Rattle.utc.specs.iso_texts.Expanded.{isoTextExpanded}
-use Rattle.utc.specs.iso_texts.TextCall.{written, bufferHolds, TextCall}
+use Rattle.utc.specs.iso_texts.ByRule.{expanded_by_rule, text_by_rule_outcome, TextRuleCall}
+use Rattle.utc.specs.iso_texts.Expanded.{iso_text_expanded}
+use Rattle.utc.specs.iso_texts.TextCall.{written, buffer_holds, TextCall}
 use Rattle.utc.proofs.iso_texts.TextCalls.{call-as}
 use Rattle.utc.proofs.iso_texts.TextRules.{rule-call-forgets, expanded-forgets}
 use Rattle.stamps.proofs.Texts.{given-written, given-fits}
@@ -26,7 +26,7 @@ use Rattle.stamps.proofs.Texts.{given-written, given-fits}
 -- ---- a text that is surely there
 module _ {t p ys : List ℕ} {res : TextAnswer} (put : TextPut t p res ys) where
   call : TextCall (answer t) p res ys
-  unfolding written bufferHolds onward
+  unfolding written buffer_holds onward
   call = record { says = put.says; holds = put.holds }
 
   pub put_written : (n : ℕ) → res ≡ Written n → (n ≡ length t) × (ys ≡ t ++ drop (length t) p)
@@ -36,18 +36,18 @@ module _ {t p ys : List ℕ} {res : TextAnswer} (put : TextPut t p res ys) where
   put-fits k e h = given-fits call k e h
 
 -- ---- the text of a UTC date that was written
-module _ (rows : List Row) (jd : JulianDate) {p ys : List ℕ} {res : TextByRule} (call : TextRuleCall (expandedByRule rows jd) p res ys) where
+module _ (rows : List Row) (jd : JulianDate) {p ys : List ℕ} {res : TextByRule} (call : TextRuleCall (expanded_by_rule rows jd) p res ys) where
   -- the call without the rule
-  plain : (t : TextAnswer) → textOutcome t ≡ forget (textByRuleOutcome res) → TextCall (isoTextExpanded rows jd) p t ys
+  plain : (t : TextAnswer) → text_outcome t ≡ forget (text_by_rule_outcome res) → TextCall (iso_text_expanded rows jd) p t ys
   plain t e = call-as _ _ _ _ _ (sym (expanded-forgets rows jd)) (rule-call-forgets _ _ _ _ _ e call)
 
   pub text-there : (n : ℕ) (rule : Rule) → res ≡ Ruled.Written n rule
-      → (t : List ℕ) × (isoTextExpanded rows jd ≡ answer t) × (n ≡ length t) × (ys ≡ t ++ drop (length t) p)
-  unfolding textOutcome textByRuleOutcome forget onward written
-  text-there n rule e = go (isoTextExpanded rows jd) refl (plain (Written n) (ap (λ (x : TextByRule). forget (textByRuleOutcome x)) (sym e)))
+      → (t : List ℕ) × (iso_text_expanded rows jd ≡ answer t) × (n ≡ length t) × (ys ≡ t ++ drop (length t) p)
+  unfolding text_outcome text_by_rule_outcome forget onward written
+  text-there n rule e = go (iso_text_expanded rows jd) refl (plain (Written n) (ap (λ (x : TextByRule). forget (text_by_rule_outcome x)) (sym e)))
     where
-      go : (o : Outcome (List ℕ)) → isoTextExpanded rows jd ≡ o → TextCall (isoTextExpanded rows jd) p (Written n) ys
-          → (t : List ℕ) × (isoTextExpanded rows jd ≡ answer t) × (n ≡ length t) × (ys ≡ t ++ drop (length t) p)
+      go : (o : Outcome (List ℕ)) → iso_text_expanded rows jd ≡ o → TextCall (iso_text_expanded rows jd) p (Written n) ys
+          → (t : List ℕ) × (iso_text_expanded rows jd ≡ answer t) × (n ≡ length t) × (ys ≡ t ++ drop (length t) p)
       go (answer t) q c =
           let w = given-written (subst (λ (o : Outcome (List ℕ)). TextCall o p (Written n) ys) q c) n refl in
           (t, q, w.0, w.1)

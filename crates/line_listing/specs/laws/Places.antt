@@ -5,9 +5,9 @@ use Rattle.std.specs.Prelude.{ℕ, zero, suc, ◌+◌, ◌-◌, ◌*◌, ◌<◌
 use Rattle.refusals.specs.Outcome.{answer}
 use Rattle.numerals.specs.little_endian.LittleEndian.{u32_at}
 use Rattle.julian.specs.declared.JulianDate.{JulianDate}
-use Rattle.line_up.specs.Runs.{timesIn}
+use Rattle.line_up.specs.Runs.{times_in}
 use Rattle.line_up.specs.LineUp.{LinedUp}
-use Rattle.line_up.specs.laws.Claims.{Each, OneLine, zerosIn}
+use Rattle.line_up.specs.laws.Claims.{Each, OneLine, zeros_in}
 
 -- so many places from i on, one after the other
 unfoldable pub up_from : ℕ → ℕ → List ℕ
@@ -21,16 +21,16 @@ only t (x ∷ xs) = cond (t x) (x ∷ only t xs) (only t xs)
 
 -- the runs, from a place up to a place: they end at a, b and n
 pub data Run (a b n : ℕ) : ℕ → ℕ → Type 0 where
-  run-1 : Run a b n 0 a
-  run-2 : Run a b n a b
-  run-3 : Run a b n b n
+  run_1 : Run a b n 0 a
+  run_2 : Run a b n a b
+  run_3 : Run a b n b n
 
-abbrev pub inRun : ℕ → ℕ → ℕ → Bool
-inRun from to x = leb from x && ltb x to
+abbrev pub in_run : ℕ → ℕ → ℕ → Bool
+in_run from to x = leb from x && ltb x to
 
 -- the number of an ordered stamp is 0; past the end no stamp is
-abbrev pub isOrdered : List ℕ → ℕ → Bool
-isOrdered ms x = eqb (get_or ms x 1) 0
+abbrev pub is_ordered : List ℕ → ℕ → Bool
+is_ordered ms x = eqb (get_or ms x 1) 0
 
 -- from p to q all places stand in the lines one directly behind the other
 pub record DirectlyBehind (lines : List ℕ) (p q : ℕ) : Type 0 where
@@ -48,9 +48,9 @@ pub record BeforeAll (ms lines : List ℕ) (q : ℕ) : Type 0 where
 -- the places of the lines of three runs that end at places a, b and the length; ms are the numbers, and `line` has the ordered places
 pub record EveryLine (ms : List ℕ) (a b : ℕ) (line lines : List ℕ) : Type 0 where
   pub many : length lines ≡ length ms
-  pub once : (p : ℕ) → timesIn p lines ≡ cond (ltb p (length ms)) 1 0
-  pub run : (from to : ℕ) → Run a b (length ms) from to → only (inRun from to) lines ≡ up_from from (to - from)
-  pub ordered : only (isOrdered ms) lines ≡ line
+  pub once : (p : ℕ) → times_in p lines ≡ cond (ltb p (length ms)) 1 0
+  pub run : (from to : ℕ) → Run a b (length ms) from to → only (in_run from to) lines ≡ up_from from (to - from)
+  pub ordered : only (is_ordered ms) lines ≡ line
   pub behind : (from to : ℕ) → Run a b (length ms) from to → (p q : ℕ) → from ≤ p → p < q → q < to → get_or ms p 0 ≡ 0
       → ((x : ℕ) → p < x → x ≤ q → get_or ms x 0 ≡ 0 → ⊥) → DirectlyBehind lines p q
   pub start : (from to : ℕ) → Run a b (length ms) from to → (q : ℕ) → from ≤ q → q < to → ((x : ℕ) → from ≤ x → x ≤ q → get_or ms x 0 ≡ 0 → ⊥)
@@ -62,7 +62,7 @@ pub record AllListed (date : ℕ → JulianDate) (ns : List ℕ) (first second :
   pub line : List ℕ
   pub lines : List ℕ
   pub answers : l.answer ≡ answer (length line)
-  pub counted : length line ≡ zerosIn l.numbers
+  pub counted : length line ≡ zeros_in l.numbers
   pub place_at : (i : ℕ) → i < length ns → u32_at l.out (4 * i) ≡ get_or lines i 0
   pub spare : drop (4 * length ns) l.out ≡ drop (4 * length ns) out
   pub right : OneLine date ns first (first + second) line l.numbers

@@ -8,7 +8,7 @@ use mathlib.Core.List.{List, [], ◌∷◌}
 use lib.Dec.{eqb, ltb}
 use lib.ListN.{length, get_or}
 use borrow.Author.Tests.{eqb-true, eqb-false, ltb-true, ltb-false, lt-ltb, le-ltb}
-use Rattle.line_up.specs.keep.Piles.{mostKept, zeros, Chosen, After, Rises, Upward, EachZero, OrderLaws, Contradicted}
+use Rattle.line_up.specs.keep.Piles.{most_kept, zeros, Chosen, After, Rises, Upward, EachZero, OrderLaws, Contradicted}
 use Rattle.line_up.specs.keep.Piles.Chosen.{end, pass, choose}
 use Rattle.line_up.proofs.keep.Theorems.{kept-chosen, kept-rises, kept-most}
 
@@ -32,10 +32,10 @@ put-longer p (x ∷ xs) = put-longer-by (ltb p x) p x xs (put p xs) (put-longer 
 
 -- ---- it is a choice
 
-chosen-up : {i : ℕ} {ns xs : List ℕ} → Chosen i ns xs → (j : ℕ) → j ≤ i → Upward j xs
-chosen-up end j h = tt
-chosen-up (pass c) j h = chosen-up c j (omega arith)
-chosen-up {i} (choose e c) j h = (h, chosen-up c (suc i) (omega arith))
+chosen_up : {i : ℕ} {ns xs : List ℕ} → Chosen i ns xs → (j : ℕ) → j ≤ i → Upward j xs
+chosen_up end j h = tt
+chosen_up (pass c) j h = chosen_up c j (omega arith)
+chosen_up {i} (choose e c) j h = (h, chosen_up c (suc i) (omega arith))
 
 put_first : (p : ℕ) (xs : List ℕ) → Upward (suc p) xs → put p xs ≡ p ∷ xs
 put_first p [] u = refl
@@ -47,7 +47,7 @@ put-pass-by true i n p ns xs e h z c f =
     let d : p ≡ i = eqb-true p i e in
     let k : p - i ≡ 0 = omega arith in
     let m : n ≡ 0 = sym (ap (λ (q : ℕ). get_or (n ∷ ns) q 1) k) ∙ z in
-    let u : put i xs ≡ i ∷ xs = put_first i xs (chosen-up c (suc i) (omega arith)) in
+    let u : put i xs ≡ i ∷ xs = put_first i xs (chosen_up c (suc i) (omega arith)) in
     subst (λ (q : ℕ). Chosen i (n ∷ ns) (put q xs)) (sym d) (rw u (choose m c))
 put-pass-by false i n p ns xs e h z c f =
     let d : p ≡ i → ⊥ = eqb-false p i e in
@@ -77,17 +77,17 @@ module _ (lt : ℕ → ℕ → Bool) (p : ℕ) where
   behind false q x xs e d h a (inl t) = inl (inr t)
   behind false q x xs e d h a (inr t) = inr ((t.1 e a, t.0), λ f g. g)
 
-  either-by : (c : Bool) (q x : ℕ) (xs : List ℕ) → ltb p x ≡ c → (p ≡ x → ⊥) → After lt x xs → Rises lt xs → Contradicted lt p xs
+  either_by : (c : Bool) (q x : ℕ) (xs : List ℕ) → ltb p x ≡ c → (p ≡ x → ⊥) → After lt x xs → Rises lt xs → Contradicted lt p xs
       ⊎ (Rises lt (put p xs) × (lt p x ≡ false → After lt x xs → After lt x (put p xs)))
       → Contradicted lt p (x ∷ xs) ⊎ (Rises lt (cond c (p ∷ x ∷ xs) (x ∷ put p xs))
       × (lt p q ≡ false → lt x q ≡ false → After lt q (cond c (p ∷ x ∷ xs) (x ∷ put p xs))))
-  either-by true q x xs e d a r t = later-by (lt x p) q x xs refl (ltb-true p x e) a r
-  either-by false q x xs e d a r t = behind (lt p x) q x xs refl d (ltb-false p x e) a t
+  either_by true q x xs e d a r t = later-by (lt x p) q x xs refl (ltb-true p x e) a r
+  either_by false q x xs e d a r t = behind (lt p x) q x xs refl d (ltb-false p x e) a t
 
   either : (q : ℕ) (xs : List ℕ) → None p xs → Rises lt xs → Contradicted lt p xs
       ⊎ (Rises lt (put p xs) × (lt p q ≡ false → After lt q xs → After lt q (put p xs)))
   either q [] o r = inr ((tt, tt), λ f g. f)
-  either q (x ∷ xs) o r = either-by (ltb p x) q x xs refl o.0 r.0 r.1 (either x xs o.1 r.1)
+  either q (x ∷ xs) o r = either_by (ltb p x) q x xs refl o.0 r.0 r.1 (either x xs o.1 r.1)
 
 -- ---- who is left out is none of those that are kept
 
@@ -117,21 +117,21 @@ none-left-out p i [] h z = tt
 none-left-out p i (m ∷ ms) h z = none-left-out-by (eqb p i) p i m ms refl h z (λ k y. none-left-out p (suc i) ms k y)
 
 module _ (ok : ℕ → Type 0) (lt : ℕ → ℕ → Bool) (order : OrderLaws ok lt) (i : ℕ) (ns : List ℕ) (oks : EachZero ok i ns) where
-  too_long : (p : ℕ) → i ≤ p → get_or ns (p - i) 1 ≡ 0 → None p (zeros i (mostKept lt i ns)) → Rises lt (put p (zeros i (mostKept lt i ns))) → ⊥
+  too_long : (p : ℕ) → i ≤ p → get_or ns (p - i) 1 ≡ 0 → None p (zeros i (most_kept lt i ns)) → Rises lt (put p (zeros i (most_kept lt i ns))) → ⊥
   too_long p h z o r =
-      let k = kept-most ok lt order i ns oks (put p (zeros i (mostKept lt i ns))) (put-chosen (kept-chosen lt i ns) p h z o) r in
-      omega (arith, k, put-longer p (zeros i (mostKept lt i ns)))
+      let k = kept-most ok lt order i ns oks (put p (zeros i (most_kept lt i ns))) (put-chosen (kept-chosen lt i ns) p h z o) r in
+      omega (arith, k, put-longer p (zeros i (most_kept lt i ns)))
 
-  decide : (p : ℕ) → i ≤ p → get_or ns (p - i) 1 ≡ 0 → None p (zeros i (mostKept lt i ns)) → Contradicted lt p (zeros i (mostKept lt i ns))
-      ⊎ (Rises lt (put p (zeros i (mostKept lt i ns)))
-      × (lt p p ≡ false → After lt p (zeros i (mostKept lt i ns)) → After lt p (put p (zeros i (mostKept lt i ns)))))
-      → Contradicted lt p (zeros i (mostKept lt i ns))
+  decide : (p : ℕ) → i ≤ p → get_or ns (p - i) 1 ≡ 0 → None p (zeros i (most_kept lt i ns)) → Contradicted lt p (zeros i (most_kept lt i ns))
+      ⊎ (Rises lt (put p (zeros i (most_kept lt i ns)))
+      × (lt p p ≡ false → After lt p (zeros i (most_kept lt i ns)) → After lt p (put p (zeros i (most_kept lt i ns)))))
+      → Contradicted lt p (zeros i (most_kept lt i ns))
   decide p h z o (inl c) = c
   decide p h z o (inr r) = absurd (too_long p h z o r.0)
 
   -- (5) a stamp that came in with number 0 and is left out is earlier than a kept one before it, or later than a kept one behind it
-  pub left-out-contradicted : (p : ℕ) → i ≤ p → get_or ns (p - i) 1 ≡ 0 → (get_or (mostKept lt i ns) (p - i) 0 ≡ 0 → ⊥)
-      → Contradicted lt p (zeros i (mostKept lt i ns))
+  pub left-out-contradicted : (p : ℕ) → i ≤ p → get_or ns (p - i) 1 ≡ 0 → (get_or (most_kept lt i ns) (p - i) 0 ≡ 0 → ⊥)
+      → Contradicted lt p (zeros i (most_kept lt i ns))
   left-out-contradicted p h z t =
-      let o = none-left-out p i (mostKept lt i ns) h t in
-      decide p h z o (either lt p p (zeros i (mostKept lt i ns)) o (kept-rises lt i ns))
+      let o = none-left-out p i (most_kept lt i ns) h t in
+      decide p h z o (either lt p p (zeros i (most_kept lt i ns)) o (kept-rises lt i ns))

@@ -7,7 +7,7 @@ use mathlib.Core.List.{List, [], ◌∷◌}
 use lib.Dec.{eqb}
 use lib.ListN.{length}
 use borrow.Author.Tests.{eqb-true, eq-eqb}
-use Rattle.line_up.specs.keep.Piles.{pilesBefore, laid, pilesAfter, allLaid, Chosen, After, Rises, All, EachZero, OrderLaws}
+use Rattle.line_up.specs.keep.Piles.{piles_before, laid, piles_after, all_laid, Chosen, After, Rises, All, EachZero, OrderLaws}
 use Rattle.line_up.specs.keep.Piles.Chosen.{end, pass, choose}
 
 pub clash : {A : Type 0} (b : Bool) → b ≡ true → b ≡ false → A
@@ -49,20 +49,20 @@ module _ (lt : ℕ → ℕ → Bool) where
   rank-within-by false i t p ts us h = omega arith
 
   -- the pile on which a stamp goes is one of the piles
-  pub rank-within : (i : ℕ) (ts : List ℕ) → suc (pilesBefore lt i ts) ≤ length (laid lt i ts)
-  unfolding laid pilesBefore
+  pub rank-within : (i : ℕ) (ts : List ℕ) → suc (piles_before lt i ts) ≤ length (laid lt i ts)
+  unfolding laid piles_before
   rank-within i [] = omega arith
-  rank-within i (t ∷ ts) = rank-within-by (lt i t) i t (pilesBefore lt i ts) ts (laid lt i ts) (rank-within i ts)
+  rank-within i (t ∷ ts) = rank-within-by (lt i t) i t (piles_before lt i ts) ts (laid lt i ts) (rank-within i ts)
 
   within_by : (c : Bool) (t q p : ℕ) → c ≡ false → q ≤ p → suc q ≤ cond c 0 (suc p)
   within_by true t q p e h = clash true refl e
   within_by false t q p e h = omega arith
 
-  past-before : (i q : ℕ) (ts : List ℕ) → Past lt i q ts → q ≤ pilesBefore lt i ts
-  unfolding pilesBefore
+  past-before : (i q : ℕ) (ts : List ℕ) → Past lt i q ts → q ≤ piles_before lt i ts
+  unfolding piles_before
   past-before i zero ts p = omega arith
   past-before i (suc q) [] p = absurd p
-  past-before i (suc q) (t ∷ ts) p = within_by (lt i t) t q (pilesBefore lt i ts) p.0 (past-before i q ts p.1)
+  past-before i (suc q) (t ∷ ts) p = within_by (lt i t) t q (piles_before lt i ts) p.0 (past-before i q ts p.1)
 
   past-length : (i q : ℕ) (ts : List ℕ) → Past lt i q ts → q ≤ length ts
   past-length i zero ts p = omega arith
@@ -70,13 +70,13 @@ module _ (lt : ℕ → ℕ → Bool) where
   past-length i (suc q) (t ∷ ts) p = let h = past-length i q ts p.1 in omega arith
 
 module _ (ok : ℕ → Type 0) (lt : ℕ → ℕ → Bool) (order : OrderLaws ok lt) where
-  pub not-before : (c : Bool) (x i t : ℕ) → ok x → ok i → ok t → lt i t ≡ true → lt x t ≡ false → lt x i ≡ c → c ≡ false
-  not-before true x i t ox oi ot a b e = clash (lt x t) (order.less x i t ox oi ot e a) b
-  not-before false x i t ox oi ot a b e = refl
+  pub not_before : (c : Bool) (x i t : ℕ) → ok x → ok i → ok t → lt i t ≡ true → lt x t ≡ false → lt x i ≡ c → c ≡ false
+  not_before true x i t ox oi ot a b e = clash (lt x t) (order.less x i t ox oi ot e a) b
+  not_before false x i t ox oi ot a b e = refl
 
   past-laid-by : (c : Bool) (i x q t : ℕ) (ts us : List ℕ) → lt i t ≡ c → ok i → ok x → ok t → lt x t ≡ false → Past lt x q ts → Past lt x q us
       → Past lt x (suc q) (cond c (i ∷ ts) (t ∷ us))
-  past-laid-by true i x q t ts us e oi ox ot h p r = (not-before (lt x i) x i t ox oi ot e h refl, p)
+  past-laid-by true i x q t ts us e oi ox ot h p r = (not_before (lt x i) x i t ox oi ot e h refl, p)
   past-laid-by false i x q t ts us e oi ox ot h p r = (h, r)
 
   -- a stamp that is laid and not chosen takes nothing away from a later one
@@ -90,25 +90,25 @@ module _ (ok : ℕ → Type 0) (lt : ℕ → ℕ → Bool) (order : OrderLaws ok
   past-chosen-by : (c : Bool) (i y p t : ℕ) (ts us : List ℕ) → lt i t ≡ c → ok i → ok y → ok t → lt y i ≡ false → Past lt y (suc p) us
       → Past lt y (suc (cond c 0 (suc p))) (cond c (i ∷ ts) (t ∷ us))
   past-chosen-by true i y p t ts us e oi oy ot h r = (h, tt)
-  past-chosen-by false i y p t ts us e oi oy ot h r = (order.notLess t i y ot oi oy e h, r)
+  past-chosen-by false i y p t ts us e oi oy ot h r = (order.not_less t i y ot oi oy e h, r)
 
   -- one that is chosen leads the next one to a later pile
-  past-chosen : (i y : ℕ) (ts : List ℕ) → ok i → ok y → All ok ts → lt y i ≡ false → Past lt y (suc (pilesBefore lt i ts)) (laid lt i ts)
-  unfolding laid pilesBefore
+  past-chosen : (i y : ℕ) (ts : List ℕ) → ok i → ok y → All ok ts → lt y i ≡ false → Past lt y (suc (piles_before lt i ts)) (laid lt i ts)
+  unfolding laid piles_before
   past-chosen i y [] oi oy os h = (h, tt)
   past-chosen i y (t ∷ ts) oi oy os h =
-      past-chosen-by (lt i t) i y (pilesBefore lt i ts) t ts (laid lt i ts) refl oi oy os.0 h (past-chosen i y ts oi oy os.1 h)
+      past-chosen-by (lt i t) i y (piles_before lt i ts) t ts (laid lt i ts) refl oi oy os.0 h (past-chosen i y ts oi oy os.1 h)
 
-  pub chosen-ok : {i : ℕ} {ns xs : List ℕ} → Chosen i ns xs → EachZero ok i ns → All ok xs
-  chosen-ok end a = tt
-  chosen-ok (pass c) a = chosen-ok c a.1
-  chosen-ok (choose e c) a = (a.0 e, chosen-ok c a.1)
+  pub chosen_ok : {i : ℕ} {ns xs : List ℕ} → Chosen i ns xs → EachZero ok i ns → All ok xs
+  chosen_ok end a = tt
+  chosen_ok (pass c) a = chosen_ok c a.1
+  chosen_ok (choose e c) a = (a.0 e, chosen_ok c a.1)
 
   starts-passed : (i q : ℕ) (xs ts : List ℕ) → ok i → All ok xs → All ok ts → Starts lt q xs ts → Starts lt q xs (laid lt i ts)
   starts-passed i q [] ts oi ox os s = omega (arith, laid-longer lt i ts)
   starts-passed i q (x ∷ xs) ts oi ox os s = past-laid i x q ts oi ox.0 os s
 
-  starts-chosen : (i : ℕ) (xs ts : List ℕ) → ok i → All ok xs → All ok ts → After lt i xs → Starts lt (suc (pilesBefore lt i ts)) xs (laid lt i ts)
+  starts-chosen : (i : ℕ) (xs ts : List ℕ) → ok i → All ok xs → All ok ts → After lt i xs → Starts lt (suc (piles_before lt i ts)) xs (laid lt i ts)
   starts-chosen i [] ts oi ox os a = rank-within lt i ts
   starts-chosen i (y ∷ ys) ts oi ox os a = past-chosen i y ts oi ox.0 os a
 
@@ -119,17 +119,17 @@ module _ (ok : ℕ → Type 0) (lt : ℕ → ℕ → Bool) (order : OrderLaws ok
 
   -- xs may follow the first q piles: with them it is no longer than the piles are many
   pub no_longer : {i : ℕ} {ns xs : List ℕ} → Chosen i ns xs → (ts : List ℕ) (q : ℕ) → EachZero ok i ns → All ok ts → Rises lt xs → Starts lt q xs ts
-      → q + length xs ≤ length (allLaid lt i ns ts)
-  unfolding allLaid
+      → q + length xs ≤ length (all_laid lt i ns ts)
+  unfolding all_laid
   no_longer end ts q al os r s = omega arith
   no_longer {i} {ns = n ∷ ns} {xs} (pass c) ts q al os r s =
-      let a = after-passed (eqb n 0) n i q xs ts refl al.0 (chosen-ok c al.1) os s in
-      no_longer c (pilesAfter lt n i ts) q al.1 a.0 r a.1
+      let a = after-passed (eqb n 0) n i q xs ts refl al.0 (chosen_ok c al.1) os s in
+      no_longer c (piles_after lt n i ts) q al.1 a.0 r a.1
   no_longer {i} {ns = n ∷ ns} {xs = x ∷ xs} (choose e c) ts q al os r s =
       let o = al.0 e in
       let z : eqb n 0 ≡ true = eq-eqb n 0 e in
-      let h : suc (pilesBefore lt i ts) + length xs ≤ length (allLaid lt (suc i) ns (laid lt i ts)) =
-      no_longer c (laid lt i ts) (suc (pilesBefore lt i ts)) al.1 (laid-ok ok lt i ts o os) r.1
-      (starts-chosen i xs ts o (chosen-ok c al.1) os r.0) in
-      let k : q ≤ pilesBefore lt i ts = past-before lt i q ts s in
+      let h : suc (piles_before lt i ts) + length xs ≤ length (all_laid lt (suc i) ns (laid lt i ts)) =
+      no_longer c (laid lt i ts) (suc (piles_before lt i ts)) al.1 (laid-ok ok lt i ts o os) r.1
+      (starts-chosen i xs ts o (chosen_ok c al.1) os r.0) in
+      let k : q ≤ piles_before lt i ts = past-before lt i q ts s in
       rw z (omega arith)

@@ -9,26 +9,26 @@ use lib.Seq.{slice}
 use borrow.Author.Tests.{ltb-true, ltb-false}
 use Rattle.rounding.specs.Value.{L}
 use Rattle.julian.specs.Worth.{Worth}
-use Rattle.line_up.specs.keep.Piles.{runKept, zeros, Rises, Upward, All, Contradicted}
+use Rattle.line_up.specs.keep.Piles.{run_kept, zeros, Rises, Upward, All, Contradicted}
 use Rattle.line_up.proofs.keep.OfRuns as R
-use Rattle.julian.specs.stamp_lists.Stamps.{stampOf}
-use Rattle.line_up.specs.keep.Stamps.{unorderedAt, soonerAt}
+use Rattle.julian.specs.stamp_lists.Stamps.{stamp_of}
+use Rattle.line_up.specs.keep.Stamps.{unordered_at, sooner_at}
 use Rattle.line_up.specs.keep.Asked.{NoneUnordered}
-use Rattle.line_up.proofs.keep.Dates.{FiniteAt, finite-at, lt-is, date-order}
+use Rattle.line_up.proofs.keep.Dates.{FiniteAt, finite-at, lt_is, date-order}
 
--- what `soonerAt` says of two stamps that are not unordered, whose exact sums are (P - N) / L and (Q - M) / L
-module _ (js ks : List ℕ) (x y P N Q M : ℕ) (a : unorderedAt js ks x ≡ false) (b : unorderedAt js ks y ≡ false) (v : Worth (stampOf js ks x) P N L)
-    (w : Worth (stampOf js ks y) Q M L) where
-  pub sooner-exactly : soonerAt js ks x y ≡ true → P + M < Q + N
-  sooner-exactly e = ltb-true (P + M) (Q + N) (sym (lt-is js ks x y P N Q M (finite-at js ks x a) (finite-at js ks y b) v w) ∙ e)
+-- what `sooner_at` says of two stamps that are not unordered, whose exact sums are (P - N) / L and (Q - M) / L
+module _ (js ks : List ℕ) (x y P N Q M : ℕ) (a : unordered_at js ks x ≡ false) (b : unordered_at js ks y ≡ false) (v : Worth (stamp_of js ks x) P N L)
+    (w : Worth (stamp_of js ks y) Q M L) where
+  pub sooner-exactly : sooner_at js ks x y ≡ true → P + M < Q + N
+  sooner-exactly e = ltb-true (P + M) (Q + N) (sym (lt_is js ks x y P N Q M (finite-at js ks x a) (finite-at js ks y b) v w) ∙ e)
 
-  pub not-sooner-exactly : soonerAt js ks x y ≡ false → Q + N ≤ P + M
-  not-sooner-exactly e = ltb-false (P + M) (Q + N) (sym (lt-is js ks x y P N Q M (finite-at js ks x a) (finite-at js ks y b) v w) ∙ e)
+  pub not_sooner_exactly : sooner_at js ks x y ≡ false → Q + N ≤ P + M
+  not_sooner_exactly e = ltb-false (P + M) (Q + N) (sym (lt_is js ks x y P N Q M (finite-at js ks x a) (finite-at js ks y b) v w) ∙ e)
 
 module _ (js ks ns : List ℕ) (from to : ℕ) (low : from ≤ to) (high : to ≤ length ns) (ordered : NoneUnordered js ks ns from to) where
   -- the numbers after the call, and the places that are kept
   abbrev pub after : List ℕ
-  after = runKept (soonerAt js ks) ns from to
+  after = run_kept (sooner_at js ks) ns from to
 
   abbrev pub kept : List ℕ
   kept = zeros from (slice from to after)
@@ -37,18 +37,18 @@ module _ (js ks ns : List ℕ) (from to : ℕ) (low : from ≤ to) (high : to �
   finite p h k e = finite-at js ks p (ordered p h k e)
 
   -- (1)
-  pub dates-rise : Rises (soonerAt js ks) kept
-  dates-rise = R.run-rises (soonerAt js ks) ns from to low high
+  pub dates_rise : Rises (sooner_at js ks) kept
+  dates_rise = R.run-rises (sooner_at js ks) ns from to low high
 
   -- (2)
-  pub dates-most : (xs : List ℕ) → Upward from xs → All (λ (x : ℕ). (x < to) × (get_or ns x 1 ≡ 0)) xs → Rises (soonerAt js ks) xs → length xs ≤ length kept
-  dates-most xs u a r = R.run-most (soonerAt js ks) ns from to low high (FiniteAt js ks) (date-order js ks) finite xs u a r
+  pub dates_most : (xs : List ℕ) → Upward from xs → All (λ (x : ℕ). (x < to) × (get_or ns x 1 ≡ 0)) xs → Rises (sooner_at js ks) xs → length xs ≤ length kept
+  dates_most xs u a r = R.run-most (sooner_at js ks) ns from to low high (FiniteAt js ks) (date-order js ks) finite xs u a r
 
   -- (3)
-  pub dates-all : Rises (soonerAt js ks) (zeros from (slice from to ns)) → after ≡ ns
-  dates-all r = R.run-all (soonerAt js ks) ns from to low high (FiniteAt js ks) (date-order js ks) finite r
+  pub dates_all : Rises (sooner_at js ks) (zeros from (slice from to ns)) → after ≡ ns
+  dates_all r = R.run-all (sooner_at js ks) ns from to low high (FiniteAt js ks) (date-order js ks) finite r
 
   -- (5)
-  pub dates-contradicted : (p : ℕ) → from ≤ p → p < to → get_or ns p 1 ≡ 0 → (get_or (slice from to after) (p - from) 0 ≡ 0 → ⊥)
-      → Contradicted (soonerAt js ks) p kept
-  dates-contradicted p h k z t = R.run-contradicted (soonerAt js ks) ns from to low high (FiniteAt js ks) (date-order js ks) finite p h k z t
+  pub dates_contradicted : (p : ℕ) → from ≤ p → p < to → get_or ns p 1 ≡ 0 → (get_or (slice from to after) (p - from) 0 ≡ 0 → ⊥)
+      → Contradicted (sooner_at js ks) p kept
+  dates_contradicted p h k z t = R.run-contradicted (sooner_at js ks) ns from to low high (FiniteAt js ks) (date-order js ks) finite p h k z t

@@ -8,18 +8,18 @@ use mathlib.Core.List.{List, [], ◌∷◌, ◌++◌, append_assoc}
 use lib.Dec.{eqb}
 use lib.ListN.{length, get_or, take, drop, length-append}
 use lib.Seq.{slice, length-slice, take-nil, take_at, drop_at, drop-drop, get_or-drop}
-use Rattle.line_up.specs.keep.Piles.{mostKept, runKept, zeros, After, Rises, Upward}
+use Rattle.line_up.specs.keep.Piles.{most_kept, run_kept, zeros, After, Rises, Upward}
 use Rattle.line_up.proofs.keep.Theorems.{kept-length, kept-rises}
 
 -- ---- the places of the zeros go up
 
-up-less : (i j : ℕ) (xs : List ℕ) → i ≤ j → Upward j xs → Upward i xs
-up-less i j [] h u = tt
-up-less i j (x ∷ xs) h u = (omega (arith, u.0), u.1)
+up_less : (i j : ℕ) (xs : List ℕ) → i ≤ j → Upward j xs → Upward i xs
+up_less i j [] h u = tt
+up_less i j (x ∷ xs) h u = (omega (arith, u.0), u.1)
 
 zeros-up-by : (c : Bool) (i : ℕ) (xs : List ℕ) → Upward (suc i) xs → Upward i (cond c (i ∷ xs) xs)
 zeros-up-by true i xs u = (omega arith, u)
-zeros-up-by false i xs u = up-less i (suc i) xs (omega arith) u
+zeros-up-by false i xs u = up_less i (suc i) xs (omega arith) u
 
 pub zeros-up : (i : ℕ) (ms : List ℕ) → Upward i (zeros i ms)
 unfolding zeros
@@ -48,22 +48,22 @@ rises-followed : (lt : ℕ → ℕ → Bool) (i : ℕ) (xs : List ℕ) → Rises
 rises-followed lt i [] r u = tt
 rises-followed lt i (x ∷ xs) r u = (first-follows lt x xs r.0 u.1, rises-followed lt (suc x) xs r.1 u.1)
 
-pub kept-followed : (lt : ℕ → ℕ → Bool) (i : ℕ) (ns : List ℕ) → Followed lt (zeros i (mostKept lt i ns))
-kept-followed lt i ns = rises-followed lt i (zeros i (mostKept lt i ns)) (kept-rises lt i ns) (zeros-up i (mostKept lt i ns))
+pub kept-followed : (lt : ℕ → ℕ → Bool) (i : ℕ) (ns : List ℕ) → Followed lt (zeros i (most_kept lt i ns))
+kept-followed lt i ns = rises-followed lt i (zeros i (most_kept lt i ns)) (kept-rises lt i ns) (zeros-up i (most_kept lt i ns))
 
 -- ---- a run looks at its own numbers only
 
-slice-take : (f t : ℕ) (l : List ℕ) → slice f t l ≡ take (t - f) (drop f l)
-slice-take zero t l = let e : t ≡ t - 0 = omega arith in ap (λ (q : ℕ). take q l) e
-slice-take (suc f) zero l = let e : 0 ≡ 0 - suc f = omega arith in ap (λ (q : ℕ). take q (drop (suc f) l)) e
-slice-take (suc f) (suc t) [] = sym (take-nil (suc t - suc f))
-slice-take (suc f) (suc t) (x ∷ xs) = let e : t - f ≡ suc t - suc f = omega arith in slice-take f t xs ∙ ap (λ (q : ℕ). take q (drop f xs)) e
+slice_take : (f t : ℕ) (l : List ℕ) → slice f t l ≡ take (t - f) (drop f l)
+slice_take zero t l = let e : t ≡ t - 0 = omega arith in ap (λ (q : ℕ). take q l) e
+slice_take (suc f) zero l = let e : 0 ≡ 0 - suc f = omega arith in ap (λ (q : ℕ). take q (drop (suc f) l)) e
+slice_take (suc f) (suc t) [] = sym (take-nil (suc t - suc f))
+slice_take (suc f) (suc t) (x ∷ xs) = let e : t - f ≡ suc t - suc f = omega arith in slice_take f t xs ∙ ap (λ (q : ℕ). take q (drop f xs)) e
 
 -- P are the numbers of the runs before, and N is what is left of ns behind them
 module _ (lt : ℕ → ℕ → Bool) (ns P : List ℕ) (from to : ℕ) (ft : from ≤ to) (tn : to ≤ length ns) (len : length P ≡ from) (N : List ℕ)
     (e : N ≡ P ++ drop from ns) where
-  drop-same : (j : ℕ) → from ≤ j → drop j N ≡ drop j ns
-  drop-same j h =
+  drop_same : (j : ℕ) → from ≤ j → drop j N ≡ drop j ns
+  drop_same j h =
       let k : j ≡ from + (j - from) = omega arith in
       let d : drop from N ≡ drop from ns = ap (drop from) e ∙ drop_at P (drop from ns) from len in
       ap (λ (q : ℕ). drop q N) k ∙ sym (drop-drop (j - from) from N) ∙ ap (drop (j - from)) d ∙ drop-drop (j - from) from ns ∙ ap (λ (q : ℕ). drop q ns) (sym k)
@@ -72,16 +72,16 @@ module _ (lt : ℕ → ℕ → Bool) (ns P : List ℕ) (from to : ℕ) (ft : fro
   pub run-number : (p d : ℕ) → from ≤ p → get_or N p d ≡ get_or ns p d
   run-number p d h =
       let z : p + 0 ≡ p = omega arith in
-      ap (λ (q : ℕ). get_or N q d) (sym z) ∙ sym (get_or-drop p N 0 d) ∙ ap (λ (l : List ℕ). get_or l 0 d) (drop-same p h) ∙ get_or-drop p ns 0 d
+      ap (λ (q : ℕ). get_or N q d) (sym z) ∙ sym (get_or-drop p N 0 d) ∙ ap (λ (l : List ℕ). get_or l 0 d) (drop_same p h) ∙ get_or-drop p ns 0 d
       ∙ ap (λ (q : ℕ). get_or ns q d) z
 
-  slice-same : slice from to N ≡ slice from to ns
-  slice-same = slice-take from to N ∙ ap (take (to - from)) (drop-same from (omega arith)) ∙ sym (slice-take from to ns)
+  slice_same : slice from to N ≡ slice from to ns
+  slice_same = slice_take from to N ∙ ap (take (to - from)) (drop_same from (omega arith)) ∙ sym (slice_take from to ns)
 
-  pub run_long : length (P ++ mostKept lt from (slice from to ns)) ≡ to
-  run_long = length-append P (mostKept lt from (slice from to ns)) ∙ omega (arith, len, kept-length lt from (slice from to ns), length-slice from to ns tn)
+  pub run_long : length (P ++ most_kept lt from (slice from to ns)) ≡ to
+  run_long = length-append P (most_kept lt from (slice from to ns)) ∙ omega (arith, len, kept-length lt from (slice from to ns), length-slice from to ns tn)
 
-  pub run_is : runKept lt N from to ≡ (P ++ mostKept lt from (slice from to ns)) ++ drop to ns
+  pub run_is : run_kept lt N from to ≡ (P ++ most_kept lt from (slice from to ns)) ++ drop to ns
   run_is =
       let t : take from N ≡ P = ap (take from) e ∙ take_at P (drop from ns) from len in
-      rw (t, slice-same, drop-same to ft) (sym (append_assoc P (mostKept lt from (slice from to ns)) (drop to ns)))
+      rw (t, slice_same, drop_same to ft) (sym (append_assoc P (most_kept lt from (slice from to ns)) (drop to ns)))

@@ -8,37 +8,37 @@ use lib.Dec.{ltb}
 use lib.ListN.{get_or, take}
 use lib.Seq.{length-take-le, get_or-take}
 use borrow.Author.Tests.{ltb-true, ltb-false}
-use Rattle.line_up.specs.keep.Piles.{pilesBefore}
+use Rattle.line_up.specs.keep.Piles.{piles_before}
 use Rattle.line_up.specs.keep.Asked.{Searchable}
 use Rattle.line_up.proofs.keep.Longest.{clash}
 use Rattle.line_up.proofs.keep.Rising.{before-low, before-late}
 
 -- the pile is not before `low` and not behind `high`
 pub record Searching (lt : ℕ → ℕ → Bool) (tails : List ℕ) (many i low high : ℕ) : Type 0 where
-  pub above : low ≤ pilesBefore lt i (take many tails)
-  pub below : pilesBefore lt i (take many tails) ≤ high
+  pub above : low ≤ piles_before lt i (take many tails)
+  pub below : piles_before lt i (take many tails) ≤ high
   pub within : high ≤ many
 
 module _ (lt : ℕ → ℕ → Bool) (tails : List ℕ) (many i : ℕ) (s : Searchable lt tails many i) where
-  pub before-many : pilesBefore lt i (take many tails) ≤ many
+  pub before-many : piles_before lt i (take many tails) ≤ many
   before-many = omega (arith, before-low lt i (take many tails), length-take-le many tails s.room)
 
-  pub search-starts : Searching lt tails many i 0 many
-  search-starts = record { above = omega arith; below = before-many; within = omega arith }
+  pub search_starts : Searching lt tails many i 0 many
+  search_starts = record { above = omega arith; below = before-many; within = omega arith }
 
-  later-behind : (c : Bool) (q : ℕ) → q < many → lt i (get_or tails q 0) ≡ true → ltb q (pilesBefore lt i (take many tails)) ≡ c
-      → pilesBefore lt i (take many tails) ≤ q
+  later-behind : (c : Bool) (q : ℕ) → q < many → lt i (get_or tails q 0) ≡ true → ltb q (piles_before lt i (take many tails)) ≡ c
+      → piles_before lt i (take many tails) ≤ q
   later-behind true q h e f =
       let k : get_or (take many tails) q 0 ≡ get_or tails q 0 = get_or-take many tails q 0 h in
-      let l : q < pilesBefore lt i (take many tails) = ltb-true q (pilesBefore lt i (take many tails)) f in
+      let l : q < piles_before lt i (take many tails) = ltb-true q (piles_before lt i (take many tails)) f in
       clash (lt i (get_or tails q 0)) e (ap (lt i) (sym k) ∙ before-late lt i (take many tails) q l)
-  later-behind false q h e f = ltb-false q (pilesBefore lt i (take many tails)) f
+  later-behind false q h e f = ltb-false q (piles_before lt i (take many tails)) f
 
   goes_by : (c : Bool) (low mid high : ℕ) → lt i (get_or tails mid 0) ≡ c → low ≤ mid → mid < high → Searching lt tails many i low high
       → Searching lt tails many i (cond c low (mid + 1)) (cond c mid high)
   goes_by true low mid high e h k g = record {
     above = g.above;
-    below = later-behind (ltb mid (pilesBefore lt i (take many tails))) mid (omega (arith, g.within)) e refl;
+    below = later-behind (ltb mid (piles_before lt i (take many tails))) mid (omega (arith, g.within)) e refl;
     within = omega (arith, g.within);
   }
   goes_by false low mid high e h k g = record {
@@ -47,20 +47,20 @@ module _ (lt : ℕ → ℕ → Bool) (tails : List ℕ) (many i : ℕ) (s : Sear
     within = g.within;
   }
 
-  pub search-goes : (c : Bool) (low mid high t low' high' : ℕ) → t ≡ get_or tails mid 0 → c ≡ lt i t → low ≤ mid → mid < high
+  pub search_goes : (c : Bool) (low mid high t low' high' : ℕ) → t ≡ get_or tails mid 0 → c ≡ lt i t → low ≤ mid → mid < high
       → Searching lt tails many i low high → low' ≡ cond c low (mid + 1) → high' ≡ cond c mid high → Searching lt tails many i low' high'
-  search-goes c low mid high t low' high' et e h k g el eh = rw (el, eh) (goes_by c low mid high (ap (lt i) (sym et) ∙ sym e) h k g)
+  search_goes c low mid high t low' high' et e h k g el eh = rw (el, eh) (goes_by c low mid high (ap (lt i) (sym et) ∙ sym e) h k g)
 
-  pub search-ends : (low high : ℕ) → Searching lt tails many i low high → high ≤ low → low ≡ pilesBefore lt i (take many tails)
-  search-ends low high g h = omega (arith, g.above, g.below)
+  pub search_ends : (low high : ℕ) → Searching lt tails many i low high → high ≤ low → low ≡ piles_before lt i (take many tails)
+  search_ends low high g h = omega (arith, g.above, g.below)
 
   pub halves-fall : (c : Bool) (low mid high low' high' : ℕ) → low ≤ mid → mid < high → low' ≡ cond c low (mid + 1) → high' ≡ cond c mid high
       → high' - low' < high - low
   halves-fall true low mid high low' high' h k el eh = omega arith
   halves-fall false low mid high low' high' h k el eh = omega arith
 
-  pub none_before : many ≡ 0 → 0 ≡ pilesBefore lt i (take many tails)
+  pub none_before : many ≡ 0 → 0 ≡ piles_before lt i (take many tails)
   none_before e = omega (arith, before-many)
 
-  pub last-before : (t : ℕ) → 0 < many → t ≡ get_or tails (many - 1) 0 → lt i t ≡ false → many ≡ pilesBefore lt i (take many tails)
+  pub last-before : (t : ℕ) → 0 < many → t ≡ get_or tails (many - 1) 0 → lt i t ≡ false → many ≡ piles_before lt i (take many tails)
   last-before t h e f = omega (arith, before-many, s.split (many - 1) (omega arith) (ap (lt i) (sym e) ∙ f))

@@ -8,7 +8,7 @@ use mathlib.Core.Logic.{◌⊎◌, inl, inr}
 use lib.Dec.{eqb}
 use lib.ListN.{length, get_or}
 use borrow.Author.Tests.{eqb-true, eqb-false}
-use Rattle.line_up.specs.keep.Piles.{pilesAfter, allLaid, ranks, wanted, allJudged, mostKept, zeros, Chosen, Rises, Upward, All, EachZero, OrderLaws}
+use Rattle.line_up.specs.keep.Piles.{piles_after, all_laid, ranks, wanted, all_judged, most_kept, zeros, Chosen, Rises, Upward, All, EachZero, OrderLaws}
 use Rattle.line_up.specs.keep.Piles.Chosen.{end, pass, choose}
 use Rattle.line_up.proofs.keep.Longest.{Starts, no_longer}
 use Rattle.line_up.proofs.keep.Rising.{all-joined}
@@ -18,10 +18,10 @@ use Rattle.line_up.proofs.keep.Rising.{all-joined}
 length-ranks : (lt : ℕ → ℕ → Bool) (i : ℕ) (ns ts : List ℕ) → length (ranks lt i ns ts) ≡ length ns
 unfolding ranks
 length-ranks lt i [] ts = refl
-length-ranks lt i (n ∷ ns) ts = ap suc (length-ranks lt (suc i) ns (pilesAfter lt n i ts))
+length-ranks lt i (n ∷ ns) ts = ap suc (length-ranks lt (suc i) ns (piles_after lt n i ts))
 
-length-judged : (ns rs : List ℕ) (many : ℕ) → length rs ≡ length ns → length (allJudged ns rs many) ≡ length ns
-unfolding allJudged
+length-judged : (ns rs : List ℕ) (many : ℕ) → length rs ≡ length ns → length (all_judged ns rs many) ≡ length ns
+unfolding all_judged
 length-judged [] [] many e = refl
 length-judged (n ∷ ns) [] many e = let w : ⊥ = omega arith in absurd w
 length-judged [] (r ∷ rs) many e = let w : ⊥ = omega arith in absurd w
@@ -32,29 +32,29 @@ pub record Judged (n m : ℕ) : Type 0 where
   pub refused : (n ≡ 0 → ⊥) → m ≡ n
   pub accepted : n ≡ 0 → (m ≡ 0) ⊎ (m ≡ 17)
 
-zero-or-17 : (c : Bool) → (◌≡◌ {A = ℕ} (cond c 0 17) 0) ⊎ (◌≡◌ {A = ℕ} (cond c 0 17) 17)
-zero-or-17 true = inl refl
-zero-or-17 false = inr refl
+zero_or_17 : (c : Bool) → (◌≡◌ {A = ℕ} (cond c 0 17) 0) ⊎ (◌≡◌ {A = ℕ} (cond c 0 17) 17)
+zero_or_17 true = inl refl
+zero_or_17 false = inr refl
 
 judged-by : (c : Bool) (n r w : ℕ) → eqb n 0 ≡ c → Judged n (cond c (cond (eqb r w) 0 17) n)
-judged-by true n r w e = record { refused = λ h. absurd (h (eqb-true n 0 e)); accepted = λ h. zero-or-17 (eqb r w) }
+judged-by true n r w e = record { refused = λ h. absurd (h (eqb-true n 0 e)); accepted = λ h. zero_or_17 (eqb r w) }
 judged-by false n r w e = record { refused = λ h. refl; accepted = λ h. absurd (eqb-false n 0 e h) }
 
-each-judged : (ns rs : List ℕ) (many p : ℕ) → length rs ≡ length ns → p < length ns → Judged (get_or ns p 0) (get_or (allJudged ns rs many) p 0)
-unfolding allJudged
+each-judged : (ns rs : List ℕ) (many p : ℕ) → length rs ≡ length ns → p < length ns → Judged (get_or ns p 0) (get_or (all_judged ns rs many) p 0)
+unfolding all_judged
 each-judged [] rs many p e h = let w : ⊥ = omega arith in absurd w
 each-judged (n ∷ ns) [] many p e h = let w : ⊥ = omega arith in absurd w
 each-judged (n ∷ ns) (r ∷ rs) many zero e h = judged-by (eqb n 0) n r (wanted rs many) refl
 each-judged (n ∷ ns) (r ∷ rs) many (suc p) e h = each-judged ns rs many p (omega arith) (omega arith)
 
 module _ (lt : ℕ → ℕ → Bool) (i : ℕ) (ns : List ℕ) where
-  pub kept-length : length (mostKept lt i ns) ≡ length ns
-  unfolding mostKept
-  kept-length = length-judged ns (ranks lt i ns []) (length (allLaid lt i ns [])) (length-ranks lt i ns [])
+  pub kept-length : length (most_kept lt i ns) ≡ length ns
+  unfolding most_kept
+  kept-length = length-judged ns (ranks lt i ns []) (length (all_laid lt i ns [])) (length-ranks lt i ns [])
 
-  pub kept-judged : (p : ℕ) → p < length ns → Judged (get_or ns p 0) (get_or (mostKept lt i ns) p 0)
-  unfolding mostKept
-  kept-judged p h = each-judged ns (ranks lt i ns []) (length (allLaid lt i ns [])) p (length-ranks lt i ns []) h
+  pub kept-judged : (p : ℕ) → p < length ns → Judged (get_or ns p 0) (get_or (most_kept lt i ns) p 0)
+  unfolding most_kept
+  kept-judged p h = each-judged ns (ranks lt i ns []) (length (all_laid lt i ns [])) p (length-ranks lt i ns []) h
 
 -- ---- what is kept is a choice of the stamps, and rises
 
@@ -63,13 +63,13 @@ chosen_by true true i n ns xs e c = choose (eqb-true n 0 e) c
 chosen_by true false i n ns xs e c = pass c
 chosen_by false d i n ns xs e c = rw e (pass c)
 
-judged-chosen : (i : ℕ) (ns rs : List ℕ) (many : ℕ) → length rs ≡ length ns → Chosen i ns (zeros i (allJudged ns rs many))
-unfolding allJudged zeros
+judged-chosen : (i : ℕ) (ns rs : List ℕ) (many : ℕ) → length rs ≡ length ns → Chosen i ns (zeros i (all_judged ns rs many))
+unfolding all_judged zeros
 judged-chosen i [] [] many e = end
 judged-chosen i (n ∷ ns) [] many e = let w : ⊥ = omega arith in absurd w
 judged-chosen i [] (r ∷ rs) many e = let w : ⊥ = omega arith in absurd w
 judged-chosen i (n ∷ ns) (r ∷ rs) many e =
-    chosen_by (eqb n 0) (eqb r (wanted rs many)) i n ns (zeros (suc i) (allJudged ns rs many)) refl (judged-chosen (suc i) ns rs many (omega arith))
+    chosen_by (eqb n 0) (eqb r (wanted rs many)) i n ns (zeros (suc i) (all_judged ns rs many)) refl (judged-chosen (suc i) ns rs many (omega arith))
 
 all-chosen-by : (c : Bool) (i n : ℕ) (ns xs : List ℕ) → eqb n 0 ≡ c → Chosen (suc i) ns xs → Chosen i (n ∷ ns) (cond c (i ∷ xs) xs)
 all-chosen-by true i n ns xs e c = choose (eqb-true n 0 e) c
@@ -82,20 +82,20 @@ all-chosen i [] = end
 all-chosen i (n ∷ ns) = all-chosen-by (eqb n 0) i n ns (zeros (suc i) ns) refl (all-chosen (suc i) ns)
 
 module _ (lt : ℕ → ℕ → Bool) (i : ℕ) (ns : List ℕ) where
-  pub kept-chosen : Chosen i ns (zeros i (mostKept lt i ns))
-  unfolding mostKept
-  kept-chosen = judged-chosen i ns (ranks lt i ns []) (length (allLaid lt i ns [])) (length-ranks lt i ns [])
+  pub kept-chosen : Chosen i ns (zeros i (most_kept lt i ns))
+  unfolding most_kept
+  kept-chosen = judged-chosen i ns (ranks lt i ns []) (length (all_laid lt i ns [])) (length-ranks lt i ns [])
 
   -- (1) what is kept rises
-  pub kept-rises : Rises lt (zeros i (mostKept lt i ns))
-  unfolding mostKept
-  kept-rises = (all-joined lt i ns [] (length (allLaid lt i ns [])) refl).rises
+  pub kept-rises : Rises lt (zeros i (most_kept lt i ns))
+  unfolding most_kept
+  kept-rises = (all-joined lt i ns [] (length (all_laid lt i ns [])) refl).rises
 
   -- one of each pile is kept
-  pub kept-many : length (zeros i (mostKept lt i ns)) ≡ length (allLaid lt i ns [])
-  unfolding mostKept
+  pub kept-many : length (zeros i (most_kept lt i ns)) ≡ length (all_laid lt i ns [])
+  unfolding most_kept
   kept-many =
-      let j = all-joined lt i ns [] (length (allLaid lt i ns [])) refl in
+      let j = all-joined lt i ns [] (length (all_laid lt i ns [])) refl in
       omega (arith, j.low, j.whole)
 
 -- ---- and no choice that rises is longer
@@ -134,19 +134,19 @@ places-chosen i (n ∷ ns) (x ∷ xs) u a = places-by (eqb x i) n i ns x xs refl
 
 -- who turns none away leaves the numbers
 
-fewer-by : (c d : Bool) (n i : ℕ) (xs ys : List ℕ) → eqb n 0 ≡ c → length xs ≤ length ys
+fewer_by : (c d : Bool) (n i : ℕ) (xs ys : List ℕ) → eqb n 0 ≡ c → length xs ≤ length ys
     → length (cond (eqb (cond c (cond d 0 17) n) 0) (i ∷ xs) xs) ≤ length (cond c (i ∷ ys) ys)
-fewer-by true true n i xs ys e h = omega arith
-fewer-by true false n i xs ys e h = omega arith
-fewer-by false d n i xs ys e h = rw e h
+fewer_by true true n i xs ys e h = omega arith
+fewer_by true false n i xs ys e h = omega arith
+fewer_by false d n i xs ys e h = rw e h
 
-fewer : (i : ℕ) (ns rs : List ℕ) (many : ℕ) → length (zeros i (allJudged ns rs many)) ≤ length (zeros i ns)
-unfolding zeros allJudged
+fewer : (i : ℕ) (ns rs : List ℕ) (many : ℕ) → length (zeros i (all_judged ns rs many)) ≤ length (zeros i ns)
+unfolding zeros all_judged
 fewer i [] [] many = omega arith
 fewer i [] (r ∷ rs) many = omega arith
 fewer i (n ∷ ns) [] many = omega arith
 fewer i (n ∷ ns) (r ∷ rs) many =
-    fewer-by (eqb n 0) (eqb r (wanted rs many)) n i (zeros (suc i) (allJudged ns rs many)) (zeros (suc i) ns) refl (fewer (suc i) ns rs many)
+    fewer_by (eqb n 0) (eqb r (wanted rs many)) n i (zeros (suc i) (all_judged ns rs many)) (zeros (suc i) ns) refl (fewer (suc i) ns rs many)
 
 same_by : (c d : Bool) (n i : ℕ) (xs ys ms ns : List ℕ) → eqb n 0 ≡ c → length xs ≤ length ys → (length ys ≤ length xs → ms ≡ ns)
     → length (cond c (i ∷ ys) ys) ≤ length (cond (eqb (cond c (cond d 0 17) n) 0) (i ∷ xs) xs) → cond c (cond d 0 17) n ∷ ms ≡ n ∷ ns
@@ -157,24 +157,24 @@ same_by true true n i xs ys ms ns e h f k =
 same_by true false n i xs ys ms ns e h f k = let w : ⊥ = omega arith in absurd w
 same_by false d n i xs ys ms ns e h f k = ap (λ (l : List ℕ). n ∷ l) (f (rw e at k))
 
-none-left-out : (i : ℕ) (ns rs : List ℕ) (many : ℕ) → length rs ≡ length ns → length (zeros i ns) ≤ length (zeros i (allJudged ns rs many))
-    → allJudged ns rs many ≡ ns
-unfolding zeros allJudged
+none-left-out : (i : ℕ) (ns rs : List ℕ) (many : ℕ) → length rs ≡ length ns → length (zeros i ns) ≤ length (zeros i (all_judged ns rs many))
+    → all_judged ns rs many ≡ ns
+unfolding zeros all_judged
 none-left-out i [] [] many e h = refl
 none-left-out i (n ∷ ns) [] many e h = let w : ⊥ = omega arith in absurd w
 none-left-out i [] (r ∷ rs) many e h = refl
 none-left-out i (n ∷ ns) (r ∷ rs) many e h =
-    same_by (eqb n 0) (eqb r (wanted rs many)) n i (zeros (suc i) (allJudged ns rs many)) (zeros (suc i) ns) (allJudged ns rs many) ns refl
+    same_by (eqb n 0) (eqb r (wanted rs many)) n i (zeros (suc i) (all_judged ns rs many)) (zeros (suc i) ns) (all_judged ns rs many) ns refl
     (fewer (suc i) ns rs many) (none-left-out (suc i) ns rs many (omega arith)) h
 
 module _ (ok : ℕ → Type 0) (lt : ℕ → ℕ → Bool) (order : OrderLaws ok lt) (i : ℕ) (ns : List ℕ) (oks : EachZero ok i ns) where
   -- (2) no choice of stamps with number 0 that rises is longer
-  pub kept-most : (xs : List ℕ) → Chosen i ns xs → Rises lt xs → length xs ≤ length (zeros i (mostKept lt i ns))
+  pub kept-most : (xs : List ℕ) → Chosen i ns xs → Rises lt xs → length xs ≤ length (zeros i (most_kept lt i ns))
   kept-most xs c r =
-      let h : 0 + length xs ≤ length (allLaid lt i ns []) = no_longer ok lt order c [] 0 oks tt r (starts_none lt xs) in
+      let h : 0 + length xs ≤ length (all_laid lt i ns []) = no_longer ok lt order c [] 0 oks tt r (starts_none lt xs) in
       omega (arith, kept-many lt i ns)
 
   -- (3) where all of them rise none is left out
-  pub kept-all : Rises lt (zeros i ns) → mostKept lt i ns ≡ ns
-  unfolding mostKept
-  kept-all r = none-left-out i ns (ranks lt i ns []) (length (allLaid lt i ns [])) (length-ranks lt i ns []) (kept-most (zeros i ns) (all-chosen i ns) r)
+  pub kept-all : Rises lt (zeros i ns) → most_kept lt i ns ≡ ns
+  unfolding most_kept
+  kept-all r = none-left-out i ns (ranks lt i ns []) (length (all_laid lt i ns [])) (length-ranks lt i ns []) (kept-most (zeros i ns) (all-chosen i ns) r)

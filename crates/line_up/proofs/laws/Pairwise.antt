@@ -6,7 +6,7 @@ use mathlib.Core.Bool.{Bool, true, false, cond}
 use mathlib.Core.List.{List, [], ◌∷◌}
 use lib.Dec.{eqb}
 use borrow.Author.Tests.{eq-eqb, ne_eqb, eqb-true, eqb-false}
-use Rattle.line_up.specs.Runs.{into, merge, once, timesIn, MayFollow, FirstMayFollow, Rising}
+use Rattle.line_up.specs.Runs.{into, merge, once, times_in, MayFollow, FirstMayFollow, Rising}
 use Rattle.line_up.specs.laws.Claims.{Each, Pairs}
 
 -- ---- each
@@ -36,13 +36,13 @@ module _ (lt : ℕ → ℕ → Bool) (Good : ℕ → Type 0) where
         let g = trans w x y gw gx e.0 f a in
         (g, reach w y ys gw e.0 e.1 g r.0 r.1)
 
-    head-reach : (x : ℕ) (xs : List ℕ) → Good x → Each Good xs → FirstMayFollow lt x xs → Rising lt xs → Each (MayFollow lt x) xs
-    head-reach x [] g e a r = tt
-    head-reach x (y ∷ ys) g e a r = (a, reach x y ys g e.0 e.1 a r.0 r.1)
+    head_reach : (x : ℕ) (xs : List ℕ) → Good x → Each Good xs → FirstMayFollow lt x xs → Rising lt xs → Each (MayFollow lt x) xs
+    head_reach x [] g e a r = tt
+    head_reach x (y ∷ ys) g e a r = (a, reach x y ys g e.0 e.1 a r.0 r.1)
 
     pub rising-pairs : (xs : List ℕ) → Each Good xs → Rising lt xs → Pairs (MayFollow lt) xs
     rising-pairs [] e r = tt
-    rising-pairs (x ∷ xs) e r = (head-reach x xs e.0 e.1 r.0 r.1, rising-pairs xs e.1 r.1)
+    rising-pairs (x ∷ xs) e r = (head_reach x xs e.0 e.1 r.0 r.1, rising-pairs xs e.1 r.1)
 
 -- ---- another relation on good places
 
@@ -50,66 +50,66 @@ pub each_map : (P Q R : ℕ → Type 0) → ((y : ℕ) → P y → Q y → R y) 
 each_map P Q R f [] e g = tt
 each_map P Q R f (x ∷ xs) e g = (f x e.0 g.0, each_map P Q R f xs e.1 g.1)
 
-pub pairs-map : (Good : ℕ → Type 0) (R S : ℕ → ℕ → Type 0) → ((x y : ℕ) → Good x → Good y → R x y → S x y) → (xs : List ℕ) → Each Good xs → Pairs R xs
+pub pairs_map : (Good : ℕ → Type 0) (R S : ℕ → ℕ → Type 0) → ((x y : ℕ) → Good x → Good y → R x y → S x y) → (xs : List ℕ) → Each Good xs → Pairs R xs
     → Pairs S xs
-pairs-map Good R S f [] e p = tt
-pairs-map Good R S f (x ∷ xs) e p = (each_map Good (R x) (S x) (λ y g r. f x y e.0 g r) xs e.1 p.0, pairs-map Good R S f xs e.1 p.1)
+pairs_map Good R S f [] e p = tt
+pairs_map Good R S f (x ∷ xs) e p = (each_map Good (R x) (S x) (λ y g r. f x y e.0 g r) xs e.1 p.0, pairs_map Good R S f xs e.1 p.1)
 
 -- ---- one list only
 
-member-by : (Q : ℕ → Type 0) (p x : ℕ) (t : Bool) (xs : List ℕ) → eqb p x ≡ t → Q x → (0 < timesIn p xs → Q p) → 0 < cond t 1 0 + timesIn p xs → Q p
-member-by Q p x true xs e q h k = subst Q (sym (eqb-true p x e)) q
-member-by Q p x false xs e q h k = h (omega arith)
+member_by : (Q : ℕ → Type 0) (p x : ℕ) (t : Bool) (xs : List ℕ) → eqb p x ≡ t → Q x → (0 < times_in p xs → Q p) → 0 < cond t 1 0 + times_in p xs → Q p
+member_by Q p x true xs e q h k = subst Q (sym (eqb-true p x e)) q
+member_by Q p x false xs e q h k = h (omega arith)
 
-pub member : (Q : ℕ → Type 0) (p : ℕ) (xs : List ℕ) → Each Q xs → 0 < timesIn p xs → Q p
-unfolding timesIn
+pub member : (Q : ℕ → Type 0) (p : ℕ) (xs : List ℕ) → Each Q xs → 0 < times_in p xs → Q p
+unfolding times_in
 member Q p [] e h = let z : ⊥ = omega arith in absurd z
-member Q p (x ∷ xs) e h = member-by Q p x (eqb p x) xs refl e.0 (member Q p xs e.1) h
+member Q p (x ∷ xs) e h = member_by Q p x (eqb p x) xs refl e.0 (member Q p xs e.1) h
 
-there-by : (p : ℕ) (x : ℕ) (xs : List ℕ) → 0 < timesIn p xs → 0 < timesIn p (x ∷ xs)
-unfolding timesIn
+there-by : (p : ℕ) (x : ℕ) (xs : List ℕ) → 0 < times_in p xs → 0 < times_in p (x ∷ xs)
+unfolding times_in
 there-by p x xs h = omega arith
 
-there : (x : ℕ) (xs : List ℕ) → 0 < timesIn x (x ∷ xs)
-unfolding timesIn
+there : (x : ℕ) (xs : List ℕ) → 0 < times_in x (x ∷ xs)
+unfolding times_in
 there x xs = rw (eq-eqb x x refl) (omega arith)
 
-pub each-of-timesIn : (Q : ℕ → Type 0) (xs : List ℕ) → ((p : ℕ) → 0 < timesIn p xs → Q p) → Each Q xs
-each-of-timesIn Q [] h = tt
-each-of-timesIn Q (x ∷ xs) h = (h x (there x xs), each-of-timesIn Q xs (λ p k. h p (there-by p x xs k)))
+pub each-of-times_in : (Q : ℕ → Type 0) (xs : List ℕ) → ((p : ℕ) → 0 < times_in p xs → Q p) → Each Q xs
+each-of-times_in Q [] h = tt
+each-of-times_in Q (x ∷ xs) h = (h x (there x xs), each-of-times_in Q xs (λ p k. h p (there-by p x xs k)))
 
 module _ (lt : ℕ → ℕ → Bool) where
   follows-asym : (x y : ℕ) → MayFollow lt x y → MayFollow lt y x → ⊥
   follows-asym x y f g = omega (arith, f.tied g.late, g.tied f.late)
 
-  one_more : (x : ℕ) (xs : List ℕ) → timesIn x (x ∷ xs) ≡ 1 + timesIn x xs
-  unfolding timesIn
+  one_more : (x : ℕ) (xs : List ℕ) → times_in x (x ∷ xs) ≡ 1 + times_in x xs
+  unfolding times_in
   one_more x xs = rw (eq-eqb x x refl)
 
-  not_there : (x y : ℕ) (ys : List ℕ) → (x ≡ y → ⊥) → timesIn x (y ∷ ys) ≡ timesIn x ys
-  unfolding timesIn
+  not_there : (x y : ℕ) (ys : List ℕ) → (x ≡ y → ⊥) → times_in x (y ∷ ys) ≡ times_in x ys
+  unfolding times_in
   not_there x y ys h = rw (ne_eqb x y h) (omega arith)
 
-  same-tail : (x y p : ℕ) (xs ys : List ℕ) → x ≡ y → timesIn p (x ∷ xs) ≡ timesIn p (y ∷ ys) → timesIn p xs ≡ timesIn p ys
-  unfolding timesIn
+  same-tail : (x y p : ℕ) (xs ys : List ℕ) → x ≡ y → times_in p (x ∷ xs) ≡ times_in p (y ∷ ys) → times_in p xs ≡ times_in p ys
+  unfolding times_in
   same-tail x y p xs ys e h =
       let k : once p x ≡ once p y = ap (once p) e in
       omega (arith, h, k)
 
   same_head : (t : Bool) (x y : ℕ) (xs ys : List ℕ) → eqb x y ≡ t → Pairs (MayFollow lt) (x ∷ xs) → Pairs (MayFollow lt) (y ∷ ys)
-      → ((p : ℕ) → timesIn p (x ∷ xs) ≡ timesIn p (y ∷ ys)) → x ≡ y
+      → ((p : ℕ) → times_in p (x ∷ xs) ≡ times_in p (y ∷ ys)) → x ≡ y
   same_head true x y xs ys e a b h = eqb-true x y e
   same_head false x y xs ys e a b h =
       let n : x ≡ y → ⊥ = eqb-false x y e in
-      let i : 0 < timesIn x ys = omega (arith, h x, one_more x xs, not_there x y ys n) in
-      let j : 0 < timesIn y xs = omega (arith, h y, one_more y ys, not_there y x xs (λ q. n (sym q))) in
+      let i : 0 < times_in x ys = omega (arith, h x, one_more x xs, not_there x y ys n) in
+      let j : 0 < times_in y xs = omega (arith, h y, one_more y ys, not_there y x xs (λ q. n (sym q))) in
       absurd (follows-asym x y (member (MayFollow lt x) y xs a.0 j) (member (MayFollow lt y) x ys b.0 i))
 
-  none : (q : ℕ) → timesIn q [] ≡ 0
-  unfolding timesIn
+  none : (q : ℕ) → times_in q [] ≡ 0
+  unfolding times_in
   none q = refl
 
-  pub one_list : (xs ys : List ℕ) → Pairs (MayFollow lt) xs → Pairs (MayFollow lt) ys → ((p : ℕ) → timesIn p xs ≡ timesIn p ys) → xs ≡ ys
+  pub one_list : (xs ys : List ℕ) → Pairs (MayFollow lt) xs → Pairs (MayFollow lt) ys → ((p : ℕ) → times_in p xs ≡ times_in p ys) → xs ≡ ys
   one_list [] [] a b h = refl
   one_list [] (y ∷ ys) a b h = let z : ⊥ = omega (arith, none y, h y, one_more y ys) in absurd z
   one_list (x ∷ xs) [] a b h = let z : ⊥ = omega (arith, none x, h x, one_more x xs) in absurd z

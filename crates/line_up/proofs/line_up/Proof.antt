@@ -33,7 +33,7 @@ add-rest c =
         arith,
         counts-fit a.jd1s.now a.jd2s.now a.numbers.now a.first a.second a.out.now (length a.tails.now)
             (length a.ranks.now) q.line-refusal.result en c.if1.false,
-        start.well-formed,
+        start.well_formed,
       );
     }
 

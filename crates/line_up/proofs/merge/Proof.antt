@@ -5,13 +5,13 @@ use lib.ListN.{length}
 use borrow.Author.Rules.{rules}
 use mathlib.Core.Path.{◌∙◌}
 use Rattle.numerals.proofs.little_endian.Puts.{put-32-is}
-use Rattle.line_up.specs.LineUp.{soonerAt}
-use Rattle.line_up.proofs.Merging.{Merging, merging-starts, few-yet, room-yet, merging-goes, merging-ends}
+use Rattle.line_up.specs.LineUp.{sooner_at}
+use Rattle.line_up.proofs.Merging.{Merging, merging_starts, few-yet, room-yet, merging_goes, merging_ends}
 use Rattle.line_up.proofs.merge.Statement.{statement}
 use Rattle.line_up.proofs.merge.Tie as tie
 
 abbrev invariant-loop : tie.invariant-loop
-invariant-loop jd1s jd2s numbers end1 end2 out₀ n x₀ y₀ z₀ p₀ k₀ out x y z p k = Merging (soonerAt jd1s jd2s) numbers end1 end2 out₀ out x y z p k
+invariant-loop jd1s jd2s numbers end1 end2 out₀ n x₀ y₀ z₀ p₀ k₀ out x y z p k = Merging (sooner_at jd1s jd2s) numbers end1 end2 out₀ out x y z p k
 
 abbrev decreases-loop : tie.decreases-loop
 decreases-loop jd1s jd2s numbers end1 end2 out₀ n x₀ y₀ z₀ p₀ k₀ out x y z p k = length numbers - k
@@ -36,7 +36,7 @@ loop-holds : tie.Need-loop-init invariant-loop decreases-loop
 loop-holds c =
     let s = c.before.before.before.before.before.before.before.before in
     let a = s.args in
-    merging-starts (soonerAt a.jd1s.now a.jd2s.now) a.numbers.now a.end1 a.end2 s.requires.low s.requires.high a.out.now
+    merging_starts (sooner_at a.jd1s.now a.jd2s.now) a.numbers.now a.end1 a.end2 s.requires.low s.requires.high a.out.now
     c.before.before.before.next-accepted.result c.before.before.next-accepted2.result c.before.next-accepted3.result
     c.pick-of-three.result c.before.before.before.next-accepted.ensures c.before.before.next-accepted2.ensures
     c.before.next-accepted3.ensures c.pick-of-three.ensures
@@ -57,7 +57,7 @@ add-k c =
     let l = i.before in
     let s = l.before.before.before.before.before.before.before.before.before in
     let a = s.args in
-    let f = few-yet (soonerAt a.jd1s.now a.jd2s.now) a.numbers.now a.end1 a.end2 s.requires.low s.requires.high a.out.now
+    let f = few-yet (sooner_at a.jd1s.now a.jd2s.now) a.numbers.now a.end1 a.end2 s.requires.low s.requires.high a.out.now
     l.loop.out l.loop.x l.loop.y l.loop.z l.loop.p l.loop.k l.loop.invariant s.requires.room i.loop-test.true in
     record { fits = omega (arith, s.requires.small, f) }
 
@@ -94,7 +94,7 @@ loop-less c =
     let l = i.before in
     let s = l.before.before.before.before.before.before.before.before.before in
     let a = s.args in
-    let f = few-yet (soonerAt a.jd1s.now a.jd2s.now) a.numbers.now a.end1 a.end2 s.requires.low s.requires.high a.out.now
+    let f = few-yet (sooner_at a.jd1s.now a.jd2s.now) a.numbers.now a.end1 a.end2 s.requires.low s.requires.high a.out.now
     l.loop.out l.loop.x l.loop.y l.loop.z l.loop.p l.loop.k l.loop.invariant s.requires.room i.loop-test.true in
     omega (arith, f)
 
@@ -105,9 +105,9 @@ loop-again c =
     let s = l.before.before.before.before.before.before.before.before.before in
     let a = s.args in
     let w = c.before.before.before.before.before.before in
-    let room = room-yet (soonerAt a.jd1s.now a.jd2s.now) a.numbers.now a.end1 a.end2 s.requires.low s.requires.high a.out.now
+    let room = room-yet (sooner_at a.jd1s.now a.jd2s.now) a.numbers.now a.end1 a.end2 s.requires.low s.requires.high a.out.now
     l.loop.out l.loop.x l.loop.y l.loop.z l.loop.p l.loop.k l.loop.invariant s.requires.room i.loop-test.true in
-    merging-goes (soonerAt a.jd1s.now a.jd2s.now) a.numbers.now a.end1 a.end2 s.requires.low s.requires.high a.out.now l.loop.out
+    merging_goes (sooner_at a.jd1s.now a.jd2s.now) a.numbers.now a.end1 a.end2 s.requires.low s.requires.high a.out.now l.loop.out
     l.loop.x l.loop.y l.loop.z l.loop.p l.loop.k l.loop.invariant s.requires.room i.loop-test.true w.put-nth-u32.new.0
     c.before.before.before.advance.result c.before.before.advance2.result c.before.advance3.result c.pick-of-three2.result
     (w.put-nth-u32.ensures ∙ put-32-is l.loop.out l.loop.k l.loop.p room) c.before.before.before.advance.ensures
@@ -122,7 +122,7 @@ returns c =
     let l = c.before in
     let s = l.before.before.before.before.before.before.before.before.before in
     let a = s.args in
-    merging-ends (soonerAt a.jd1s.now a.jd2s.now) a.numbers.now a.end1 a.end2 s.requires.low s.requires.high a.out.now l.loop.out
+    merging_ends (sooner_at a.jd1s.now a.jd2s.now) a.numbers.now a.end1 a.end2 s.requires.low s.requires.high a.out.now l.loop.out
     l.loop.x l.loop.y l.loop.z l.loop.p l.loop.k l.loop.invariant c.loop-test.false
 
 pub merge-spec : {M : Type 1} → statement M

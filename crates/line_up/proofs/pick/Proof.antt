@@ -1,6 +1,6 @@
 -- `line_up::pick` meets its contract. Assumes nothing.
 use mathlib.Core.Path.{sym, ◌∙◌}
-use Rattle.line_up.specs.LineUp.{soonerAt}
+use Rattle.line_up.specs.LineUp.{sooner_at}
 use Rattle.line_up.proofs.Cases.{pick-x, pick-y, pick-earlier, pick_other}
 use borrow.Author.Rules.{rules}
 use Rattle.line_up.proofs.pick.Statement.{statement}
@@ -10,26 +10,26 @@ returns : tie.Need-returns
 returns c =
     let s = c.before.before.before in
     let a = s.args in
-    pick-x (soonerAt a.jd1s.now a.jd2s.now) a.n a.x a.y c.if1.true
+    pick-x (sooner_at a.jd1s.now a.jd2s.now) a.n a.x a.y c.if1.true
 
 returns-2 : tie.Need-returns-2
 returns-2 c =
     let s = c.before.before.before.before in
     let a = s.args in
-    pick-y (soonerAt a.jd1s.now a.jd2s.now) a.n a.x a.y c.before.if1.false c.if2.true
+    pick-y (sooner_at a.jd1s.now a.jd2s.now) a.n a.x a.y c.before.if1.false c.if2.true
 
 returns-3 : tie.Need-returns-3
 returns-3 c =
     let s = c.before.before.before.before.before.before in
     let a = s.args in
-    pick-earlier (soonerAt a.jd1s.now a.jd2s.now) a.n a.x a.y c.before.before.before.if1.false c.before.before.if2.false
+    pick-earlier (sooner_at a.jd1s.now a.jd2s.now) a.n a.x a.y c.before.before.before.if1.false c.before.before.if2.false
     (sym c.before.sooner-at.ensures ∙ c.if3.true)
 
 returns-4 : tie.Need-returns-4
 returns-4 c =
     let s = c.before.before.before.before.before.before in
     let a = s.args in
-    pick_other (soonerAt a.jd1s.now a.jd2s.now) a.n a.x a.y c.before.before.before.if1.false c.before.before.if2.false
+    pick_other (sooner_at a.jd1s.now a.jd2s.now) a.n a.x a.y c.before.before.before.if1.false c.before.before.if2.false
     (sym c.before.sooner-at.ensures ∙ c.if3.false)
 
 pub pick_spec : {M : Type 1} → statement M

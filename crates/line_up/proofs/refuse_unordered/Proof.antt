@@ -2,13 +2,13 @@
 use Prim.Native.Nat.{◌-◌}
 use native.Mathlib.Omega.{arith}
 use borrow.Author.Rules.{rules}
-use Rattle.line_up.specs.LineUp.{unorderedAt}
-use Rattle.line_up.proofs.Testing.{Testing, testing-starts, testing-goes, testing-ends}
+use Rattle.line_up.specs.LineUp.{unordered_at}
+use Rattle.line_up.proofs.Testing.{Testing, testing_starts, testing_goes, testing_ends}
 use Rattle.line_up.proofs.refuse_unordered.Statement.{statement}
 use Rattle.line_up.proofs.refuse_unordered.Tie as tie
 
 abbrev invariant-loop : tie.invariant-loop
-invariant-loop jd1s jd2s numbers₀ n i₀ numbers i = Testing (unorderedAt jd1s jd2s) numbers₀ numbers i
+invariant-loop jd1s jd2s numbers₀ n i₀ numbers i = Testing (unordered_at jd1s jd2s) numbers₀ numbers i
 
 abbrev decreases-loop : tie.decreases-loop
 decreases-loop jd1s jd2s numbers₀ n i₀ numbers i = n - i
@@ -16,7 +16,7 @@ decreases-loop jd1s jd2s numbers₀ n i₀ numbers i = n - i
 loop-holds : tie.Need-loop-init invariant-loop decreases-loop
 loop-holds c =
     let a = c.before.before.before.args in
-    testing-starts (unorderedAt a.jd1s.now a.jd2s.now) a.numbers.now
+    testing_starts (unordered_at a.jd1s.now a.jd2s.now) a.numbers.now
 
 slice-read-tested : tie.Need-slice-read-tested invariant-loop decreases-loop
 slice-read-tested c =
@@ -44,7 +44,7 @@ loop-again c =
     let i = c.before.before in
     let l = i.before in
     let a = l.before.before.before.before.args in
-    testing-goes (unorderedAt a.jd1s.now a.jd2s.now) a.numbers.now l.loop.numbers l.loop.i c.tested.result l.loop.invariant
+    testing_goes (unordered_at a.jd1s.now a.jd2s.now) a.numbers.now l.loop.numbers l.loop.i c.tested.result l.loop.invariant
     i.loop-test.true c.tested.ensures
 
 same_length : tie.Need-same-length invariant-loop decreases-loop
@@ -55,7 +55,7 @@ returns : tie.Need-returns invariant-loop decreases-loop
 returns c =
     let l = c.before in
     let a = l.before.before.before.before.args in
-    testing-ends (unorderedAt a.jd1s.now a.jd2s.now) a.numbers.now l.loop.numbers l.loop.i l.loop.invariant c.loop-test.false
+    testing_ends (unordered_at a.jd1s.now a.jd2s.now) a.numbers.now l.loop.numbers l.loop.i l.loop.invariant c.loop-test.false
 
 pub refuse-unordered-spec : {M : Type 1} → statement M
 refuse-unordered-spec =

@@ -8,9 +8,9 @@ use Rattle.std.proofs.Math.Seq.{slice}
 -- ---- the piles, each by its last stamp
 
 -- how many piles stand before that on which the stamp at place i goes
-unfoldable pub pilesBefore : (ℕ → ℕ → Bool) → ℕ → List ℕ → ℕ
-pilesBefore lt i [] = 0
-pilesBefore lt i (t ∷ ts) = cond (lt i t) 0 (suc (pilesBefore lt i ts))
+unfoldable pub piles_before : (ℕ → ℕ → Bool) → ℕ → List ℕ → ℕ
+piles_before lt i [] = 0
+piles_before lt i (t ∷ ts) = cond (lt i t) 0 (suc (piles_before lt i ts))
 
 -- the piles after it went there
 unfoldable pub laid : (ℕ → ℕ → Bool) → ℕ → List ℕ → List ℕ
@@ -18,51 +18,51 @@ laid lt i [] = i ∷ []
 laid lt i (t ∷ ts) = cond (lt i t) (i ∷ ts) (t ∷ laid lt i ts)
 
 -- the piles after the stamp at place i, whose number is n: one that is refused goes on none
-abbrev pub pilesAfter : (ℕ → ℕ → Bool) → ℕ → ℕ → List ℕ → List ℕ
-pilesAfter lt n i ts = cond (eqb n 0) (laid lt i ts) ts
+abbrev pub piles_after : (ℕ → ℕ → Bool) → ℕ → ℕ → List ℕ → List ℕ
+piles_after lt n i ts = cond (eqb n 0) (laid lt i ts) ts
 
 -- which pile it goes on, counted from 1; 0 for none
 abbrev pub rank : (ℕ → ℕ → Bool) → ℕ → ℕ → List ℕ → ℕ
-rank lt n i ts = cond (eqb n 0) (suc (pilesBefore lt i ts)) 0
+rank lt n i ts = cond (eqb n 0) (suc (piles_before lt i ts)) 0
 
 -- the piles after all stamps from place i on
-unfoldable pub allLaid : (ℕ → ℕ → Bool) → ℕ → List ℕ → List ℕ → List ℕ
-allLaid lt i [] ts = ts
-allLaid lt i (n ∷ ns) ts = allLaid lt (suc i) ns (pilesAfter lt n i ts)
+unfoldable pub all_laid : (ℕ → ℕ → Bool) → ℕ → List ℕ → List ℕ → List ℕ
+all_laid lt i [] ts = ts
+all_laid lt i (n ∷ ns) ts = all_laid lt (suc i) ns (piles_after lt n i ts)
 
 -- which pile each goes on
 unfoldable pub ranks : (ℕ → ℕ → Bool) → ℕ → List ℕ → List ℕ → List ℕ
 ranks lt i [] ts = []
-ranks lt i (n ∷ ns) ts = rank lt n i ts ∷ ranks lt (suc i) ns (pilesAfter lt n i ts)
+ranks lt i (n ∷ ns) ts = rank lt n i ts ∷ ranks lt (suc i) ns (piles_after lt n i ts)
 
 -- ---- one of each pile, from the back
 
 -- the pile of which one is still to be kept, after a stamp of pile r
-abbrev pub wantedBefore : ℕ → ℕ → ℕ
-wantedBefore r w = cond (eqb r w) (r - 1) w
+abbrev pub wanted_before : ℕ → ℕ → ℕ
+wanted_before r w = cond (eqb r w) (r - 1) w
 
 -- the same before all stamps whose piles are rs, of `many` piles; 0 for none
 unfoldable pub wanted : List ℕ → ℕ → ℕ
 wanted [] many = many
-wanted (r ∷ rs) many = wantedBefore r (wanted rs many)
+wanted (r ∷ rs) many = wanted_before r (wanted rs many)
 
 -- the number of a stamp with number n of pile r: its own if it is refused already; 17 if it is not the one that is wanted
-abbrev pub numberByPile : ℕ → ℕ → ℕ → ℕ
-numberByPile n r w = cond (eqb n 0) (cond (eqb r w) 0 17) n
+abbrev pub number_by_pile : ℕ → ℕ → ℕ → ℕ
+number_by_pile n r w = cond (eqb n 0) (cond (eqb r w) 0 17) n
 
 -- the numbers of stamps with numbers ns whose piles are rs, of `many` piles
-unfoldable pub allJudged : List ℕ → List ℕ → ℕ → List ℕ
-allJudged ns [] many = []
-allJudged [] (r ∷ rs) many = []
-allJudged (n ∷ ns) (r ∷ rs) many = numberByPile n r (wanted rs many) ∷ allJudged ns rs many
+unfoldable pub all_judged : List ℕ → List ℕ → ℕ → List ℕ
+all_judged ns [] many = []
+all_judged [] (r ∷ rs) many = []
+all_judged (n ∷ ns) (r ∷ rs) many = number_by_pile n r (wanted rs many) ∷ all_judged ns rs many
 
 -- the numbers of a run that starts at place i
-unfoldable pub mostKept : (ℕ → ℕ → Bool) → ℕ → List ℕ → List ℕ
-mostKept lt i ns = allJudged ns (ranks lt i ns []) (length (allLaid lt i ns []))
+unfoldable pub most_kept : (ℕ → ℕ → Bool) → ℕ → List ℕ → List ℕ
+most_kept lt i ns = all_judged ns (ranks lt i ns []) (length (all_laid lt i ns []))
 
 -- all numbers, after the run from place `from` up to `to` was judged
-abbrev pub runKept : (ℕ → ℕ → Bool) → List ℕ → ℕ → ℕ → List ℕ
-runKept lt ns from to = take from ns ++ (mostKept lt from (slice from to ns) ++ drop to ns)
+abbrev pub run_kept : (ℕ → ℕ → Bool) → List ℕ → ℕ → ℕ → List ℕ
+run_kept lt ns from to = take from ns ++ (most_kept lt from (slice from to ns) ++ drop to ns)
 
 -- ---- what the theorems say
 
@@ -105,7 +105,7 @@ EachZero ok i (n ∷ ns) = (n ≡ 0 → ok i) × EachZero ok (suc i) ns
 -- the order of the stamps that are ok: 'earlier' is transitive, and so is 'not earlier'
 pub record OrderLaws (ok : ℕ → Type 0) (lt : ℕ → ℕ → Bool) : Type 0 where
   pub less : (x y z : ℕ) → ok x → ok y → ok z → lt x y ≡ true → lt y z ≡ true → lt x z ≡ true
-  pub notLess : (x y z : ℕ) → ok x → ok y → ok z → lt y x ≡ false → lt z y ≡ false → lt z x ≡ false
+  pub not_less : (x y z : ℕ) → ok x → ok y → ok z → lt y x ≡ false → lt z y ≡ false → lt z x ≡ false
 
 -- some of the places stands before p and is later, or stands behind p and is earlier
 abbrev pub Contradicted : (ℕ → ℕ → Bool) → ℕ → List ℕ → Type 0

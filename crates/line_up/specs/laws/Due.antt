@@ -21,10 +21,10 @@ pub record RoomEach (n out tails ranks : ℕ) : Type 0 where
 
 -- the number k of a call, 0 where it is answered: the cases shut each other out, so each number comes exactly there
 pub data LineDecision (size1 size2 n first second out tails ranks k : ℕ) : Type 0 where
-  broken-parts : (WholeParts size1 size2 → ⊥) → k ≡ 14 → LineDecision size1 size2 n first second out tails ranks k
-  other-sizes : WholeParts size1 size2 → (PartsEach size1 size2 n → ⊥) → k ≡ 12 → LineDecision size1 size2 n first second out tails ranks k
+  broken_parts : (WholeParts size1 size2 → ⊥) → k ≡ 14 → LineDecision size1 size2 n first second out tails ranks k
+  other_sizes : WholeParts size1 size2 → (PartsEach size1 size2 n → ⊥) → k ≡ 12 → LineDecision size1 size2 n first second out tails ranks k
   runs_past : PartsEach size1 size2 n → n < first + second → k ≡ 14 → LineDecision size1 size2 n first second out tails ranks k
-  past-four-bytes : PartsEach size1 size2 n → first + second ≤ n → 4294967295 < n → k ≡ 13 → LineDecision size1 size2 n first second out tails ranks k
+  past_four_bytes : PartsEach size1 size2 n → first + second ≤ n → 4294967295 < n → k ≡ 13 → LineDecision size1 size2 n first second out tails ranks k
   no_room : PartsEach size1 size2 n → first + second ≤ n → n ≤ 4294967295 → (RoomEach n out tails ranks → ⊥) → k ≡ 11
       → LineDecision size1 size2 n first second out tails ranks k
   lined : PartsEach size1 size2 n → first + second ≤ n → n ≤ 4294967295 → RoomEach n out tails ranks → k ≡ 0

@@ -115,6 +115,6 @@ pub placed-into : {d e d' t : List ℕ} {at r : ℕ} → d ≡ e → Placed d at
 placed-into {d} {e} {d'} {t} {at} {r} q p = subst (λ (l : List ℕ). Placed l at t r d') q p
 
 -- one digit, written by its index
-pub digit-put : (d : List ℕ) (at c x : ℕ) → at < length d → c ≡ x → Placed d at (x ∷ []) (at + 1) (set d at c)
+pub digit_put : (d : List ℕ) (at c x : ℕ) → at < length d → c ≡ x → Placed d at (x ∷ []) (at + 1) (set d at c)
 unfolding pasted
-digit-put d at c x h e = record { ends = refl; holds = rw (set_split d at c h, e, add-one) refl }
+digit_put d at c x h e = record { ends = refl; holds = rw (set_split d at c h, e, add-one) refl }

@@ -7,9 +7,9 @@ use mathlib.Core.Path.{◌≡◌, refl, sym, ap, ◌∙◌}
 use mathlib.Core.List.{List, [], ◌∷◌, ◌++◌, append_assoc}
 use lib.ListN.{length, take, drop, get_or, length-append}
 use lib.Seq.{take_at, take-take, drop-append-add, drop-drop}
-use Rattle.numerals.specs.little_endian.LittleEndian.{u32_at, u64At}
+use Rattle.numerals.specs.little_endian.LittleEndian.{u32_at, u64_at}
 use Rattle.numerals.specs.little_endian.Written.{all_bytes, Sized}
-use Rattle.numerals.proofs.little_endian.Parts.{four-in-part, eight-in-part}
+use Rattle.numerals.proofs.little_endian.Parts.{four-in-part, eight_in_part}
 
 -- a part of a part
 part_of : (k o n : ℕ) (l : List ℕ) → o + k ≤ n → take k (drop o (take n l)) ≡ take k (drop o l)
@@ -27,26 +27,26 @@ module _ {A : Type 0} (bytes : A → List ℕ) (size : ℕ) (sized : Sized bytes
       ∙ ap (λ (n : ℕ). size + n) (written-length xs) ∙ omega (arith, mul-suc size (length xs))
 
   -- what stands from size times i on begins with item i
-  item-first : (xs : List A) (rest : List ℕ) (i : ℕ) (d : A) → i < length xs
+  item_first : (xs : List A) (rest : List ℕ) (i : ℕ) (d : A) → i < length xs
       → take size (drop (size * i) (all_bytes bytes xs ++ rest)) ≡ bytes (get_or xs i d)
   unfolding all_bytes
-  item-first [] rest i d h = let w : ⊥ = omega arith in absurd w
-  item-first (x ∷ xs) rest zero d h =
+  item_first [] rest i d h = let w : ⊥ = omega arith in absurd w
+  item_first (x ∷ xs) rest zero d h =
       let z : size * zero ≡ 0 = omega arith in
       ap (λ (n : ℕ). take size (drop n ((bytes x ++ all_bytes bytes xs) ++ rest))) z
       ∙ ap (take size) (append_assoc (bytes x) (all_bytes bytes xs) rest)
       ∙ take_at (bytes x) (all_bytes bytes xs ++ rest) size (sized x)
-  item-first (x ∷ xs) rest (suc i) d h =
+  item_first (x ∷ xs) rest (suc i) d h =
       let e : size * suc i ≡ length (bytes x) + size * i = omega (arith, mul-suc size i, sized x) in
       ap (λ (n : ℕ). take size (drop n ((bytes x ++ all_bytes bytes xs) ++ rest))) e
       ∙ ap (λ (l : List ℕ). take size (drop (length (bytes x) + size * i) l)) (append_assoc (bytes x) (all_bytes bytes xs) rest)
       ∙ ap (take size) (drop-append-add (bytes x) (all_bytes bytes xs ++ rest) (size * i))
-      ∙ item-first xs rest i d (omega arith)
+      ∙ item_first xs rest i d (omega arith)
 
   -- THE PLACE OF AN ITEM
-  pub item-at : (front : List ℕ) (xs : List A) (rest : List ℕ) (i : ℕ) (d : A) → i < length xs
+  pub item_at : (front : List ℕ) (xs : List A) (rest : List ℕ) (i : ℕ) (d : A) → i < length xs
       → take size (drop (length front + size * i) (front ++ (all_bytes bytes xs ++ rest))) ≡ bytes (get_or xs i d)
-  item-at front xs rest i d h = ap (take size) (drop-append-add front (all_bytes bytes xs ++ rest) (size * i)) ∙ item-first xs rest i d h
+  item_at front xs rest i d h = ap (take size) (drop-append-add front (all_bytes bytes xs ++ rest) (size * i)) ∙ item_first xs rest i d h
 
   module _ (front : List ℕ) (xs : List A) (rest : List ℕ) (i : ℕ) (d : A) (h : i < length xs) where
     abbrev all : List ℕ
@@ -55,8 +55,8 @@ module _ {A : Type 0} (bytes : A → List ℕ) (size : ℕ) (sized : Sized bytes
     abbrev start : ℕ
     start = length front + size * i
 
-    item-fits : start + size ≤ length all
-    item-fits =
+    item_fits : start + size ≤ length all
+    item_fits =
         let l = length-append front (all_bytes bytes xs ++ rest) in
         let m = length-append (all_bytes bytes xs) rest in
         let n : size * suc i ≤ size * length xs = mul-le-mul_left size (omega arith) in
@@ -66,15 +66,15 @@ module _ {A : Type 0} (bytes : A → List ℕ) (size : ℕ) (sized : Sized bytes
     part_at : (k o : ℕ) → o + k ≤ size → take k (drop (start + o) all) ≡ take k (drop o (bytes (get_or xs i d)))
     part_at k o f =
         ap (take k) (sym (drop-drop o start all)) ∙ sym (part_of k o size (drop start all) f)
-        ∙ ap (λ (l : List ℕ). take k (drop o l)) (item-at front xs rest i d h)
+        ∙ ap (λ (l : List ℕ). take k (drop o l)) (item_at front xs rest i d h)
 
     -- A NUMBER OF AN ITEM, of eight bytes and of four
-    pub item-u64 : (o : ℕ) → o + 8 ≤ size → u64At all (start + o) ≡ u64At (bytes (get_or xs i d)) o
-    item-u64 o f =
-        sym (eight-in-part all (start + o) (omega (arith, item-fits))) ∙ ap (λ (l : List ℕ). u64At l 0) (part_at 8 o f)
-        ∙ eight-in-part (bytes (get_or xs i d)) o (omega (arith, sized (get_or xs i d)))
+    pub item_u64 : (o : ℕ) → o + 8 ≤ size → u64_at all (start + o) ≡ u64_at (bytes (get_or xs i d)) o
+    item_u64 o f =
+        sym (eight_in_part all (start + o) (omega (arith, item_fits))) ∙ ap (λ (l : List ℕ). u64_at l 0) (part_at 8 o f)
+        ∙ eight_in_part (bytes (get_or xs i d)) o (omega (arith, sized (get_or xs i d)))
 
-    pub item-u32 : (o : ℕ) → o + 4 ≤ size → u32_at all (start + o) ≡ u32_at (bytes (get_or xs i d)) o
-    item-u32 o f =
-        sym (four-in-part all (start + o) (omega (arith, item-fits))) ∙ ap (λ (l : List ℕ). u32_at l 0) (part_at 4 o f)
+    pub item_u32 : (o : ℕ) → o + 4 ≤ size → u32_at all (start + o) ≡ u32_at (bytes (get_or xs i d)) o
+    item_u32 o f =
+        sym (four-in-part all (start + o) (omega (arith, item_fits))) ∙ ap (λ (l : List ℕ). u32_at l 0) (part_at 4 o f)
         ∙ four-in-part (bytes (get_or xs i d)) o (omega (arith, sized (get_or xs i d)))

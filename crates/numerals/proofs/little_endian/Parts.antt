@@ -6,14 +6,14 @@ use mathlib.Core.List.{List}
 use lib.ListN.{length, take, drop, get_or, length-drop}
 use lib.Seq.{get_or-take, get_or-drop, length-take-le}
 use borrow.Author.Tests.{le-leb}
-use Rattle.numerals.specs.little_endian.LittleEndian.{fourAt, u32_at, u64At}
+use Rattle.numerals.specs.little_endian.LittleEndian.{four_at, u32_at, u64_at}
 
 module _ (s : List ℕ) (at m : ℕ) where
   byte : (i : ℕ) → i < m → get_or (take m (drop at s)) i 0 ≡ get_or s (at + i) 0
   byte i h = get_or-take m (drop at s) i 0 h ∙ get_or-drop at s i 0
 
-  pub four : (j : ℕ) → j + 3 < m → fourAt (take m (drop at s)) j ≡ fourAt s (at + j)
-  unfolding fourAt
+  pub four : (j : ℕ) → j + 3 < m → four_at (take m (drop at s)) j ≡ four_at s (at + j)
+  unfolding four_at
   four j h =
       let a1 : at + (j + 1) ≡ at + j + 1 = omega arith in
       let a2 : at + (j + 2) ≡ at + j + 2 = omega arith in
@@ -24,18 +24,18 @@ module _ (s : List ℕ) (at m : ℕ) where
       omega (arith, byte j (omega arith))
 
 module _ (s : List ℕ) (at : ℕ) where
-  at-0 : at + 0 ≡ at
-  at-0 = omega arith
+  at_0 : at + 0 ≡ at
+  at_0 = omega arith
 
-  pub eight-in-part : at + 8 ≤ length s → u64At (take 8 (drop at s)) 0 ≡ u64At s at
-  unfolding u64At
-  eight-in-part h =
+  pub eight_in_part : at + 8 ≤ length s → u64_at (take 8 (drop at s)) 0 ≡ u64_at s at
+  unfolding u64_at
+  eight_in_part h =
       let n : length (take 8 (drop at s)) ≡ 8 = length-take-le 8 (drop at s) (omega (arith, length-drop at s)) in
       rw (n, le-leb (at + 8) (length s) h)
-      (omega (arith, four s at 8 0 (omega arith) ∙ ap (fourAt s) at-0, four s at 8 4 (omega arith)))
+      (omega (arith, four s at 8 0 (omega arith) ∙ ap (four_at s) at_0, four s at 8 4 (omega arith)))
 
   pub four-in-part : at + 4 ≤ length s → u32_at (take 4 (drop at s)) 0 ≡ u32_at s at
   unfolding u32_at
   four-in-part h =
       let n : length (take 4 (drop at s)) ≡ 4 = length-take-le 4 (drop at s) (omega (arith, length-drop at s)) in
-      rw (n, le-leb (at + 4) (length s) h) (four s at 4 0 (omega arith) ∙ ap (fourAt s) at-0)
+      rw (n, le-leb (at + 4) (length s) h) (four s at 4 0 (omega arith) ∙ ap (four_at s) at_0)

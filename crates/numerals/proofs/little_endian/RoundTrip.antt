@@ -7,7 +7,7 @@ use lib.IntN.{ℤ, pos, negsuc}
 use mir.Syntax.{w32, w64}
 use mir.Val.{SFits}
 use borrow.Author.Tests.{lt-ltb, le-ltb}
-use Rattle.numerals.specs.little_endian.LittleEndian.{fourAt, u32_at, u64At, i32At, fourBytes, eightBytes, patternOf, signed_of, pattern32, signed32}
+use Rattle.numerals.specs.little_endian.LittleEndian.{four_at, u32_at, u64_at, i32_at, four_bytes, eight_bytes, pattern_of, signed_of, pattern32, signed32}
 
 -- a number by its last byte and the rest
 split : (a : ℕ) → a ≡ a % 256 + 256 * (a / 256)
@@ -25,8 +25,8 @@ last_byte n h = omega arith
 next_place : (n k m : ℕ) → k * 256 ≡ m → n / k ≡ n / k % 256 + 256 * (n / m)
 next_place n k m e = split (n / k) ∙ ap (λ (z : ℕ). n / k % 256 + 256 * z) (div-div-eq-div-mul n k 256 ∙ ap (λ (z : ℕ). n / z) e)
 
-pub read-written : (n : ℕ) → n < 18446744073709551616 → u64At (eightBytes n) 0 ≡ n
-unfolding u64At fourAt
+pub read-written : (n : ℕ) → n < 18446744073709551616 → u64_at (eight_bytes n) 0 ≡ n
+unfolding u64_at four_at
 read-written n h = sum8 n (n / 0x100) (n / 0x1_0000) (n / 0x100_0000) (n / 0x1_0000_0000) (n / 0x100_0000_0000) (n / 0x1_0000_0000_0000)
     (n / 0x100_0000_0000_0000)
     (n % 256) (n / 0x100 % 256) (n / 0x1_0000 % 256) (n / 0x100_0000 % 256) (n / 0x1_0000_0000 % 256) (n / 0x100_0000_0000 % 256)
@@ -42,13 +42,13 @@ sum4 n a1 a2 a3 r0 r1 r2 r3 e0 e1 e2 e3 = omega arith
 last-of-four : (n : ℕ) → n < 4294967296 → n / 0x100_0000 ≡ n / 0x100_0000 % 256
 last-of-four n h = omega arith
 
-pub read-written-4 : (n : ℕ) → n < 4294967296 → u32_at (fourBytes n) 0 ≡ n
-unfolding u32_at fourAt
+pub read-written-4 : (n : ℕ) → n < 4294967296 → u32_at (four_bytes n) 0 ≡ n
+unfolding u32_at four_at
 read-written-4 n h = sum4 n (n / 0x100) (n / 0x1_0000) (n / 0x100_0000) (n % 256) (n / 0x100 % 256) (n / 0x1_0000 % 256) (n / 0x100_0000 % 256)
     (split n) (next_place n 0x100 0x1_0000 refl) (next_place n 0x1_0000 0x100_0000 refl) (last-of-four n h)
 
-pub signed_back : (z : ℤ) → SFits w64 z → signed_of (patternOf z) ≡ z
-unfolding signed_of patternOf
+pub signed_back : (z : ℤ) → SFits w64 z → signed_of (pattern_of z) ≡ z
+unfolding signed_of pattern_of
 signed_back (pos n) f = simp (lt-ltb n 9223372036854775808 f.sfits)
 signed_back (negsuc k) f = simp (le-ltb (18446744073709551615 - k) 9223372036854775808 (above k f.sfits)) (ap negsuc (back k f.sfits))
   where
@@ -76,5 +76,5 @@ pattern32-small (pos n) f = omega (arith, f.sfits)
 pattern32-small (negsuc k) f = omega arith
 
 -- a signed number in four bytes
-pub read-signed-4 : (z : ℤ) → SFits w32 z → i32At (fourBytes (pattern32 z)) 0 ≡ z
+pub read-signed-4 : (z : ℤ) → SFits w32 z → i32_at (four_bytes (pattern32 z)) 0 ≡ z
 read-signed-4 z f = ap signed32 (read-written-4 (pattern32 z) (pattern32-small z f)) ∙ signed32-back z f

@@ -11,8 +11,8 @@ abbrev pub number : List ℕ → ℕ
 number cs = value 0 cs
 
 -- the byte is a digit's: 48 to 57
-unfoldable pub isDigit : ℕ → Bool
-isDigit c = leb 48 c && leb c 57
+unfoldable pub is_digit : ℕ → Bool
+is_digit c = leb 48 c && leb c 57
 
 -- each byte is a digit's
 unfoldable pub AllDigits : List ℕ → Type 0
@@ -29,10 +29,10 @@ abbrev pub last : ℕ → ℕ
 last n = 48 + n % 10
 
 -- n in decimal, with no zeros in front, in at most `most` digits: of a longer one the last ones
-unfoldable pub digitsIn : ℕ → ℕ → List ℕ
-digitsIn zero n = []
-digitsIn (suc most) n = cond (ltb n 10) (last n ∷ []) (digitsIn most (n / 10) ++ (last n ∷ []))
+unfoldable pub digits_in : ℕ → ℕ → List ℕ
+digits_in zero n = []
+digits_in (suc most) n = cond (ltb n 10) (last n ∷ []) (digits_in most (n / 10) ++ (last n ∷ []))
 
 -- n in decimal, with no zeros in front: a number n never has more than n + 1 digits
-unfoldable pub digitsOf : ℕ → List ℕ
-digitsOf n = digitsIn (suc n) n
+unfoldable pub digits_of : ℕ → List ℕ
+digits_of n = digits_in (suc n) n

@@ -1,8 +1,8 @@
 -- `dated` meets its contract. Assumes nothing.
-use Rattle.parsing.specs.Parsed.{parsedUtcOutcome, dated}
-use Rattle.utc.specs.FromCalendar.{utcFromCalendar}
-use Rattle.scales.specs.Scales.{utcOutcome}
-use Rattle.leap_table.specs.rows.Announced.{rowsIn}
+use Rattle.parsing.specs.Parsed.{parsed_utc_outcome, dated}
+use Rattle.utc.specs.FromCalendar.{utc_from_calendar}
+use Rattle.scales.specs.Scales.{utc_outcome}
+use Rattle.leap_table.specs.rows.Announced.{rows_in}
 use Rattle.refusals.specs.Outcome.{onward}
 use mir.Facts.{to_z-of_z}
 use mir.Val.{SFits}
@@ -13,22 +13,22 @@ use Rattle.parsing.proofs.dated.Statement.{statement}
 use Rattle.parsing.proofs.dated.Tie as tie
 
 returns : tie.Need-returns
-unfolding parsedUtcOutcome dated onward utcOutcome
+unfolding parsed_utc_outcome dated onward utc_outcome
 returns c =
     let a = c.before.before.before.before.before.args in
     let p = a.fields in
     let fit : SFits w32 p.year = record { sfits = c.before.before.before.before.struct_told.given.0.1 } in
-    rw (sym (λ i. utcFromCalendar (rowsIn a.size a.months.now a.seconds.now) (to_z-of_z {w = w32} {z = p.year} fit i) p.month p.day
-    p.hour p.minute p.second) ∙ sym c.before.before.before.utc-from-calendar-by-arrays.ensures ∙ ap utcOutcome c.before.number.given.1)
+    rw (sym (λ i. utc_from_calendar (rows_in a.size a.months.now a.seconds.now) (to_z-of_z {w = w32} {z = p.year} fit i) p.month p.day
+    p.hour p.minute p.second) ∙ sym c.before.before.before.utc-from-calendar-by-arrays.ensures ∙ ap utc_outcome c.before.number.given.1)
 
 returns-2 : tie.Need-returns-2
-unfolding parsedUtcOutcome dated onward utcOutcome
+unfolding parsed_utc_outcome dated onward utc_outcome
 returns-2 c =
     let a = c.before.before.before.before.before.args in
     let p = a.fields in
     let fit : SFits w32 p.year = record { sfits = c.before.before.before.before.struct_told.given.0.1 } in
-    rw (sym (λ i. utcFromCalendar (rowsIn a.size a.months.now a.seconds.now) (to_z-of_z {w = w32} {z = p.year} fit i) p.month p.day
-    p.hour p.minute p.second) ∙ sym c.before.before.before.utc-from-calendar-by-arrays.ensures ∙ ap utcOutcome c.before.date.given.1)
+    rw (sym (λ i. utc_from_calendar (rows_in a.size a.months.now a.seconds.now) (to_z-of_z {w = w32} {z = p.year} fit i) p.month p.day
+    p.hour p.minute p.second) ∙ sym c.before.before.before.utc-from-calendar-by-arrays.ensures ∙ ap utc_outcome c.before.date.given.1)
 
 pub dated-spec : {M : Type 1} → statement M
 dated-spec =

@@ -1,9 +1,9 @@
 -- `judged` meets its contract. Assumes nothing.
-use Rattle.parsing.proofs.Judgement.{too-many-digits, date-refused, time-refused, fields-given}
-use Rattle.parsing.specs.Parsed.{parsedOutcome}
-use Rattle.calendar.specs.Answers.{checkOutcome}
-use Rattle.calendar.specs.Refusals.{validDate}
-use borrow.Author.Tests.{not-true, not-false}
+use Rattle.parsing.proofs.Judgement.{too_many_digits, date_refused, time-refused, fields-given}
+use Rattle.parsing.specs.Parsed.{parsed_outcome}
+use Rattle.calendar.specs.Answers.{check_outcome}
+use Rattle.calendar.specs.Refusals.{valid_date}
+use borrow.Author.Tests.{not_true, not_false}
 use mir.Facts.{to_z_pos}
 use mir.Syntax.{w32}
 use native.Mathlib.Omega.{arith}
@@ -14,44 +14,44 @@ use Rattle.parsing.proofs.judged.Statement.{statement}
 use Rattle.parsing.proofs.judged.Tie as tie
 
 returns : tie.Need-returns
-unfolding parsedOutcome
-returns c = too-many-digits c.before.before.args.form c.if1.true
+unfolding parsed_outcome
+returns c = too_many_digits c.before.before.args.form c.if1.true
 
 returns-2 : tie.Need-returns-2
-unfolding parsedOutcome checkOutcome
+unfolding parsed_outcome check_outcome
 returns-2 c =
     let f = c.before.before.before.before.before.before.before.before.before.before.args.form in
     let hy : f.year < 2147483648 = omega arith in
     let hm : f.month < 2147483648 = omega arith in
     let hd : f.day < 2147483648 = omega arith in
     let read = sym (c.before.before.before.before.validate-calendar-date.ensures
-    ∙ (λ i. validDate (to_z_pos w32 {n = f.year} hy i) (to_z_pos w32 {n = f.month} hm i) (to_z_pos w32 {n = f.day} hd i))) in
+    ∙ (λ i. valid_date (to_z_pos w32 {n = f.year} hy i) (to_z_pos w32 {n = f.month} hm i) (to_z_pos w32 {n = f.day} hd i))) in
     time-refused f c.before.before.before.before.before.before.before.before.if1.false
-    (read ∙ ap checkOutcome c.before.before.enum_told.given.1) (sym c.before.time-in.ensures ∙ not-true _ c.if2.true)
+    (read ∙ ap check_outcome c.before.before.enum_told.given.1) (sym c.before.time-in.ensures ∙ not_true _ c.if2.true)
 
 returns-3 : tie.Need-returns-3
-unfolding parsedOutcome checkOutcome
+unfolding parsed_outcome check_outcome
 returns-3 c =
     let f = c.before.before.before.before.before.before.before.before.before.args.form in
     let hy : f.year < 2147483648 = omega arith in
     let hm : f.month < 2147483648 = omega arith in
     let hd : f.day < 2147483648 = omega arith in
     let read = sym (c.before.before.before.validate-calendar-date.ensures
-    ∙ (λ i. validDate (to_z_pos w32 {n = f.year} hy i) (to_z_pos w32 {n = f.month} hm i) (to_z_pos w32 {n = f.day} hd i))) in
-    date-refused f c.before.before.before.before.before.before.before.if1.false _ (read ∙ ap checkOutcome c.before.number.given.1)
+    ∙ (λ i. valid_date (to_z_pos w32 {n = f.year} hy i) (to_z_pos w32 {n = f.month} hm i) (to_z_pos w32 {n = f.day} hd i))) in
+    date_refused f c.before.before.before.before.before.before.before.if1.false _ (read ∙ ap check_outcome c.before.number.given.1)
 
 returns-4 : tie.Need-returns-4
-unfolding parsedOutcome checkOutcome
+unfolding parsed_outcome check_outcome
 returns-4 c =
     let f = c.before.before.before.before.before.before.before.before.before.before.before.before.args.form in
     let hy : f.year < 2147483648 = omega arith in
     let hm : f.month < 2147483648 = omega arith in
     let hd : f.day < 2147483648 = omega arith in
     let read = sym (c.before.before.before.before.before.before.validate-calendar-date.ensures
-    ∙ (λ i. validDate (to_z_pos w32 {n = f.year} hy i) (to_z_pos w32 {n = f.month} hm i) (to_z_pos w32 {n = f.day} hd i))) in
+    ∙ (λ i. valid_date (to_z_pos w32 {n = f.year} hy i) (to_z_pos w32 {n = f.month} hm i) (to_z_pos w32 {n = f.day} hd i))) in
     fields-given f c.before.before.before.before.before.before.before.before.before.before.if1.false _
-    (read ∙ ap checkOutcome c.before.before.before.before.enum_told.given.1)
-    (sym c.before.before.before.time-in.ensures ∙ not-false _ c.before.before.if2.false)
+    (read ∙ ap check_outcome c.before.before.before.before.enum_told.given.1)
+    (sym c.before.before.before.time-in.ensures ∙ not_false _ c.before.before.if2.false)
     (λ i. record {
       year = to_z_pos w32 {n = f.year} hy i;
       month = f.month;

@@ -1,9 +1,9 @@
 -- `parse` meets its contract. Assumes nothing.
 use Rattle.parsing.proofs.Judgement.{parsed-is}
 use Rattle.parsing.proofs.scan.Bytes.{within-small}
-use Rattle.parsing.specs.scan.Scan.{scannedOutcome}
-use Rattle.parsing.specs.Judging.{judgedForm}
-use Rattle.parsing.specs.Parsed.{parsedOutcome}
+use Rattle.parsing.specs.scan.Scan.{scanned_outcome}
+use Rattle.parsing.specs.Judging.{judged_form}
+use Rattle.parsing.specs.Parsed.{parsed_outcome}
 use Rattle.parsing.specs.declared.scan.Form.{Form}
 use Rattle.refusals.specs.Outcome.{Outcome, onward}
 use mathlib.Core.Path.{sym, ap, ◌∙◌}
@@ -12,21 +12,21 @@ use Rattle.parsing.proofs.parse.Statement.{statement}
 use Rattle.parsing.proofs.parse.Tie as tie
 
 judged-requires : tie.Need-judged-requires
-unfolding scannedOutcome
+unfolding scanned_outcome
 judged-requires c κs = within-small c.before.before.before.before.before.args.utc c.before.before.before.before.before.args.text.now _
-    (sym c.before.before.before.scan.ensures ∙ ap scannedOutcome c.before.form.given.1)
+    (sym c.before.before.before.scan.ensures ∙ ap scanned_outcome c.before.form.given.1)
 
 returns : tie.Need-returns
-unfolding parsedOutcome scannedOutcome onward
+unfolding parsed_outcome scanned_outcome onward
 returns c = sym (parsed-is c.before.before.before.before.args.utc c.before.before.before.before.args.text.now
-    ∙ ap (λ (o : Outcome Form). onward o judgedForm) (sym c.before.before.scan.ensures ∙ ap scannedOutcome c.enum_told.given.1))
+    ∙ ap (λ (o : Outcome Form). onward o judged_form) (sym c.before.before.scan.ensures ∙ ap scanned_outcome c.enum_told.given.1))
 
 returns-2 : tie.Need-returns-2
-unfolding scannedOutcome onward
+unfolding scanned_outcome onward
 returns-2 c = c.judged.ensures
     ∙ sym (parsed-is c.before.before.before.before.before.before.args.utc c.before.before.before.before.before.before.args.text.now
-    ∙ ap (λ (o : Outcome Form). onward o judgedForm)
-    (sym c.before.before.before.before.scan.ensures ∙ ap scannedOutcome c.before.before.form.given.1))
+    ∙ ap (λ (o : Outcome Form). onward o judged_form)
+    (sym c.before.before.before.before.scan.ensures ∙ ap scanned_outcome c.before.before.form.given.1))
 
 pub parse-spec : {M : Type 1} → statement M
 parse-spec =

@@ -4,109 +4,109 @@ use native.Mathlib.Omega.{arith}
 use native.Mathlib.Nat.{add-zero, add_assoc}
 use mathlib.Core.Path.{◌≡◌, refl, sym, ap, ◌∙◌, subst}
 use mathlib.Core.List.{List}
-use mathlib.Core.Bool.{Bool, true, false, cond, ◌&&◌, and-false}
+use mathlib.Core.Bool.{Bool, true, false, cond, ◌&&◌, and_false}
 use lib.ListN.{length, drop, get_or, length-drop, get_or-eq_default}
 use lib.Seq.{get_or-drop, drop-drop}
 use lib.Dec.{eqb}
 use borrow.Author.Tests.{eq-eqb, ne_eqb, eqb-true, eqb-false}
 use Rattle.refusals.specs.Outcome.{answer, refusal}
-use Rattle.numerals.specs.digits.Decimal.{isDigit}
+use Rattle.numerals.specs.digits.Decimal.{is_digit}
 use Rattle.parsing.specs.declared.scan.Form.{Form}
 use Rattle.parsing.specs.declared.scan.Run.{Run}
-use Rattle.parsing.specs.scan.Form.{byte_at, twoDigits, twoSay, isSeparator, fractionDigits, dateRight, timeRight, afterBlanks, afterFraction}
-use Rattle.parsing.specs.scan.Form.{endRight, rightForm}
-use Rattle.parsing.specs.scan.Scan.{pairsAt, kept, FractionRun, formWith, formBy, formAt, scanOf}
+use Rattle.parsing.specs.scan.Form.{byte_at, two_digits, two_say, is_separator, fraction_digits, date_right, time_right, after_blanks, after_fraction}
+use Rattle.parsing.specs.scan.Form.{end_right, right_form}
+use Rattle.parsing.specs.scan.Scan.{pairs_at, kept, FractionRun, form_with, form_by, form_at, scan_of}
 use Rattle.parsing.proofs.scan.Runs.{worth-most, kept-all-small}
 
-pub date-at : (t : List ℕ) (at : ℕ) → dateRight (drop at t)
-    ≡ (twoDigits (get_or t at 0) (get_or t (at + 1) 0) && pairsAt 45 t (at + 2))
-unfolding dateRight pairsAt
+pub date-at : (t : List ℕ) (at : ℕ) → date_right (drop at t)
+    ≡ (two_digits (get_or t at 0) (get_or t (at + 1) 0) && pairs_at 45 t (at + 2))
+unfolding date_right pairs_at
 date-at t at = simp (get_or-drop, add-zero, add_assoc)
 
-pub time-at : (t : List ℕ) (at : ℕ) → timeRight (drop at t)
-    ≡ (isSeparator (get_or t (at + 10) 0) && pairsAt 58 t (at + 11))
-unfolding timeRight pairsAt
+pub time-at : (t : List ℕ) (at : ℕ) → time_right (drop at t)
+    ≡ (is_separator (get_or t (at + 10) 0) && pairs_at 58 t (at + 11))
+unfolding time_right pairs_at
 time-at t at = simp (get_or-drop, add_assoc)
 
 -- ---- a text that is too short has no form
-short-time : (s : List ℕ) → length s < 19 → timeRight s ≡ false
-unfolding timeRight twoDigits isDigit
-short-time s h = let e : get_or s 18 0 ≡ 0 = get_or-eq_default s 0 (omega arith) in rw e (simp and-false)
+short-time : (s : List ℕ) → length s < 19 → time_right s ≡ false
+unfolding time_right two_digits is_digit
+short-time s h = let e : get_or s 18 0 ≡ 0 = get_or-eq_default s 0 (omega arith) in rw e (simp and_false)
 
-pub not-date : (utc : Bool) (s : List ℕ) → dateRight s ≡ false → rightForm utc s ≡ false
-unfolding rightForm
-not-date utc s e = rw e
+pub not_date : (utc : Bool) (s : List ℕ) → date_right s ≡ false → right_form utc s ≡ false
+unfolding right_form
+not_date utc s e = rw e
 
-pub not-time : (utc : Bool) (s : List ℕ) → timeRight s ≡ false → rightForm utc s ≡ false
-unfolding rightForm
-not-time utc s e = rw e (simp and-false)
+pub not_time : (utc : Bool) (s : List ℕ) → time_right s ≡ false → right_form utc s ≡ false
+unfolding right_form
+not_time utc s e = rw e (simp and_false)
 
-pub too_short : (utc : Bool) (s : List ℕ) → length s < 19 → rightForm utc s ≡ false
-too_short utc s h = not-time utc s (short-time s h)
+pub too_short : (utc : Bool) (s : List ℕ) → length s < 19 → right_form utc s ≡ false
+too_short utc s h = not_time utc s (short-time s h)
 
-pub not_end : (utc : Bool) (s : List ℕ) → endRight utc (afterFraction (drop 19 s)) ≡ false → rightForm utc s ≡ false
-unfolding rightForm
-not_end utc s e = rw e (simp and-false)
+pub not_end : (utc : Bool) (s : List ℕ) → end_right utc (after_fraction (drop 19 s)) ≡ false → right_form utc s ≡ false
+unfolding right_form
+not_end utc s e = rw e (simp and_false)
 
-pub whole-form : (utc : Bool) (s : List ℕ) → dateRight s ≡ true → timeRight s ≡ true → endRight utc (afterFraction (drop 19 s)) ≡ true → rightForm utc s ≡ true
-unfolding rightForm
+pub whole-form : (utc : Bool) (s : List ℕ) → date_right s ≡ true → time_right s ≡ true → end_right utc (after_fraction (drop 19 s)) ≡ true → right_form utc s ≡ true
+unfolding right_form
 whole-form utc s d u e = rw (d, u, e)
 
 -- ---- what the scan then answers
-pub outside : (utc : Bool) (t s : List ℕ) → s ≡ afterBlanks t → rightForm utc s ≡ false → refusal 15 ≡ scanOf utc t
-unfolding scanOf
-outside utc t s e r = let g : rightForm utc (afterBlanks t) ≡ false = ap (rightForm utc) (sym e) ∙ r in rw g
+pub outside : (utc : Bool) (t s : List ℕ) → s ≡ after_blanks t → right_form utc s ≡ false → refusal 15 ≡ scan_of utc t
+unfolding scan_of
+outside utc t s e r = let g : right_form utc (after_blanks t) ≡ false = ap (right_form utc) (sym e) ∙ r in rw g
 
-pub within : (utc : Bool) (t s : List ℕ) (f : Form) → s ≡ afterBlanks t → rightForm utc s ≡ true → f ≡ formAt s → answer f ≡ scanOf utc t
-unfolding scanOf
-within utc t s f e r i = let g : rightForm utc (afterBlanks t) ≡ true = ap (rightForm utc) (sym e) ∙ r in rw g (ap answer (i ∙ ap formAt e))
+pub within : (utc : Bool) (t s : List ℕ) (f : Form) → s ≡ after_blanks t → right_form utc s ≡ true → f ≡ form_at s → answer f ≡ scan_of utc t
+unfolding scan_of
+within utc t s f e r i = let g : right_form utc (after_blanks t) ≡ true = ap (right_form utc) (sym e) ∙ r in rw g (ap answer (i ∙ ap form_at e))
 
 -- the form that the code makes of seven numbers of two digits
 module _ (t : List ℕ) (at : ℕ) where
   byte : (k : ℕ) → get_or t (at + k) 0 ≡ byte_at (drop at t) k
   byte k = sym (get_or-drop at t k 0)
 
-  both : (k j : ℕ) → twoSay (get_or t (at + k) 0) (get_or t (at + j) 0) ≡ twoSay (byte_at (drop at t) k) (byte_at (drop at t) j)
-  both k j = λ i. twoSay (byte k i) (byte j i)
+  both : (k j : ℕ) → two_say (get_or t (at + k) 0) (get_or t (at + j) 0) ≡ two_say (byte_at (drop at t) k) (byte_at (drop at t) j)
+  both k j = λ i. two_say (byte k i) (byte j i)
 
-  pub form-made : (whole places a b m d h n s : ℕ) → a ≡ twoSay (get_or t at 0) (get_or t (at + 1) 0) → b ≡ twoSay (get_or t (at + 2) 0) (get_or t (at + 3) 0)
-      → m ≡ twoSay (get_or t (at + 5) 0) (get_or t (at + 6) 0) → d ≡ twoSay (get_or t (at + 8) 0) (get_or t (at + 9) 0)
-      → h ≡ twoSay (get_or t (at + 11) 0) (get_or t (at + 12) 0)
-      → n ≡ twoSay (get_or t (at + 14) 0) (get_or t (at + 15) 0) → s ≡ twoSay (get_or t (at + 17) 0) (get_or t (at + 18) 0)
-      → formWith (100 * a + b) m d h n s whole places ≡ formBy (drop at t) whole places
+  pub form-made : (whole places a b m d h n s : ℕ) → a ≡ two_say (get_or t at 0) (get_or t (at + 1) 0) → b ≡ two_say (get_or t (at + 2) 0) (get_or t (at + 3) 0)
+      → m ≡ two_say (get_or t (at + 5) 0) (get_or t (at + 6) 0) → d ≡ two_say (get_or t (at + 8) 0) (get_or t (at + 9) 0)
+      → h ≡ two_say (get_or t (at + 11) 0) (get_or t (at + 12) 0)
+      → n ≡ two_say (get_or t (at + 14) 0) (get_or t (at + 15) 0) → s ≡ two_say (get_or t (at + 17) 0) (get_or t (at + 18) 0)
+      → form_with (100 * a + b) m d h n s whole places ≡ form_by (drop at t) whole places
   form-made whole places a b m d h n s ea eb em ed eh en es =
-      let first : a ≡ twoSay (byte_at (drop at t) 0) (byte_at (drop at t) 1) = ea ∙ ap (λ (k : ℕ). twoSay (get_or t k 0) (get_or t (at + 1) 0)) (sym (add-zero at))
+      let first : a ≡ two_say (byte_at (drop at t) 0) (byte_at (drop at t) 1) = ea ∙ ap (λ (k : ℕ). two_say (get_or t k 0) (get_or t (at + 1) 0)) (sym (add-zero at))
       ∙ both 0 1 in
-      λ i. formWith (100 * first i + (eb ∙ both 2 3) i) ((em ∙ both 5 6) i) ((ed ∙ both 8 9) i) ((eh ∙ both 11 12) i) ((en ∙ both 14 15) i)
+      λ i. form_with (100 * first i + (eb ∙ both 2 3) i) ((em ∙ both 5 6) i) ((ed ∙ both 8 9) i) ((eh ∙ both 11 12) i) ((en ∙ both 14 15) i)
       ((es ∙ both 17 18) i) whole places
 
 -- the fields, with the fraction's run
-pub form-is : (t : List ℕ) (at second : ℕ) (r : Run) (f : Form) → second ≡ twoSay (get_or t (at + 17) 0) (get_or t (at + 18) 0) → FractionRun second (at + 19) t r
-    → f ≡ formBy (drop at t) r.whole r.places → f ≡ formAt (drop at t)
-unfolding formAt
+pub form-is : (t : List ℕ) (at second : ℕ) (r : Run) (f : Form) → second ≡ two_say (get_or t (at + 17) 0) (get_or t (at + 18) 0) → FractionRun second (at + 19) t r
+    → f ≡ form_by (drop at t) r.whole r.places → f ≡ form_at (drop at t)
+unfolding form_at
 form-is t at second r f e k i =
     let s = drop at t in
-    let two : second ≡ twoSay (byte_at s 17) (byte_at s 18) = e ∙ sym (simp get_or-drop) in
+    let two : second ≡ two_say (byte_at s 17) (byte_at s 18) = e ∙ sym (simp get_or-drop) in
     let d : drop (at + 19) t ≡ drop 19 s = sym (drop-drop 19 at t) in
     i
-    ∙ ap (λ (w : ℕ). formBy s w r.places) (k.whole ∙ (λ j. kept (two j) (d j)))
-    ∙ ap (formBy s (kept (twoSay (byte_at s 17) (byte_at s 18)) (drop 19 s))) (k.places ∙ ap (λ (x : List ℕ). length (fractionDigits x)) d)
+    ∙ ap (λ (w : ℕ). form_by s w r.places) (k.whole ∙ (λ j. kept (two j) (d j)))
+    ∙ ap (form_by s (kept (two_say (byte_at s 17) (byte_at s 18)) (drop 19 s))) (k.places ∙ ap (λ (x : List ℕ). length (fraction_digits x)) d)
 
 -- what is within is not too large for a float
-pub within-small : (utc : Bool) (t : List ℕ) (f : Form) → scanOf utc t ≡ answer f → f.whole ≤ 1000000000000000
-unfolding scanOf formAt
-within-small utc t f e = either (rightForm utc (afterBlanks t)) e
+pub within-small : (utc : Bool) (t : List ℕ) (f : Form) → scan_of utc t ≡ answer f → f.whole ≤ 1000000000000000
+unfolding scan_of form_at
+within-small utc t f e = either (right_form utc (after_blanks t)) e
   where
     s : List ℕ
-    s = afterBlanks t
+    s = after_blanks t
 
-    two-most : (a b : ℕ) → twoSay a b ≤ 99
+    two-most : (a b : ℕ) → two_say a b ≤ 99
     two-most a b = omega (arith, worth-most a, worth-most b)
 
-    either : (b : Bool) → cond b (answer (formAt s)) (refusal 15) ≡ answer f → f.whole ≤ 1000000000000000
-    either true g = let i : formAt s ≡ f =
+    either : (b : Bool) → cond b (answer (form_at s)) (refusal 15) ≡ answer f → f.whole ≤ 1000000000000000
+    either true g = let i : form_at s ≡ f =
         cc in subst (λ (x : Form). x.whole ≤ 1000000000000000) i
-        (kept-all-small (twoSay (byte_at s 17) (byte_at s 18)) (drop 19 s) (two-most (byte_at s 17) (byte_at s 18)))
+        (kept-all-small (two_say (byte_at s 17) (byte_at s 18)) (drop 19 s) (two-most (byte_at s 17) (byte_at s 18)))
     either false g = absurd (let z : ◌≡◌ {A = ℕ} 0 1 = cc in let y : ⊥ = omega arith in y)
 
 -- ---- the end: no byte is left behind index b exactly where b is the length

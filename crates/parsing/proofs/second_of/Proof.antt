@@ -1,5 +1,5 @@
 -- `second_of` meets its contract. Assumes nothing.
-use Rattle.parsing.proofs.Seconds.{valuesFrom, value-at, power}
+use Rattle.parsing.proofs.Seconds.{values_from, value-at, power}
 use Rattle.parsing.specs.Judging.{quotient}
 use lib.Ieee.{binary64, of_int, of_bits, round, div, in_float}
 use lib.IntN.{pos}
@@ -17,7 +17,7 @@ unfolding in_float
 int-to-float-result c = le→leb c.before.args.whole (2 ^ 53) (omega arith)
 
 returns : tie.Need-returns
-unfolding quotient valuesFrom power round of_bits
+unfolding quotient values_from power round of_bits
 returns c = ap (div binary64 (of_int binary64 (pos c.before.args.whole)))
     (value-at power 14 0 c.before.args.places _ (omega arith) ∙ ap power (zero-add c.before.args.places))
 

@@ -2,8 +2,8 @@
 use mathlib.Core.Path.{sym, ap}
 use mathlib.Core.List.{List}
 use Rattle.leap_table.specs.rows.Table.{Row}
-use Rattle.leap_table.specs.rows.Announced.{rowsIn}
-use Rattle.readings.specs.Reading.{readingWords}
+use Rattle.leap_table.specs.rows.Announced.{rows_in}
+use Rattle.readings.specs.Reading.{reading_words}
 use Rattle.readings.proofs.Lines.{read-refused, read-dated}
 use Rattle.numerals.proofs.digits.Places.{placed-as}
 use borrow.Author.Rules.{rules}
@@ -12,7 +12,7 @@ use Rattle.readings.proofs.place_reading.Tie as tie
 
 -- the rows that are read
 abbrev rows : tie.Start → List Row
-rows s = rowsIn s.args.size s.args.months.now s.args.seconds.now
+rows s = rows_in s.args.size s.args.months.now s.args.seconds.now
 
 returns : tie.Need-returns
 returns c =
@@ -21,7 +21,7 @@ returns c =
     let v = k.before.before in
     let st = v.before.before.before in
     let e = read-refused (rows st) st.args.text.now _ v.from-str-by-arrays.ensures _ k.number.given.1 in
-    (placed-as (sym (ap readingWords e)) p.0, p.1)
+    (placed-as (sym (ap reading_words e)) p.0, p.1)
 
 returns-2 : tie.Need-returns-2
 returns-2 c =
@@ -30,7 +30,7 @@ returns-2 c =
     let v = k.before.before in
     let st = v.before.before.before in
     let e = read-dated (rows st) st.args.text.now _ v.from-str-by-arrays.ensures _ k.read.given.1 in
-    (placed-as (sym (ap readingWords e)) p.0, p.1)
+    (placed-as (sym (ap reading_words e)) p.0, p.1)
 
 pub place-reading-spec : {M : Type 1} → statement M
 place-reading-spec =

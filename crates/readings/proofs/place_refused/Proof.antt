@@ -1,6 +1,6 @@
 -- `readings::place_refused` meets its contract: two writes, one after the other. Assumes nothing.
 use native.Mathlib.Omega.{arith}
-use Rattle.readings.specs.Reading.{readingWords}
+use Rattle.readings.specs.Reading.{reading_words}
 use Rattle.numerals.proofs.digits.Places.{then}
 use Rattle.reasons.proofs.sentences.Placing.{placed-length, decimal-placed}
 use borrow.Author.Rules.{rules}
@@ -8,7 +8,7 @@ use Rattle.readings.proofs.place_refused.Statement.{statement}
 use Rattle.readings.proofs.place_refused.Tie as tie
 
 returns : tie.Need-returns
-unfolding readingWords
+unfolding reading_words
 returns c =
     let d = c.before.before in
     let b = d.before.before.before.before in

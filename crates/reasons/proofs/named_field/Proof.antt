@@ -1,6 +1,6 @@
 -- `named_field` meets its contract. Assumes nothing.
 use mathlib.Core.Path.{◌∙◌, ap, sym}
-use Rattle.reasons.specs.Offending.{offending, dateField}
+use Rattle.reasons.specs.Offending.{offending, date_field}
 use Rattle.reasons.proofs.sentences.Digits.{back}
 use borrow.Author.Rules.{rules}
 use Rattle.reasons.proofs.named_field.Statement.{statement}
@@ -17,7 +17,7 @@ returns-2 c =
     let v = c.before.before.values.given in
     let n = c.before.before.before.before.args.number in
     c.date-field.ensures
-    ∙ (λ i. dateField n (back v.0.0 k.0.1 i) (back v.0.1.0 k.1.0.1 i) (back v.0.1.1.0 k.1.1.0.1 i))
+    ∙ (λ i. date_field n (back v.0.0 k.0.1 i) (back v.0.1.0 k.1.0.1 i) (back v.0.1.1.0 k.1.1.0.1 i))
     ∙ sym (ap (offending n) v.1)
 
 returns-3 : tie.Need-returns-3

@@ -1,16 +1,16 @@
 // Decimal and hexadecimal numbers into a slice from an index on. Each function answers the index after what it wrote.
 ghost use Rattle.std.specs.Prelude.{◌+◌, ◌≤◌, ◌<◌, ◌≡◌, length, nat_abs};
-ghost use Rattle.numerals.specs.digits.Decimal.{digitsOf};
-ghost use Rattle.numerals.specs.digits.Hexadecimal.{hexDigit, hex16};
+ghost use Rattle.numerals.specs.digits.Decimal.{digits_of};
+ghost use Rattle.numerals.specs.digits.Hexadecimal.{hex_digit, hex16};
 ghost use Rattle.numerals.specs.digits.Placed.{Placed, Placing};
-ghost use Rattle.reasons.specs.sentences.Render.{signedDigits};
+ghost use Rattle.reasons.specs.sentences.Render.{signed_digits};
 
 use numerals::place::place_bytes;
 
 // A number in decimal, with no zeros in front: its digits from the last on, two at a time, in a place that is long enough for all. Where they do not all fit
 // behind the index, nothing is written, and the answer is the index itself.
 pub fn place_decimal(n: u64, dst: &mut [u8], at: usize) -> usize
-    ensures { Placing dst.old at (digitsOf n) result dst.new × (length (digitsOf n) ≤ 20) }
+    ensures { Placing dst.old at (digits_of n) result dst.new × (length (digits_of n) ≤ 20) }
 {
     let mut all = [0u8; 20];
     let mut rest = n;
@@ -47,7 +47,7 @@ fn size(n: i32) -> u32
 // A whole number, with a sign where it is below 0.
 pub(crate) fn signed(n: i32, dst: &mut [u8], at: usize) -> usize
     requires { at + 21 ≤ length dst.old }
-    ensures placed { Placed dst.old at (signedDigits n) result dst.new }
+    ensures placed { Placed dst.old at (signed_digits n) result dst.new }
     ensures upper_bound { result ≤ at + 21 }
 {
     let digits = size(n) as u64;
@@ -62,7 +62,7 @@ const HEXADECIMAL: [u8; 16] = *b"0123456789abcdef";
 
 fn hex_digit(d: u64) -> u8
     requires { d < 16 }
-    ensures { result ≡ hexDigit d }
+    ensures { result ≡ hex_digit d }
 {
     HEXADECIMAL[d as usize]
 }

@@ -1,16 +1,16 @@
 // The words of a sentence: the text of its number, and the field's word with its value.
 ghost use Rattle.std.specs.Prelude.{◌+◌, ◌≤◌, ◌++◌, length};
-ghost use Rattle.numerals.specs.digits.Decimal.{digitsOf};
+ghost use Rattle.numerals.specs.digits.Decimal.{digits_of};
 ghost use Rattle.numerals.specs.digits.Placed.{Placed, Placing};
-ghost use Rattle.reasons.specs.sentences.Texts.{fixedText};
-ghost use Rattle.reasons.specs.sentences.Render.{signedDigits, floatDigits, namedText};
+ghost use Rattle.reasons.specs.sentences.Texts.{fixed_text};
+ghost use Rattle.reasons.specs.sentences.Render.{signed_digits, float_digits, named_text};
 
 use crate::sentences::{Named, numbers};
 use numerals::place::place_bytes;
 
 // The text of a number at the start of a slice. No number past 28 has one.
 pub(crate) fn text(number: u32, dst: &mut [u8]) -> usize
-    ensures { Placing dst.old 0 (fixedText number) result dst.new }
+    ensures { Placing dst.old 0 (fixed_text number) result dst.new }
 {
     match number {
         1 => place_bytes(b"year is before -4799, in a bill 1972", dst, 0),
@@ -52,7 +52,7 @@ pub(crate) fn text(number: u32, dst: &mut [u8]) -> usize
 // A field's word, and a whole number that may be below 0.
 fn signed(word: &[u8], n: i32, dst: &mut [u8], at: usize) -> usize
     requires { (length word.now ≤ 14) × (at + 40 ≤ length dst.old) }
-    ensures placed { Placed dst.old at (word.now ++ signedDigits n) result dst.new }
+    ensures placed { Placed dst.old at (word.now ++ signed_digits n) result dst.new }
     ensures upper_bound { result ≤ at + 35 }
 {
     let next = place_bytes(word, dst, at);
@@ -62,7 +62,7 @@ fn signed(word: &[u8], n: i32, dst: &mut [u8], at: usize) -> usize
 // A field's word, and a whole number.
 fn whole(word: &[u8], n: u64, dst: &mut [u8], at: usize) -> usize
     requires { (length word.now ≤ 14) × (at + 40 ≤ length dst.old) }
-    ensures placed { Placed dst.old at (word.now ++ digitsOf n) result dst.new }
+    ensures placed { Placed dst.old at (word.now ++ digits_of n) result dst.new }
     ensures upper_bound { result ≤ at + 35 }
 {
     let next = place_bytes(word, dst, at);
@@ -72,7 +72,7 @@ fn whole(word: &[u8], n: u64, dst: &mut [u8], at: usize) -> usize
 // A field's word, and a float by its bits.
 fn float(word: &[u8], x: f64, dst: &mut [u8], at: usize) -> usize
     requires { (length word.now ≤ 14) × (at + 40 ≤ length dst.old) }
-    ensures placed { Placed dst.old at (word.now ++ floatDigits x) result dst.new }
+    ensures placed { Placed dst.old at (word.now ++ float_digits x) result dst.new }
     ensures upper_bound { result ≤ at + 35 }
 {
     let next = place_bytes(word, dst, at);
@@ -82,7 +82,7 @@ fn float(word: &[u8], x: f64, dst: &mut [u8], at: usize) -> usize
 // The word and the value of the field that is named.
 pub(crate) fn named(field: Named, dst: &mut [u8], at: usize) -> usize
     requires { at + 40 ≤ length dst.old }
-    ensures placed { Placed dst.old at (namedText field) result dst.new }
+    ensures placed { Placed dst.old at (named_text field) result dst.new }
     ensures upper_bound { result ≤ at + 35 }
 {
     match field {

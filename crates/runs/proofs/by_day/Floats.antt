@@ -11,13 +11,13 @@ use Rattle.floats.specs.Whole.{abs, nought, one}
 use Rattle.rounding.specs.Value.{L}
 use Rattle.rounding.proofs.Value.{L-pos, abs-has}
 use Rattle.rounding.proofs.Own.{own, plus-of, minus-of}
-use Rattle.rounding.proofs.Compare.{lt-true, le-true, le-show}
+use Rattle.rounding.proofs.Compare.{lt_true, le_true, le_show}
 use Rattle.julian.proofs.day_number.Units.{one-L, nought-L}
 use Rattle.julian.proofs.day_number.SignedUnits.{has-val}
 
 below : (x y : Float) (s t : Bool) (X Y : ℕ) → HasValue x s X L → HasValue y t Y L → le one x ≡ true → le nought y ≡ true → lt y one ≡ true → Y ≤ X
-below x y s t X Y h k lx ly ty = go s t (le-true L-pos one-L (has-val x s X L h) lx) (le-true L-pos nought-L (has-val y t Y L k) ly)
-    (lt-true L-pos (has-val y t Y L k) one-L ty)
+below x y s t X Y h k lx ly ty = go s t (le_true L-pos one-L (has-val x s X L h) lx) (le_true L-pos nought-L (has-val y t Y L k) ly)
+    (lt_true L-pos (has-val y t Y L k) one-L ty)
   where
     go : (s t : Bool) → L + minus-of s X ≤ plus-of s X + 0 → 0 + minus-of t Y ≤ plus-of t Y + 0 → plus-of t Y + 0 < L + minus-of t Y → Y ≤ X
     go false false p q r = omega arith
@@ -40,6 +40,6 @@ first-larger (fin s a d) (fin t b i) fx fy lx ly ty =
     let o = own (fin s a d) fx tt in
     let p = own (fin t b i) fy tt in
     is_true (le (abs (fin t b i)) (abs (fin s a d)))
-    (le-show L-pos (has-val (abs (fin t b i)) false p.size L (abs-has (fin t b i) p.sign p.size L p.has))
+    (le_show L-pos (has-val (abs (fin t b i)) false p.size L (abs-has (fin t b i) p.sign p.size L p.has))
     (has-val (abs (fin s a d)) false o.size L (abs-has (fin s a d) o.sign o.size L o.has))
     (omega (arith, below (fin s a d) (fin t b i) o.sign p.sign o.size p.size o.has p.has lx ly ty)))

@@ -17,19 +17,19 @@ use Rattle.floats.proofs.ExponentField.{finite-field}
 use Rattle.refusals.specs.Outcome.{Outcome, answer, refusal}
 use Rattle.julian.specs.declared.JulianDate.{JulianDate}
 use Rattle.julian.specs.JulianDate.{julian}
-use Rattle.numerals.specs.little_endian.LittleEndian.{u64At}
-use Rattle.julian.specs.shifts.SmallerPart.{firstIsLarger}
-use Rattle.julian.specs.shifts.Shifts.{daysOf, plus, minus, converted, convertedBy}
+use Rattle.numerals.specs.little_endian.LittleEndian.{u64_at}
+use Rattle.julian.specs.shifts.SmallerPart.{first_is_larger}
+use Rattle.julian.specs.shifts.Shifts.{days_of, plus, minus, converted, converted_by}
 use Rattle.julian.proofs.shifts.Outcomes.{first, first_by}
-use Rattle.julian.proofs.shifts.SmallerPart.{map_is, mapAs}
-use Rattle.julian.specs.stamp_lists.Stamps.{stampOf}
+use Rattle.julian.proofs.shifts.SmallerPart.{map_is, map_as}
+use Rattle.julian.specs.stamp_lists.Stamps.{stamp_of}
 use Rattle.julian.proofs.stamp_lists.Reading.{stamp-is}
-use Rattle.runs.specs.by_formula.Asked.{changeOf, changedStamp, offsetStamp, numberOfNotFiniteAt}
+use Rattle.runs.specs.by_formula.Asked.{change_of, changed_stamp, offset_stamp, number_of_not_finite_at}
 
 -- ---- a finite number's pattern
 
-pub field-most : (b : ℕ) → expo b ≤ 2047
-field-most b = let h : expo b < 2048 = (div-lt_iff_lt-mul (pow_pos 52)).1 (mod-lt b (pow_pos 63)) in omega arith
+pub field_most : (b : ℕ) → expo b ≤ 2047
+field_most b = let h : expo b < 2048 = (div-lt_iff_lt-mul (pow_pos 52)).1 (mod-lt b (pow_pos 63)) in omega arith
 
 pub number-pattern : (b : ℕ) → ltb (b % 0x8000_0000_0000_0000) 0x7ff0_0000_0000_0000 ≡ finite (of_bits binary64 b)
 number-pattern b = go (ltb (b % 0x8000_0000_0000_0000) 0x7ff0_0000_0000_0000) refl ∙ ap (λ (e : ℕ). not (eqb e 2047)) (field b 11 52) ∙ sym (finite-field b)
@@ -40,7 +40,7 @@ number-pattern b = go (ltb (b % 0x8000_0000_0000_0000) 0x7ff0_0000_0000_0000) re
         sym (ap not (ne_eqb (expo b) 2047 (λ q. let w : ⊥ = omega arith in w)))
     go false e =
         let h : 2047 ≤ expo b = (le-div_iff_mul-le (pow_pos 52)).1 (ltb-false (b % 0x8000_0000_0000_0000) 0x7ff0_0000_0000_0000 e) in
-        let q : expo b ≡ 2047 = omega (arith, field-most b) in
+        let q : expo b ≡ 2047 = omega (arith, field_most b) in
         sym (ap not (eq-eqb (expo b) 2047 q))
 
 -- of two patterns the larger decides for both: where it is a finite number's, so is the other
@@ -69,80 +69,80 @@ pub no_nan : (b : ℕ) → finite (of_bits binary64 b) ≡ true → T (not (nan_
 no_nan b h = subst (λ (t : Bool). T (not t)) (sym (nan_bits_is binary64 b ∙ number-no-nan (of_bits binary64 b) h)) tt
 
 -- written again, it is the same pattern
-pub pattern-back : (b : ℕ) → b < 2 ^ 64 → finite (of_bits binary64 b) ≡ true → to_bits binary64 (of_bits binary64 b) ≡ b
-pattern-back b small h = to_bits-of_bits binary64 b small (subst (λ (t : Bool). T (not t)) (sym (number-no-nan (of_bits binary64 b) h)) tt)
+pub pattern_back : (b : ℕ) → b < 2 ^ 64 → finite (of_bits binary64 b) ≡ true → to_bits binary64 (of_bits binary64 b) ≡ b
+pattern_back b small h = to_bits-of_bits binary64 b small (subst (λ (t : Bool). T (not t)) (sym (number-no-nan (of_bits binary64 b) h)) tt)
 
 -- ---- one stamp, whose patterns are a and b
-module _ (f : Float → Float → Float) (js ks : List ℕ) (i a b : ℕ) (ea : a ≡ u64At js (8 * i)) (eb : b ≡ u64At ks (8 * i)) where
-  read : julian (of_bits binary64 a) (of_bits binary64 b) ≡ stampOf js ks i
+module _ (f : Float → Float → Float) (js ks : List ℕ) (i a b : ℕ) (ea : a ≡ u64_at js (8 * i)) (eb : b ≡ u64_at ks (8 * i)) where
+  read : julian (of_bits binary64 a) (of_bits binary64 b) ≡ stamp_of js ks i
   read = stamp-is js ks i a b (of_bits binary64 a) (of_bits binary64 b) ea eb refl refl
 
-  judged : changedStamp f js ks i ≡ cond (finite (of_bits binary64 a) && finite (of_bits binary64 b))
-      (answer (mapAs f (julian (of_bits binary64 a) (of_bits binary64 b)) (firstIsLarger (julian (of_bits binary64 a) (of_bits binary64 b))))) (refusal 9)
+  judged : changed_stamp f js ks i ≡ cond (finite (of_bits binary64 a) && finite (of_bits binary64 b))
+      (answer (map_as f (julian (of_bits binary64 a) (of_bits binary64 b)) (first_is_larger (julian (of_bits binary64 a) (of_bits binary64 b))))) (refusal 9)
   judged =
       ap (converted f) (sym read) ∙ first f (julian (of_bits binary64 a) (of_bits binary64 b))
       ∙ ap (λ (u : JulianDate). cond (finite (of_bits binary64 a) && finite (of_bits binary64 b)) (answer u) (refusal 9))
       (map_is f (julian (of_bits binary64 a) (of_bits binary64 b)))
 
-  pub not-finite-first : finite (of_bits binary64 a) ≡ false → changedStamp f js ks i ≡ refusal 9
-  not-finite-first h = rw h at judged
+  pub not_finite_first : finite (of_bits binary64 a) ≡ false → changed_stamp f js ks i ≡ refusal 9
+  not_finite_first h = rw h at judged
 
   module _ (h : finite (of_bits binary64 a) ≡ true) where
-    not-finite-second : finite (of_bits binary64 b) ≡ false → changedStamp f js ks i ≡ refusal 9
-    not-finite-second k = rw (h, k) at judged
+    not_finite_second : finite (of_bits binary64 b) ≡ false → changed_stamp f js ks i ≡ refusal 9
+    not_finite_second k = rw (h, k) at judged
 
     module _ (k : finite (of_bits binary64 b) ≡ true) (larger : Bool) (el : larger ≡ lt (abs (of_bits binary64 b)) (abs (of_bits binary64 a))) where
-      moved : changedStamp f js ks i ≡ answer (mapAs f (julian (of_bits binary64 a) (of_bits binary64 b)) larger)
-      unfolding firstIsLarger
+      moved : changed_stamp f js ks i ≡ answer (map_as f (julian (of_bits binary64 a) (of_bits binary64 b)) larger)
+      unfolding first_is_larger
       moved = rw (h, k, ← el) at judged
 
-      pub changed-second : larger ≡ true → changedStamp f js ks i ≡ answer (julian (of_bits binary64 a) (f (of_bits binary64 a) (of_bits binary64 b)))
+      pub changed-second : larger ≡ true → changed_stamp f js ks i ≡ answer (julian (of_bits binary64 a) (f (of_bits binary64 a) (of_bits binary64 b)))
       changed-second e = rw e at moved
 
-      pub changed-first : larger ≡ false → changedStamp f js ks i ≡ answer (julian (f (of_bits binary64 b) (of_bits binary64 a)) (of_bits binary64 b))
+      pub changed-first : larger ≡ false → changed_stamp f js ks i ≡ answer (julian (f (of_bits binary64 b) (of_bits binary64 a)) (of_bits binary64 b))
       changed-first e = rw e at moved
 
-  pub not-finite-either : finite (of_bits binary64 b) ≡ false → changedStamp f js ks i ≡ refusal 9
-  not-finite-either k = go (finite (of_bits binary64 a)) refl
+  pub not_finite_either : finite (of_bits binary64 b) ≡ false → changed_stamp f js ks i ≡ refusal 9
+  not_finite_either k = go (finite (of_bits binary64 a)) refl
     where
-      go : (t : Bool) → finite (of_bits binary64 a) ≡ t → changedStamp f js ks i ≡ refusal 9
-      go true h = not-finite-second h k
-      go false h = not-finite-first h
+      go : (t : Bool) → finite (of_bits binary64 a) ≡ t → changed_stamp f js ks i ≡ refusal 9
+      go true h = not_finite_second h k
+      go false h = not_finite_first h
 
 -- ---- a stamp with an offset of its own
 module _ (earlier : Bool) (js ks os : List ℕ) (i : ℕ) where
-  turned-is : (t : Bool) (days : Float) → changeOf 3 (cond t (neg days) days) ≡ cond t minus plus days
-  unfolding changeOf plus minus sub
-  turned-is true days = refl
-  turned-is false days = refl
+  turned_is : (t : Bool) (days : Float) → change_of 3 (cond t (neg days) days) ≡ cond t minus plus days
+  unfolding change_of plus minus sub
+  turned_is true days = refl
+  turned_is false days = refl
 
-  pub offset-moves : (c : ℕ) (days : Float) → c ≡ u64At os (8 * i) → finite (of_bits binary64 c) ≡ true
-      → days ≡ cond earlier (neg (daysOf (of_bits binary64 c))) (daysOf (of_bits binary64 c))
-      → changedStamp (changeOf 3 days) js ks i ≡ offsetStamp earlier js ks os i
+  pub offset-moves : (c : ℕ) (days : Float) → c ≡ u64_at os (8 * i) → finite (of_bits binary64 c) ≡ true
+      → days ≡ cond earlier (neg (days_of (of_bits binary64 c))) (days_of (of_bits binary64 c))
+      → changed_stamp (change_of 3 days) js ks i ≡ offset_stamp earlier js ks os i
   offset-moves c days e h q =
       let s = of_bits binary64 c in
-      let same : changeOf 3 days ≡ cond earlier minus plus (daysOf s) = ap (changeOf 3) q ∙ turned-is earlier (daysOf s) in
-      ap (λ (f : Float → Float → Float). converted f (stampOf js ks i)) same
-      ∙ first (cond earlier minus plus (daysOf s)) (stampOf js ks i)
-      ∙ sym (rw h at (first_by (cond earlier minus plus) s (stampOf js ks i)))
-      ∙ ap (λ (n : ℕ). convertedBy (cond earlier minus plus) (of_bits binary64 n) (stampOf js ks i)) e
+      let same : change_of 3 days ≡ cond earlier minus plus (days_of s) = ap (change_of 3) q ∙ turned_is earlier (days_of s) in
+      ap (λ (f : Float → Float → Float). converted f (stamp_of js ks i)) same
+      ∙ first (cond earlier minus plus (days_of s)) (stamp_of js ks i)
+      ∙ sym (rw h at (first_by (cond earlier minus plus) s (stamp_of js ks i)))
+      ∙ ap (λ (n : ℕ). converted_by (cond earlier minus plus) (of_bits binary64 n) (stamp_of js ks i)) e
 
-  pub offset-not-finite : (c : ℕ) → c ≡ u64At os (8 * i) → finite (of_bits binary64 c) ≡ false
-      → offsetStamp earlier js ks os i ≡ refusal (numberOfNotFiniteAt js ks i)
-  unfolding numberOfNotFiniteAt stampOf
+  pub offset-not-finite : (c : ℕ) → c ≡ u64_at os (8 * i) → finite (of_bits binary64 c) ≡ false
+      → offset_stamp earlier js ks os i ≡ refusal (number_of_not_finite_at js ks i)
+  unfolding number_of_not_finite_at stamp_of
   offset-not-finite c e h =
-      ap (λ (n : ℕ). convertedBy (cond earlier minus plus) (of_bits binary64 n) (stampOf js ks i)) (sym e)
-      ∙ (rw h at (first_by (cond earlier minus plus) (of_bits binary64 c) (stampOf js ks i)))
-      ∙ go (finite (of_bits binary64 (u64At js (8 * i))) && finite (of_bits binary64 (u64At ks (8 * i))))
+      ap (λ (n : ℕ). converted_by (cond earlier minus plus) (of_bits binary64 n) (stamp_of js ks i)) (sym e)
+      ∙ (rw h at (first_by (cond earlier minus plus) (of_bits binary64 c) (stamp_of js ks i)))
+      ∙ go (finite (of_bits binary64 (u64_at js (8 * i))) && finite (of_bits binary64 (u64_at ks (8 * i))))
     where
       go : (t : Bool) → ◌≡◌ {A = Outcome JulianDate} (cond t (refusal 10) (refusal 9)) (refusal (cond t 10 9))
       go true = refl
       go false = refl
 
   -- the number fits a byte
-  pub not-finite-small : numberOfNotFiniteAt js ks i ≡ numberOfNotFiniteAt js ks i % 256
-  unfolding numberOfNotFiniteAt
-  not-finite-small = go (finite (of_bits binary64 (u64At js (8 * i))) && finite (of_bits binary64 (u64At ks (8 * i))))
+  pub not_finite_small : number_of_not_finite_at js ks i ≡ number_of_not_finite_at js ks i % 256
+  unfolding number_of_not_finite_at
+  not_finite_small = go (finite (of_bits binary64 (u64_at js (8 * i))) && finite (of_bits binary64 (u64_at ks (8 * i))))
     where
       go : (t : Bool) → ◌≡◌ {A = ℕ} (cond t 10 9) (cond t 10 9 % 256)
       go true = refl

@@ -8,68 +8,68 @@ use borrow.Author.Tests.{eqb-true}
 use Rattle.refusals.specs.Outcome.{onward}
 use Rattle.julian.specs.shifts.Shifts.{plus, minus}
 use Rattle.julian.proofs.shifts.Outcomes.{and_left, and_right}
-use Rattle.scales.specs.Formulas.{gpsDays, ttDays}
+use Rattle.scales.specs.Formulas.{gps_days, tt_days}
 use Rattle.scales.specs.Conversions.{answer_of}
-use Rattle.runs.specs.by_formula.Formula.{formulaOf, byFormula, takesOffset, lengthsRefusal, formulaRefusal}
-use Rattle.runs.specs.by_formula.Asked.{changeOf, answerOfKind, sizeDue, kindRefusal, IsFormula, needsNone}
+use Rattle.runs.specs.by_formula.Formula.{formula_of, by_formula, takes_offset, lengths_refusal, formula_refusal}
+use Rattle.runs.specs.by_formula.Asked.{change_of, answer_of_kind, size_due, kind_refusal, IsFormula, needs_none}
 
 -- ---- each pair of scales
-pub gps-to-tai : IsFormula 4 1 3 gpsDays
-unfolding formulaOf byFormula takesOffset lengthsRefusal formulaRefusal changeOf answerOfKind sizeDue kindRefusal answer_of onward
-gps-to-tai = record { answers = λ s d. refl; refuses = λ a b c d e f. refl }
+pub gps_to_tai : IsFormula 4 1 3 gps_days
+unfolding formula_of by_formula takes_offset lengths_refusal formula_refusal change_of answer_of_kind size_due kind_refusal answer_of onward
+gps_to_tai = record { answers = λ s d. refl; refuses = λ a b c d e f. refl }
 
-pub tai-to-gps : IsFormula 1 4 3 (neg gpsDays)
-unfolding formulaOf byFormula takesOffset lengthsRefusal formulaRefusal changeOf answerOfKind sizeDue kindRefusal answer_of onward plus minus sub
-tai-to-gps = record { answers = λ s d. refl; refuses = λ a b c d e f. refl }
+pub tai_to_gps : IsFormula 1 4 3 (neg gps_days)
+unfolding formula_of by_formula takes_offset lengths_refusal formula_refusal change_of answer_of_kind size_due kind_refusal answer_of onward plus minus sub
+tai_to_gps = record { answers = λ s d. refl; refuses = λ a b c d e f. refl }
 
-pub tai-to-tt : IsFormula 1 3 3 ttDays
-unfolding formulaOf byFormula takesOffset lengthsRefusal formulaRefusal changeOf answerOfKind sizeDue kindRefusal answer_of onward
-tai-to-tt = record { answers = λ s d. refl; refuses = λ a b c d e f. refl }
+pub tai_to_tt : IsFormula 1 3 3 tt_days
+unfolding formula_of by_formula takes_offset lengths_refusal formula_refusal change_of answer_of_kind size_due kind_refusal answer_of onward
+tai_to_tt = record { answers = λ s d. refl; refuses = λ a b c d e f. refl }
 
-pub tt-to-tai : IsFormula 3 1 3 (neg ttDays)
-unfolding formulaOf byFormula takesOffset lengthsRefusal formulaRefusal changeOf answerOfKind sizeDue kindRefusal answer_of onward plus minus sub
-tt-to-tai = record { answers = λ s d. refl; refuses = λ a b c d e f. refl }
+pub tt_to_tai : IsFormula 3 1 3 (neg tt_days)
+unfolding formula_of by_formula takes_offset lengths_refusal formula_refusal change_of answer_of_kind size_due kind_refusal answer_of onward plus minus sub
+tt_to_tai = record { answers = λ s d. refl; refuses = λ a b c d e f. refl }
 
 module _ (days : Float) where
   pub tt-to-tcg : IsFormula 3 5 4 days
-  unfolding formulaOf byFormula takesOffset lengthsRefusal formulaRefusal changeOf answerOfKind sizeDue kindRefusal answer_of onward
+  unfolding formula_of by_formula takes_offset lengths_refusal formula_refusal change_of answer_of_kind size_due kind_refusal answer_of onward
   tt-to-tcg = record { answers = λ s d. refl; refuses = λ a b c d e f. refl }
 
   pub tcg-to-tt : IsFormula 5 3 5 days
-  unfolding formulaOf byFormula takesOffset lengthsRefusal formulaRefusal changeOf answerOfKind sizeDue kindRefusal answer_of onward
+  unfolding formula_of by_formula takes_offset lengths_refusal formula_refusal change_of answer_of_kind size_due kind_refusal answer_of onward
   tcg-to-tt = record { answers = λ s d. refl; refuses = λ a b c d e f. refl }
 
   pub tcb-to-tdb : IsFormula 6 7 6 days
-  unfolding formulaOf byFormula takesOffset lengthsRefusal formulaRefusal changeOf answerOfKind sizeDue kindRefusal answer_of onward
+  unfolding formula_of by_formula takes_offset lengths_refusal formula_refusal change_of answer_of_kind size_due kind_refusal answer_of onward
   tcb-to-tdb = record { answers = λ s d. refl; refuses = λ a b c d e f. refl }
 
   pub tdb-to-tcb : IsFormula 7 6 7 days
-  unfolding formulaOf byFormula takesOffset lengthsRefusal formulaRefusal changeOf answerOfKind sizeDue kindRefusal answer_of onward
+  unfolding formula_of by_formula takes_offset lengths_refusal formula_refusal change_of answer_of_kind size_due kind_refusal answer_of onward
   tdb-to-tcb = record { answers = λ s d. refl; refuses = λ a b c d e f. refl }
 
-  pub tai-to-ut1 : IsFormula 1 2 1 days
-  unfolding formulaOf byFormula takesOffset lengthsRefusal formulaRefusal answerOfKind sizeDue kindRefusal answer_of onward
-  tai-to-ut1 = record { answers = λ s d. refl; refuses = λ a b c d e f. refl }
+  pub tai_to_ut1 : IsFormula 1 2 1 days
+  unfolding formula_of by_formula takes_offset lengths_refusal formula_refusal answer_of_kind size_due kind_refusal answer_of onward
+  tai_to_ut1 = record { answers = λ s d. refl; refuses = λ a b c d e f. refl }
 
-  pub ut1-to-tai : IsFormula 2 1 2 days
-  unfolding formulaOf byFormula takesOffset lengthsRefusal formulaRefusal answerOfKind sizeDue kindRefusal answer_of onward
-  ut1-to-tai = record { answers = λ s d. refl; refuses = λ a b c d e f. refl }
+  pub ut1_to_tai : IsFormula 2 1 2 days
+  unfolding formula_of by_formula takes_offset lengths_refusal formula_refusal answer_of_kind size_due kind_refusal answer_of onward
+  ut1_to_tai = record { answers = λ s d. refl; refuses = λ a b c d e f. refl }
 
-  pub ut1-to-tt : IsFormula 2 3 1 days
-  unfolding formulaOf byFormula takesOffset lengthsRefusal formulaRefusal answerOfKind sizeDue kindRefusal answer_of onward
-  ut1-to-tt = record { answers = λ s d. refl; refuses = λ a b c d e f. refl }
+  pub ut1_to_tt : IsFormula 2 3 1 days
+  unfolding formula_of by_formula takes_offset lengths_refusal formula_refusal answer_of_kind size_due kind_refusal answer_of onward
+  ut1_to_tt = record { answers = λ s d. refl; refuses = λ a b c d e f. refl }
 
-  pub tt-to-ut1 : IsFormula 3 2 2 days
-  unfolding formulaOf byFormula takesOffset lengthsRefusal formulaRefusal answerOfKind sizeDue kindRefusal answer_of onward
-  tt-to-ut1 = record { answers = λ s d. refl; refuses = λ a b c d e f. refl }
+  pub tt_to_ut1 : IsFormula 3 2 2 days
+  unfolding formula_of by_formula takes_offset lengths_refusal formula_refusal answer_of_kind size_due kind_refusal answer_of onward
+  tt_to_ut1 = record { answers = λ s d. refl; refuses = λ a b c d e f. refl }
 
-  pub tt-to-tdb : IsFormula 3 7 1 days
-  unfolding formulaOf byFormula takesOffset lengthsRefusal formulaRefusal answerOfKind sizeDue kindRefusal answer_of onward
-  tt-to-tdb = record { answers = λ s d. refl; refuses = λ a b c d e f. refl }
+  pub tt_to_tdb : IsFormula 3 7 1 days
+  unfolding formula_of by_formula takes_offset lengths_refusal formula_refusal answer_of_kind size_due kind_refusal answer_of onward
+  tt_to_tdb = record { answers = λ s d. refl; refuses = λ a b c d e f. refl }
 
-  pub tdb-to-tt : IsFormula 7 3 2 days
-  unfolding formulaOf byFormula takesOffset lengthsRefusal formulaRefusal answerOfKind sizeDue kindRefusal answer_of onward
-  tdb-to-tt = record { answers = λ s d. refl; refuses = λ a b c d e f. refl }
+  pub tdb_to_tt : IsFormula 7 3 2 days
+  unfolding formula_of by_formula takes_offset lengths_refusal formula_refusal answer_of_kind size_due kind_refusal answer_of onward
+  tdb_to_tt = record { answers = λ s d. refl; refuses = λ a b c d e f. refl }
 
 -- ---- two scales of which a test said which they are
 pub found : {from to : ℕ} (a b kind : ℕ) {r : ℕ} {days x : Float} → (eqb from a && eqb to b) ≡ true → r ≡ kind → x ≡ days → IsFormula a b kind days
@@ -80,12 +80,12 @@ found {from} {to} a b kind h e q is =
     rw (f, g, e, q) is
 
 -- ---- no pair at all
-module _ (from to : ℕ) (days : Float) (h : needsNone from to ≡ false) where
-  pub no-formula : (eqb from 1 && eqb to 2) ≡ false → (eqb from 2 && eqb to 1) ≡ false → (eqb from 2 && eqb to 3) ≡ false → (eqb from 3 && eqb to 2) ≡ false
+module _ (from to : ℕ) (days : Float) (h : needs_none from to ≡ false) where
+  pub no_formula : (eqb from 1 && eqb to 2) ≡ false → (eqb from 2 && eqb to 1) ≡ false → (eqb from 2 && eqb to 3) ≡ false → (eqb from 3 && eqb to 2) ≡ false
       → (eqb from 3 && eqb to 7) ≡ false → (eqb from 7 && eqb to 3) ≡ false
       → IsFormula from to 0 days
-  unfolding formulaOf byFormula lengthsRefusal formulaRefusal answerOfKind kindRefusal onward needsNone
-  no-formula p q r s t u =
+  unfolding formula_of by_formula lengths_refusal formula_refusal answer_of_kind kind_refusal onward needs_none
+  no_formula p q r s t u =
       go (eqb from 4 && eqb to 1) (eqb from 1 && eqb to 4) (eqb from 1 && eqb to 3) (eqb from 3 && eqb to 1) (eqb from 3 && eqb to 5) (eqb from 5 && eqb to 3)
       (eqb from 6 && eqb to 7) (eqb from 7 && eqb to 6) refl refl refl refl refl refl refl refl h
     where

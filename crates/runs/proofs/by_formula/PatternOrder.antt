@@ -9,7 +9,7 @@ use lib.Pow.{field, mod-pow-add, pow_pos, pow_mono}
 use lib.Ieee.{Float, nan, inf, fin, binary64, lt, of_bits, of_fields}
 use lib.Ieee.Exact.{HasValue}
 use lib.Ieee.Scale.{finite}
-use borrow.Author.Tests.{ltb-true, ltb-false, lt-ltb, le-ltb, eqb-false, not-true}
+use borrow.Author.Tests.{ltb-true, ltb-false, lt-ltb, le-ltb, eqb-false, not_true}
 use Rattle.floats.specs.Whole.{abs}
 use Rattle.floats.proofs.Fields.{sign, expo, digits, of_bits_is, digits_lt, normal, subnormal}
 use Rattle.rounding.specs.Value.{Val}
@@ -91,10 +91,10 @@ size-value nan s a d h = absurd h
 size-value (inf t) s a d h = absurd h
 size-value (fin t m e) s a d h = record { sign = false; size = a; has = (refl, h.1); is = omega arith }
 
-not-ones : (b : ℕ) → expo b ≤ 2047 → finite (of_bits binary64 b) ≡ true → expo b < 2047
-not-ones b most h =
+not_ones : (b : ℕ) → expo b ≤ 2047 → finite (of_bits binary64 b) ≡ true → expo b < 2047
+not_ones b most h =
     let e : not (eqb (expo b) 2047) ≡ true = ap (λ (n : ℕ). not (eqb n 2047)) (field b 11 52) ∙ sym (finite-field b) ∙ h in
-    let q : expo b ≡ 2047 → ⊥ = eqb-false (expo b) 2047 (not-true (eqb (expo b) 2047) e) in
+    let q : expo b ≡ 2047 → ⊥ = eqb-false (expo b) 2047 (not_true (eqb (expo b) 2047) e) in
     go (ltb (expo b) 2047) refl q
   where
     go : (c : Bool) → ltb (expo b) 2047 ≡ c → (expo b ≡ 2047 → ⊥) → expo b < 2047
@@ -109,8 +109,8 @@ module _ (a b : ℕ) (ma : expo a ≤ 2047) (mb : expo b ≤ 2047) (ha : finite 
   by_value =
       let e : worth (expo b) (digits b) + 0 ≡ worth (expo b) (digits b) = omega arith in
       let f : worth (expo a) (digits a) + 0 ≡ worth (expo a) (digits a) = omega arith in
-      lt_val (pow_pos 1074) (size-value (of_bits binary64 b) (sign b) _ (2 ^ 1074) (value b (not-ones b mb hb)))
-      (size-value (of_bits binary64 a) (sign a) _ (2 ^ 1074) (value a (not-ones a ma ha)))
+      lt_val (pow_pos 1074) (size-value (of_bits binary64 b) (sign b) _ (2 ^ 1074) (value b (not_ones b mb hb)))
+      (size-value (of_bits binary64 a) (sign a) _ (2 ^ 1074) (value a (not_ones a ma ha)))
       ∙ (λ k. ltb (e k) (f k))
 
   pub larger-pattern : ltb (b % 0x8000_0000_0000_0000) (a % 0x8000_0000_0000_0000) ≡ lt (abs (of_bits binary64 b)) (abs (of_bits binary64 a))

@@ -2,18 +2,18 @@
 use Prim.Native.Nat.{◌-◌}
 use native.Mathlib.Omega.{arith}
 use borrow.Author.Rules.{rules}
-use Rattle.leap_table.specs.rows.Announced.{rowsIn}
-use Rattle.runs.specs.Run.{stampAnswer}
+use Rattle.leap_table.specs.rows.Announced.{rows_in}
+use Rattle.runs.specs.Run.{stamp_answer}
 use Rattle.runs.specs.by_day.Hand.{RightHand}
-use Rattle.runs.proofs.by_day.Days.{no-day-right}
-use Rattle.runs.proofs.by_formula.Puts.{Putting, putting-starts, len1, len2, len3, few, has-places, has-byte, putting-goes, putting-ends}
+use Rattle.runs.proofs.by_day.Days.{no_day_right}
+use Rattle.runs.proofs.by_formula.Puts.{Putting, putting_starts, len1, len2, len3, few, has-places, has-byte, putting_goes, putting_ends}
 use Rattle.runs.proofs.convert_all.Statement.{statement}
 use Rattle.runs.proofs.convert_all.Tie as tie
 
 abbrev invariant-loop : tie.invariant-loop
 invariant-loop from to jd1s jd2s n size months seconds out1₀ out2₀ numbers₀ refused₀ hand₀ i₀ out1 out2 numbers refused hand i =
-    Putting (stampAnswer (rowsIn size months seconds) from to jd1s jd2s) n out1₀ out2₀ numbers₀ out1 out2 numbers refused i
-    × RightHand (rowsIn size months seconds) hand
+    Putting (stamp_answer (rows_in size months seconds) from to jd1s jd2s) n out1₀ out2₀ numbers₀ out1 out2 numbers refused i
+    × RightHand (rows_in size months seconds) hand
 
 abbrev decreases-loop : tie.decreases-loop
 decreases-loop from to jd1s jd2s n size months seconds out1₀ out2₀ numbers₀ refused₀ hand₀ i₀ out1 out2 numbers refused hand i = n - i
@@ -21,8 +21,8 @@ decreases-loop from to jd1s jd2s n size months seconds out1₀ out2₀ numbers�
 loop-holds : tie.Need-loop-init invariant-loop decreases-loop
 loop-holds c =
     let a = c.before.before.before.before.before.before.args in (
-      putting-starts,
-      no-day-right (rowsIn a.size a.months.now a.seconds.now) c.no-day.result c.no-day.ensures,
+      putting_starts,
+      no_day_right (rows_in a.size a.months.now a.seconds.now) c.no_day.result c.no_day.ensures,
     )
 
 convert-stamp-requires : tie.Need-convert-stamp-requires invariant-loop decreases-loop
@@ -60,10 +60,10 @@ loop-again c =
     let put = c.before.before.before.before.before.before in
     let test = put.before.before.before in
     let done = put.convert-stamp.ensures in
-    (putting-goes test.before.loop.invariant.0 test.loop-test.true done.0 c.one-if-refused.ensures.0, done.1)
+    (putting_goes test.before.loop.invariant.0 test.loop-test.true done.0 c.one-if-refused.ensures.0, done.1)
 
 returns : tie.Need-returns invariant-loop decreases-loop
-returns c = putting-ends c.before.loop.invariant.0 (omega (arith, c.loop-test.false))
+returns c = putting_ends c.before.loop.invariant.0 (omega (arith, c.loop-test.false))
 
 pub convert-all-spec : {M : Type 1} → statement M
 convert-all-spec =

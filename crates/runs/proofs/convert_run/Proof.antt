@@ -3,7 +3,7 @@ use mathlib.Core.Path.{ap, ◌∙◌}
 use mathlib.Core.List.{List}
 use Rattle.leap_table.specs.rows.Table.{Row}
 use Rattle.leap_table.specs.rows.Announced.{rows_of, table_of}
-use Rattle.leap_table.proofs.rows.ByParts.{rows_in}
+use Rattle.leap_table.proofs.rows.ByParts.{rows_in_lem}
 use Rattle.runs.specs.Run.{run_by}
 use Rattle.runs.proofs.Calls.{table-refused, table_taken}
 use borrow.Author.Rules.{rules}
@@ -29,7 +29,7 @@ returns-2 c =
     let z = back in
     at-convert-run-by-arrays.convert-run-by-arrays.ensures
     ∙ ap (λ (l : List Row). run_by l a.from a.to a.jd1s.now a.jd2s.now a.out1.now a.out2.now a.numbers.now)
-    (rows_in a.t5 z.size_of.result z.size_of.ensures)
+    (rows_in_lem a.t5 z.size_of.result z.size_of.ensures)
     ∙ table_taken (table_of a.t5) (rows_of a.t5) q.table-refusal.result q.table-refusal.ensures a.from a.to a.jd1s.now a.jd2s.now
     a.out1.now a.out2.now a.numbers.now
     at-if1.if1.false

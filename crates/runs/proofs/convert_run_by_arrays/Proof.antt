@@ -1,6 +1,6 @@
 -- `runs::convert_run_by_arrays` meets its contract. Assumes nothing.
 use mathlib.Core.Path.{refl, sym, ◌∙◌}
-use Rattle.leap_table.specs.rows.Announced.{rowsIn}
+use Rattle.leap_table.specs.rows.Announced.{rows_in}
 use Rattle.runs.proofs.Short.{short-run}
 use Rattle.runs.proofs.Calls.{run-refused, roomy, run_ends}
 use borrow.Author.Rules.{rules}
@@ -11,7 +11,7 @@ returns : tie.Need-returns
 returns c =
     let a = c.before.before.before.before.before.before.before.args in
     let q = c.before.run-refusal in
-    run-refused (rowsIn a.size a.months.now a.seconds.now) a.from a.to a.jd1s.now a.jd2s.now a.out1.now a.out2.now
+    run-refused (rows_in a.size a.months.now a.seconds.now) a.from a.to a.jd1s.now a.jd2s.now a.out1.now a.out2.now
     a.numbers.now q.result q.ensures c.if1.true
 
 returns-2 : tie.Need-returns-2
@@ -22,7 +22,7 @@ returns-2 c =
     let start = at-is-short.before.before.before.before.before.before.before.before in
     let a = start.args in
     at-formula-run.formula-run.ensures
-    ∙ short-run (rowsIn a.size a.months.now a.seconds.now) a.from a.to
+    ∙ short-run (rows_in a.size a.months.now a.seconds.now) a.from a.to
     (sym at-is-short.is-short.ensures
     ∙ at-if2.if2.true) a.jd1s.now a.jd2s.now _
     a.out1.now a.out2.now a.numbers.now refl
@@ -34,7 +34,7 @@ convert-all-requires c κs =
     let start = at-run-refusal.before.before.before.before.before.before in
     let a = start.args in
     let q = at-run-refusal.run-refusal in
-    roomy (rowsIn a.size a.months.now a.seconds.now) a.from a.to a.jd1s.now a.jd2s.now a.out1.now a.out2.now
+    roomy (rows_in a.size a.months.now a.seconds.now) a.from a.to a.jd1s.now a.jd2s.now a.out1.now a.out2.now
     a.numbers.now q.result q.ensures at-if1.if1.false
 
 returns-3 : tie.Need-returns-3
@@ -45,7 +45,7 @@ returns-3 c =
     let start = at-run-refusal.before.before.before.before.before.before in
     let a = start.args in
     let q = at-run-refusal.run-refusal in
-    run_ends (rowsIn a.size a.months.now a.seconds.now) a.from a.to a.jd1s.now a.jd2s.now a.out1.now a.out2.now
+    run_ends (rows_in a.size a.months.now a.seconds.now) a.from a.to a.jd1s.now a.jd2s.now a.out1.now a.out2.now
     a.numbers.now q.result q.ensures
     at-if1.if1.false _ _ _ _
     at-convert-all.convert-all.ensures

@@ -1,6 +1,6 @@
 -- `runs::convert_stamp` meets its contract. Assumes nothing.
 use mathlib.Core.Path.{ap, ◌∙◌}
-use Rattle.leap_table.specs.rows.Announced.{rowsIn}
+use Rattle.leap_table.specs.rows.Announced.{rows_in}
 use Rattle.runs.specs.ways.Ways.{way_of}
 use Rattle.runs.proofs.by_formula.Puts.{put_same}
 use borrow.Author.Rules.{rules}
@@ -15,7 +15,7 @@ returns c =
     let at-stamp-of = at-next-hand.before in
     let a = at-stamp-of.before.before.before.before.before.args in (
       put_same
-          (k.convert-with.ensures ∙ ap (way_of (rowsIn a.size a.months.now a.seconds.now) a.from a.to)
+          (k.convert-with.ensures ∙ ap (way_of (rows_in a.size a.months.now a.seconds.now) a.from a.to)
           at-stamp-of.stamp-of.ensures)
           at-put-answer.put-answer.ensures,
       at-next-hand.next-hand.ensures,

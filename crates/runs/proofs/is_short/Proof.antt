@@ -1,20 +1,20 @@
 -- `runs::is_short` meets its contract. Assumes nothing.
 use mathlib.Core.Path.{sym, ◌∙◌}
-use Rattle.runs.specs.Asked.{isShort}
+use Rattle.runs.specs.Asked.{is_short}
 use borrow.Author.Rules.{rules}
 use Rattle.runs.proofs.is_short.Statement.{statement}
 use Rattle.runs.proofs.is_short.Tie as tie
 
 returns : tie.Need-returns
-unfolding isShort
+unfolding is_short
 returns c = rw (sym c.before.are.ensures ∙ c.if1.true)
 
 returns-2 : tie.Need-returns-2
-unfolding isShort
+unfolding is_short
 returns-2 c = rw (sym c.before.before.before.are.ensures ∙ c.before.before.if1.false, sym c.before.are2.ensures ∙ c.if2.true)
 
 returns-3 : tie.Need-returns-3
-unfolding isShort
+unfolding is_short
 returns-3 c = rw (
   sym c.before.before.before.before.before.are.ensures ∙ c.before.before.before.before.if1.false,
   sym c.before.before.before.are2.ensures ∙ c.before.before.if2.false,
@@ -22,7 +22,7 @@ returns-3 c = rw (
 )
 
 returns-4 : tie.Need-returns-4
-unfolding isShort
+unfolding is_short
 returns-4 c = rw (
   sym c.before.before.before.before.before.before.before.are.ensures
       ∙ c.before.before.before.before.before.before.if1.false,
@@ -33,7 +33,7 @@ returns-4 c = rw (
 )
 
 returns-5 : tie.Need-returns-5
-unfolding isShort
+unfolding is_short
 returns-5 c = rw (
   sym c.before.before.before.before.before.before.before.before.before.are.ensures
       ∙ c.before.before.before.before.before.before.before.before.if1.false,
@@ -44,7 +44,7 @@ returns-5 c = rw (
 )
 
 returns-6 : tie.Need-returns-6
-unfolding isShort
+unfolding is_short
 returns-6 c =
     let at-if4 = c.before.before.before in
     let at-are4 = at-if4.before in

@@ -14,42 +14,42 @@ use lib.Ieee.Scale.{finite}
 use borrow.Author.Tests.{eq-eqb, le-leb, eqb-true, leb-true}
 use Rattle.refusals.specs.Outcome.{Outcome, answer, refusal, onward}
 use Rattle.julian.specs.declared.JulianDate.{JulianDate}
-use Rattle.julian.specs.Finite.{finiteParts}
-use Rattle.numerals.specs.little_endian.LittleEndian.{u64At}
+use Rattle.julian.specs.Finite.{finite_parts}
+use Rattle.numerals.specs.little_endian.LittleEndian.{u64_at}
 use Rattle.floats.specs.Whole.{nought}
-use Rattle.julian.specs.shifts.SmallerPart.{mapSmallerPart}
-use Rattle.julian.specs.shifts.Shifts.{daysOf, converted, convertedBy}
+use Rattle.julian.specs.shifts.SmallerPart.{map_smaller_part}
+use Rattle.julian.specs.shifts.Shifts.{days_of, converted, converted_by}
 use Rattle.julian.proofs.shifts.Outcomes.{first, first_by, and_left, and_right}
 use Rattle.scales.specs.Conversions.{Conversion, answer_of}
-use Rattle.julian.specs.stamp_lists.Stamps.{stampOf}
-use Rattle.runs.specs.by_formula.Run.{RunCall, runCall, runWritten}
-use Rattle.runs.specs.by_formula.Formula.{formulaOf, byFormula, formulaAnswer, takesOffset, lengthsRefusal, formulaRefusal, formulaRun}
-use Rattle.runs.specs.laws.NotFiniteStamps.{StampNotFinite, notZeroIn}
+use Rattle.julian.specs.stamp_lists.Stamps.{stamp_of}
+use Rattle.runs.specs.by_formula.Run.{RunCall, run_call, run_written}
+use Rattle.runs.specs.by_formula.Formula.{formula_of, by_formula, formula_answer, takes_offset, lengths_refusal, formula_refusal, formula_run}
+use Rattle.runs.specs.laws.NotFiniteStamps.{StampNotFinite, not_zero_in}
 use Rattle.runs.specs.laws.Done.{StampDone, SpareStays}
-use Rattle.runs.specs.laws.EachFormula.{EachFormula, OffsetPair, tai-ut1-pair, ut1-tai-pair, ut1-tt-pair, tt-ut1-pair, tt-tdb-pair, tdb-tt-pair}
-use Rattle.runs.specs.laws.EachFormula.{FormulaPair, gps-tai-pair, tai-gps-pair, tai-tt-pair, tt-tai-pair, tt-tcg-pair, tcg-tt-pair, tcb-tdb-pair}
-use Rattle.runs.specs.laws.EachFormula.{tdb-tcb-pair, offset-pair, FormulaRefusal, dueOf, LengthsDue}
-use Rattle.runs.proofs.laws.Refusing.{pattern-not-finite}
+use Rattle.runs.specs.laws.EachFormula.{EachFormula, OffsetPair, tai_ut1_pair, ut1_tai_pair, ut1_tt_pair, tt_ut1_pair, tt_tdb_pair, tdb_tt_pair}
+use Rattle.runs.specs.laws.EachFormula.{FormulaPair, gps_tai_pair, tai_gps_pair, tai_tt_pair, tt_tai_pair, tt_tcg_pair, tcg_tt_pair, tcb_tdb_pair}
+use Rattle.runs.specs.laws.EachFormula.{tdb_tcb_pair, offset_pair, FormulaRefusal, due_of, LengthsDue}
+use Rattle.runs.proofs.laws.Refusing.{pattern_not_finite}
 use Rattle.runs.proofs.laws.Written.{stamp-written, spare-kept, count-written}
 
 -- ---- EACH PAIR of scales is one conversion of document 01
 pub each-formula : (seconds : Float) (d : JulianDate) → EachFormula seconds d
-unfolding byFormula formulaOf onward
+unfolding by_formula formula_of onward
 each-formula seconds d = record {
-  gps-to-tai = refl;
-  tai-to-gps = refl;
-  tai-to-tt = refl;
-  tt-to-tai = refl;
+  gps_to_tai = refl;
+  tai_to_gps = refl;
+  tai_to_tt = refl;
+  tt_to_tai = refl;
   tt-to-tcg = refl;
   tcg-to-tt = refl;
   tcb-to-tdb = refl;
   tdb-to-tcb = refl;
-  tai-to-ut1 = refl;
-  ut1-to-tai = refl;
-  ut1-to-tt = refl;
-  tt-to-ut1 = refl;
-  tt-to-tdb = refl;
-  tdb-to-tt = refl;
+  tai_to_ut1 = refl;
+  ut1_to_tai = refl;
+  ut1_to_tt = refl;
+  tt_to_ut1 = refl;
+  tt_to_tdb = refl;
+  tdb_to_tt = refl;
 }
 
 -- ---- AND NO OTHER
@@ -66,103 +66,103 @@ module _ (from to : ℕ) (seconds : Float) where
   next true x rest c here later e = here refl
   next false x rest c here later e = later e
 
-  pub no-other-pair : (c : Conversion) → formulaOf from to seconds ≡ answer c → FormulaPair from to
-  unfolding formulaOf
-  no-other-pair c =
-      next _ _ _ c (is 4 1 gps-tai-pair)
-      (next _ _ _ c (is 1 4 tai-gps-pair)
-      (next _ _ _ c (is 1 3 tai-tt-pair)
-      (next _ _ _ c (is 3 1 tt-tai-pair)
-      (next _ _ _ c (is 3 5 tt-tcg-pair)
-      (next _ _ _ c (is 5 3 tcg-tt-pair)
-      (next _ _ _ c (is 6 7 tcb-tdb-pair)
-      (next _ _ _ c (is 7 6 tdb-tcb-pair)
-      (next _ _ _ c (is 1 2 (offset-pair tai-ut1-pair))
-      (next _ _ _ c (is 2 1 (offset-pair ut1-tai-pair))
-      (next _ _ _ c (is 2 3 (offset-pair ut1-tt-pair))
-      (next _ _ _ c (is 3 2 (offset-pair tt-ut1-pair))
-      (next _ _ _ c (is 3 7 (offset-pair tt-tdb-pair))
-      (next _ _ _ c (is 7 3 (offset-pair tdb-tt-pair))
+  pub no_other_pair : (c : Conversion) → formula_of from to seconds ≡ answer c → FormulaPair from to
+  unfolding formula_of
+  no_other_pair c =
+      next _ _ _ c (is 4 1 gps_tai_pair)
+      (next _ _ _ c (is 1 4 tai_gps_pair)
+      (next _ _ _ c (is 1 3 tai_tt_pair)
+      (next _ _ _ c (is 3 1 tt_tai_pair)
+      (next _ _ _ c (is 3 5 tt_tcg_pair)
+      (next _ _ _ c (is 5 3 tcg_tt_pair)
+      (next _ _ _ c (is 6 7 tcb_tdb_pair)
+      (next _ _ _ c (is 7 6 tdb_tcb_pair)
+      (next _ _ _ c (is 1 2 (offset_pair tai_ut1_pair))
+      (next _ _ _ c (is 2 1 (offset_pair ut1_tai_pair))
+      (next _ _ _ c (is 2 3 (offset_pair ut1_tt_pair))
+      (next _ _ _ c (is 3 2 (offset_pair tt_ut1_pair))
+      (next _ _ _ c (is 3 7 (offset_pair tt_tdb_pair))
+      (next _ _ _ c (is 7 3 (offset_pair tdb_tt_pair))
       (λ e. let z : ◌≡◌ {A = ℕ} 0 1 = cc e in let w : ⊥ = omega arith in absurd w))))))))))))))
 
 -- ---- WHY A STAMP IS REFUSED: 9 for a not-finite part, then 10 for a not-finite offset, and for nothing else
 by-change : (f : Float → Float → Float) (seconds : Float) (d : JulianDate) (k : ℕ) → converted f d ≡ refusal k → FormulaRefusal seconds d k
-by-change f seconds d k e = go (finiteParts d) refl (sym (first f d) ∙ e)
+by-change f seconds d k e = go (finite_parts d) refl (sym (first f d) ∙ e)
   where
-    go : (b : Bool) → finiteParts d ≡ b → cond b (answer (mapSmallerPart f d)) (refusal 9) ≡ refusal k → FormulaRefusal seconds d k
+    go : (b : Bool) → finite_parts d ≡ b → cond b (answer (map_smaller_part f d)) (refusal 9) ≡ refusal k → FormulaRefusal seconds d k
     go true p q = let z : ◌≡◌ {A = ℕ} 0 1 = cc q in let w : ⊥ = omega arith in absurd w
     go false p q = inl (p, cc q)
 
-by-offset : (f : Float → Float → Float → Float) (seconds : Float) (d : JulianDate) (k : ℕ) → convertedBy f seconds d ≡ refusal k → FormulaRefusal seconds d k
-by-offset f seconds d k e = go (finiteParts d) (finite seconds) refl refl (sym (first_by f seconds d) ∙ e)
+by-offset : (f : Float → Float → Float → Float) (seconds : Float) (d : JulianDate) (k : ℕ) → converted_by f seconds d ≡ refusal k → FormulaRefusal seconds d k
+by-offset f seconds d k e = go (finite_parts d) (finite seconds) refl refl (sym (first_by f seconds d) ∙ e)
   where
-    go : (b c : Bool) → finiteParts d ≡ b → finite seconds ≡ c
-        → cond b (cond c (answer (mapSmallerPart (f (daysOf seconds)) d)) (refusal 10)) (refusal 9) ≡ refusal k → FormulaRefusal seconds d k
+    go : (b c : Bool) → finite_parts d ≡ b → finite seconds ≡ c
+        → cond b (cond c (answer (map_smaller_part (f (days_of seconds)) d)) (refusal 10)) (refusal 9) ≡ refusal k → FormulaRefusal seconds d k
     go true true p s q = let z : ◌≡◌ {A = ℕ} 0 1 = cc q in let w : ⊥ = omega arith in absurd w
     go true false p s q = inr ((p, s), cc q)
     go false c p s q = inl (p, cc q)
 
 module _ (seconds : Float) (d : JulianDate) where
-  by-given : (from to : ℕ) → OffsetPair from to → (k : ℕ) → byFormula from to seconds d ≡ refusal k → FormulaRefusal seconds d k
-  unfolding byFormula formulaOf onward answer_of
-  by-given _ _ tai-ut1-pair k e = by-offset _ seconds d k e
-  by-given _ _ ut1-tai-pair k e = by-offset _ seconds d k e
-  by-given _ _ ut1-tt-pair k e = by-offset _ seconds d k e
-  by-given _ _ tt-ut1-pair k e = by-offset _ seconds d k e
-  by-given _ _ tt-tdb-pair k e = by-offset _ seconds d k e
-  by-given _ _ tdb-tt-pair k e = by-offset _ seconds d k e
+  by-given : (from to : ℕ) → OffsetPair from to → (k : ℕ) → by_formula from to seconds d ≡ refusal k → FormulaRefusal seconds d k
+  unfolding by_formula formula_of onward answer_of
+  by-given _ _ tai_ut1_pair k e = by-offset _ seconds d k e
+  by-given _ _ ut1_tai_pair k e = by-offset _ seconds d k e
+  by-given _ _ ut1_tt_pair k e = by-offset _ seconds d k e
+  by-given _ _ tt_ut1_pair k e = by-offset _ seconds d k e
+  by-given _ _ tt_tdb_pair k e = by-offset _ seconds d k e
+  by-given _ _ tdb_tt_pair k e = by-offset _ seconds d k e
 
-  pub why-refused : (from to : ℕ) → FormulaPair from to → (k : ℕ) → byFormula from to seconds d ≡ refusal k → FormulaRefusal seconds d k
-  unfolding byFormula formulaOf onward answer_of
-  why-refused _ _ gps-tai-pair k e = by-change _ seconds d k e
-  why-refused _ _ tai-gps-pair k e = by-change _ seconds d k e
-  why-refused _ _ tai-tt-pair k e = by-change _ seconds d k e
-  why-refused _ _ tt-tai-pair k e = by-change _ seconds d k e
-  why-refused _ _ tt-tcg-pair k e = by-change _ seconds d k e
-  why-refused _ _ tcg-tt-pair k e = by-change _ seconds d k e
-  why-refused _ _ tcb-tdb-pair k e = by-change _ seconds d k e
-  why-refused _ _ tdb-tcb-pair k e = by-change _ seconds d k e
-  why-refused from to (offset-pair p) k e = by-given from to p k e
+  pub why_refused : (from to : ℕ) → FormulaPair from to → (k : ℕ) → by_formula from to seconds d ≡ refusal k → FormulaRefusal seconds d k
+  unfolding by_formula formula_of onward answer_of
+  why_refused _ _ gps_tai_pair k e = by-change _ seconds d k e
+  why_refused _ _ tai_gps_pair k e = by-change _ seconds d k e
+  why_refused _ _ tai_tt_pair k e = by-change _ seconds d k e
+  why_refused _ _ tt_tai_pair k e = by-change _ seconds d k e
+  why_refused _ _ tt_tcg_pair k e = by-change _ seconds d k e
+  why_refused _ _ tcg_tt_pair k e = by-change _ seconds d k e
+  why_refused _ _ tcb_tdb_pair k e = by-change _ seconds d k e
+  why_refused _ _ tdb_tcb_pair k e = by-change _ seconds d k e
+  why_refused from to (offset_pair p) k e = by-given from to p k e
 
   -- every part that is not finite, and every offset that is not finite beside finite parts
-  not-finite-part : (f : Float → Float → Float) → finiteParts d ≡ false → converted f d ≡ refusal 9
-  not-finite-part f h = first f d ∙ rw h
+  not_finite_part : (f : Float → Float → Float) → finite_parts d ≡ false → converted f d ≡ refusal 9
+  not_finite_part f h = first f d ∙ rw h
 
-  not-finite-part-by : (f : Float → Float → Float → Float) → finiteParts d ≡ false → convertedBy f seconds d ≡ refusal 9
-  not-finite-part-by f h = first_by f seconds d ∙ rw h
+  not_finite_part_by : (f : Float → Float → Float → Float) → finite_parts d ≡ false → converted_by f seconds d ≡ refusal 9
+  not_finite_part_by f h = first_by f seconds d ∙ rw h
 
-  not-finite-offset-by : (f : Float → Float → Float → Float) → finiteParts d ≡ true → finite seconds ≡ false → convertedBy f seconds d ≡ refusal 10
-  not-finite-offset-by f h k = first_by f seconds d ∙ rw (h, k)
+  not_finite_offset_by : (f : Float → Float → Float → Float) → finite_parts d ≡ true → finite seconds ≡ false → converted_by f seconds d ≡ refusal 10
+  not_finite_offset_by f h k = first_by f seconds d ∙ rw (h, k)
 
-  pub not-finite-offset-refused : (from to : ℕ) → OffsetPair from to → finiteParts d ≡ true → finite seconds ≡ false → byFormula from to seconds d ≡ refusal 10
-  unfolding byFormula formulaOf onward answer_of
-  not-finite-offset-refused _ _ tai-ut1-pair h k = not-finite-offset-by _ h k
-  not-finite-offset-refused _ _ ut1-tai-pair h k = not-finite-offset-by _ h k
-  not-finite-offset-refused _ _ ut1-tt-pair h k = not-finite-offset-by _ h k
-  not-finite-offset-refused _ _ tt-ut1-pair h k = not-finite-offset-by _ h k
-  not-finite-offset-refused _ _ tt-tdb-pair h k = not-finite-offset-by _ h k
-  not-finite-offset-refused _ _ tdb-tt-pair h k = not-finite-offset-by _ h k
+  pub not_finite_offset_refused : (from to : ℕ) → OffsetPair from to → finite_parts d ≡ true → finite seconds ≡ false → by_formula from to seconds d ≡ refusal 10
+  unfolding by_formula formula_of onward answer_of
+  not_finite_offset_refused _ _ tai_ut1_pair h k = not_finite_offset_by _ h k
+  not_finite_offset_refused _ _ ut1_tai_pair h k = not_finite_offset_by _ h k
+  not_finite_offset_refused _ _ ut1_tt_pair h k = not_finite_offset_by _ h k
+  not_finite_offset_refused _ _ tt_ut1_pair h k = not_finite_offset_by _ h k
+  not_finite_offset_refused _ _ tt_tdb_pair h k = not_finite_offset_by _ h k
+  not_finite_offset_refused _ _ tdb_tt_pair h k = not_finite_offset_by _ h k
 
-  not-finite-given : (from to : ℕ) → OffsetPair from to → finiteParts d ≡ false → byFormula from to seconds d ≡ refusal 9
-  unfolding byFormula formulaOf onward answer_of
-  not-finite-given _ _ tai-ut1-pair h = not-finite-part-by _ h
-  not-finite-given _ _ ut1-tai-pair h = not-finite-part-by _ h
-  not-finite-given _ _ ut1-tt-pair h = not-finite-part-by _ h
-  not-finite-given _ _ tt-ut1-pair h = not-finite-part-by _ h
-  not-finite-given _ _ tt-tdb-pair h = not-finite-part-by _ h
-  not-finite-given _ _ tdb-tt-pair h = not-finite-part-by _ h
+  not_finite_given : (from to : ℕ) → OffsetPair from to → finite_parts d ≡ false → by_formula from to seconds d ≡ refusal 9
+  unfolding by_formula formula_of onward answer_of
+  not_finite_given _ _ tai_ut1_pair h = not_finite_part_by _ h
+  not_finite_given _ _ ut1_tai_pair h = not_finite_part_by _ h
+  not_finite_given _ _ ut1_tt_pair h = not_finite_part_by _ h
+  not_finite_given _ _ tt_ut1_pair h = not_finite_part_by _ h
+  not_finite_given _ _ tt_tdb_pair h = not_finite_part_by _ h
+  not_finite_given _ _ tdb_tt_pair h = not_finite_part_by _ h
 
-  pub not-finite-part-refused : (from to : ℕ) → FormulaPair from to → finiteParts d ≡ false → byFormula from to seconds d ≡ refusal 9
-  unfolding byFormula formulaOf onward answer_of
-  not-finite-part-refused _ _ gps-tai-pair h = not-finite-part _ h
-  not-finite-part-refused _ _ tai-gps-pair h = not-finite-part _ h
-  not-finite-part-refused _ _ tai-tt-pair h = not-finite-part _ h
-  not-finite-part-refused _ _ tt-tai-pair h = not-finite-part _ h
-  not-finite-part-refused _ _ tt-tcg-pair h = not-finite-part _ h
-  not-finite-part-refused _ _ tcg-tt-pair h = not-finite-part _ h
-  not-finite-part-refused _ _ tcb-tdb-pair h = not-finite-part _ h
-  not-finite-part-refused _ _ tdb-tcb-pair h = not-finite-part _ h
-  not-finite-part-refused from to (offset-pair p) h = not-finite-given from to p h
+  pub not_finite_part_refused : (from to : ℕ) → FormulaPair from to → finite_parts d ≡ false → by_formula from to seconds d ≡ refusal 9
+  unfolding by_formula formula_of onward answer_of
+  not_finite_part_refused _ _ gps_tai_pair h = not_finite_part _ h
+  not_finite_part_refused _ _ tai_gps_pair h = not_finite_part _ h
+  not_finite_part_refused _ _ tai_tt_pair h = not_finite_part _ h
+  not_finite_part_refused _ _ tt_tai_pair h = not_finite_part _ h
+  not_finite_part_refused _ _ tt_tcg_pair h = not_finite_part _ h
+  not_finite_part_refused _ _ tcg_tt_pair h = not_finite_part _ h
+  not_finite_part_refused _ _ tcb_tdb_pair h = not_finite_part _ h
+  not_finite_part_refused _ _ tdb_tcb_pair h = not_finite_part _ h
+  not_finite_part_refused from to (offset_pair p) h = not_finite_given from to p h
 
 -- so that a byte holds each number
 below-256 : (seconds : Float) (d : JulianDate) (k : ℕ) → FormulaRefusal seconds d k → k < 256
@@ -170,54 +170,54 @@ below-256 seconds d k (inl (p, e)) = omega arith
 below-256 seconds d k (inr (p, e)) = omega arith
 
 -- ---- A REFUSED CALL writes nothing
-pub formula-refused-writes-nothing : (from to : ℕ) (js ks os out1 out2 numbers : List ℕ) (k : ℕ)
-    → (formulaRun from to js ks os out1 out2 numbers).answer ≡ refusal k
-    → formulaRun from to js ks os out1 out2 numbers ≡ runCall (refusal k) out1 out2 numbers
-unfolding formulaRun runWritten
-formula-refused-writes-nothing from to js ks os out1 out2 numbers k e = go (eqb number 0) e
+pub formula_refused_writes_nothing : (from to : ℕ) (js ks os out1 out2 numbers : List ℕ) (k : ℕ)
+    → (formula_run from to js ks os out1 out2 numbers).answer ≡ refusal k
+    → formula_run from to js ks os out1 out2 numbers ≡ run_call (refusal k) out1 out2 numbers
+unfolding formula_run run_written
+formula_refused_writes_nothing from to js ks os out1 out2 numbers k e = go (eqb number 0) e
   where
     number : ℕ
-    number = formulaRefusal from to (length js) (length ks) (length os) (length out1) (length out2) (length numbers)
+    number = formula_refusal from to (length js) (length ks) (length os) (length out1) (length out2) (length numbers)
 
-    go : (b : Bool) → (cond b (runWritten (formulaAnswer from to js ks os) (length js / 8) out1 out2 numbers) (runCall (refusal number) out1 out2 numbers)
+    go : (b : Bool) → (cond b (run_written (formula_answer from to js ks os) (length js / 8) out1 out2 numbers) (run_call (refusal number) out1 out2 numbers)
         ).answer ≡ refusal k
-        → cond b (runWritten (formulaAnswer from to js ks os) (length js / 8) out1 out2 numbers) (runCall (refusal number) out1 out2 numbers) ≡ runCall
+        → cond b (run_written (formula_answer from to js ks os) (length js / 8) out1 out2 numbers) (run_call (refusal number) out1 out2 numbers) ≡ run_call
         (refusal k) out1 out2 numbers
     go true q = let z : ◌≡◌ {A = ℕ} 0 1 = cc q in let w : ⊥ = omega arith in absurd w
-    go false q = ap (λ (x : Outcome ℕ). runCall x out1 out2 numbers) q
+    go false q = ap (λ (x : Outcome ℕ). run_call x out1 out2 numbers) q
 
 -- ---- THE ORDER of the refusals, by calls that break each rule and all behind it: scales, lengths, sizes, places
-pub formula-refusals-in-order :
-    (formulaRefusal 1 5 7 0 0 0 0 0 ≡ 18) × (formulaRefusal 0 2 7 0 0 0 0 0 ≡ 18) × (formulaRefusal 4 4 8 8 0 8 8 1 ≡ 18)
-    × (formulaRefusal 7 6 7 0 8 0 0 0 ≡ 14) × (formulaRefusal 7 6 8 15 8 0 0 0 ≡ 14) × (formulaRefusal 7 6 8 0 7 0 0 0 ≡ 14)
-    × (formulaRefusal 7 6 8 0 8 0 0 0 ≡ 12) × (formulaRefusal 7 6 8 8 8 0 0 0 ≡ 12) × (formulaRefusal 7 3 8 8 0 0 0 0 ≡ 12)
-    × (formulaRefusal 7 6 8 8 0 7 8 1 ≡ 11) × (formulaRefusal 7 6 8 8 0 8 7 1 ≡ 11) × (formulaRefusal 7 3 8 8 8 8 8 0 ≡ 11)
-    × (formulaRefusal 7 6 8 8 0 8 8 1 ≡ 0) × (formulaRefusal 7 3 8 8 8 8 8 1 ≡ 0) × (formulaRefusal 3 7 0 0 0 0 0 0 ≡ 0)
-unfolding formulaRefusal formulaOf lengthsRefusal takesOffset
-formula-refusals-in-order = (refl, refl, refl, refl, refl, refl, refl, refl, refl, refl, refl, refl, refl, refl, refl)
+pub formula_refusals_in_order :
+    (formula_refusal 1 5 7 0 0 0 0 0 ≡ 18) × (formula_refusal 0 2 7 0 0 0 0 0 ≡ 18) × (formula_refusal 4 4 8 8 0 8 8 1 ≡ 18)
+    × (formula_refusal 7 6 7 0 8 0 0 0 ≡ 14) × (formula_refusal 7 6 8 15 8 0 0 0 ≡ 14) × (formula_refusal 7 6 8 0 7 0 0 0 ≡ 14)
+    × (formula_refusal 7 6 8 0 8 0 0 0 ≡ 12) × (formula_refusal 7 6 8 8 8 0 0 0 ≡ 12) × (formula_refusal 7 3 8 8 0 0 0 0 ≡ 12)
+    × (formula_refusal 7 6 8 8 0 7 8 1 ≡ 11) × (formula_refusal 7 6 8 8 0 8 7 1 ≡ 11) × (formula_refusal 7 3 8 8 8 8 8 0 ≡ 11)
+    × (formula_refusal 7 6 8 8 0 8 8 1 ≡ 0) × (formula_refusal 7 3 8 8 8 8 8 1 ≡ 0) × (formula_refusal 3 7 0 0 0 0 0 0 ≡ 0)
+unfolding formula_refusal formula_of lengths_refusal takes_offset
+formula_refusals_in_order = (refl, refl, refl, refl, refl, refl, refl, refl, refl, refl, refl, refl, refl, refl, refl)
 
 -- ---- TWO OTHER SCALES are 18
-eighteen-next : (b : Bool) (x : Conversion) (rest : Outcome Conversion) (k : ℕ) → (rest ≡ refusal k → k ≡ 18) → cond b (answer x) rest ≡ refusal k → k ≡ 18
-eighteen-next true x rest k later e = let z : ◌≡◌ {A = ℕ} 0 1 = cc e in let w : ⊥ = omega arith in absurd w
-eighteen-next false x rest k later e = later e
+eighteen_next : (b : Bool) (x : Conversion) (rest : Outcome Conversion) (k : ℕ) → (rest ≡ refusal k → k ≡ 18) → cond b (answer x) rest ≡ refusal k → k ≡ 18
+eighteen_next true x rest k later e = let z : ◌≡◌ {A = ℕ} 0 1 = cc e in let w : ⊥ = omega arith in absurd w
+eighteen_next false x rest k later e = later e
 
-pub other-scales-18 : (from to : ℕ) (seconds : Float) (k : ℕ) → formulaOf from to seconds ≡ refusal k → k ≡ 18
-unfolding formulaOf
-other-scales-18 from to seconds k =
-    eighteen-next (eqb from 4 && eqb to 1) _ _ k
-    (eighteen-next (eqb from 1 && eqb to 4) _ _ k
-    (eighteen-next (eqb from 1 && eqb to 3) _ _ k
-    (eighteen-next (eqb from 3 && eqb to 1) _ _ k
-    (eighteen-next (eqb from 3 && eqb to 5) _ _ k
-    (eighteen-next (eqb from 5 && eqb to 3) _ _ k
-    (eighteen-next (eqb from 6 && eqb to 7) _ _ k
-    (eighteen-next (eqb from 7 && eqb to 6) _ _ k
-    (eighteen-next (eqb from 1 && eqb to 2) _ _ k
-    (eighteen-next (eqb from 2 && eqb to 1) _ _ k
-    (eighteen-next (eqb from 2 && eqb to 3) _ _ k
-    (eighteen-next (eqb from 3 && eqb to 2) _ _ k
-    (eighteen-next (eqb from 3 && eqb to 7) _ _ k
-    (eighteen-next (eqb from 7 && eqb to 3) _ _ k
+pub other_scales_18 : (from to : ℕ) (seconds : Float) (k : ℕ) → formula_of from to seconds ≡ refusal k → k ≡ 18
+unfolding formula_of
+other_scales_18 from to seconds k =
+    eighteen_next (eqb from 4 && eqb to 1) _ _ k
+    (eighteen_next (eqb from 1 && eqb to 4) _ _ k
+    (eighteen_next (eqb from 1 && eqb to 3) _ _ k
+    (eighteen_next (eqb from 3 && eqb to 1) _ _ k
+    (eighteen_next (eqb from 3 && eqb to 5) _ _ k
+    (eighteen_next (eqb from 5 && eqb to 3) _ _ k
+    (eighteen_next (eqb from 6 && eqb to 7) _ _ k
+    (eighteen_next (eqb from 7 && eqb to 6) _ _ k
+    (eighteen_next (eqb from 1 && eqb to 2) _ _ k
+    (eighteen_next (eqb from 2 && eqb to 1) _ _ k
+    (eighteen_next (eqb from 2 && eqb to 3) _ _ k
+    (eighteen_next (eqb from 3 && eqb to 2) _ _ k
+    (eighteen_next (eqb from 3 && eqb to 7) _ _ k
+    (eighteen_next (eqb from 7 && eqb to 3) _ _ k
     (λ e. cc e))))))))))))))
 
 -- ---- THE LENGTHS with which a call is answered: exactly those that are due, of the offsets as many as of the first parts for the pairs that take some, and
@@ -265,60 +265,60 @@ module _ (size1 size2 size3 room1 room2 room : ℕ) where
     le-leb (size1 / 8) room l.bytes,
   )
 
-  judged-given : (from to : ℕ) → OffsetPair from to → formulaRefusal from to size1 size2 size3 room1 room2 room ≡ judged size1
-  unfolding formulaRefusal formulaOf lengthsRefusal takesOffset
-  judged-given _ _ tai-ut1-pair = refl
-  judged-given _ _ ut1-tai-pair = refl
-  judged-given _ _ ut1-tt-pair = refl
-  judged-given _ _ tt-ut1-pair = refl
-  judged-given _ _ tt-tdb-pair = refl
-  judged-given _ _ tdb-tt-pair = refl
+  judged-given : (from to : ℕ) → OffsetPair from to → formula_refusal from to size1 size2 size3 room1 room2 room ≡ judged size1
+  unfolding formula_refusal formula_of lengths_refusal takes_offset
+  judged-given _ _ tai_ut1_pair = refl
+  judged-given _ _ ut1_tai_pair = refl
+  judged-given _ _ ut1_tt_pair = refl
+  judged-given _ _ tt_ut1_pair = refl
+  judged-given _ _ tt_tdb_pair = refl
+  judged-given _ _ tdb_tt_pair = refl
 
-  judged-pair : (from to : ℕ) (p : FormulaPair from to) → formulaRefusal from to size1 size2 size3 room1 room2 room ≡ judged (dueOf p size1)
-  unfolding formulaRefusal formulaOf lengthsRefusal takesOffset dueOf
-  judged-pair _ _ gps-tai-pair = refl
-  judged-pair _ _ tai-gps-pair = refl
-  judged-pair _ _ tai-tt-pair = refl
-  judged-pair _ _ tt-tai-pair = refl
-  judged-pair _ _ tt-tcg-pair = refl
-  judged-pair _ _ tcg-tt-pair = refl
-  judged-pair _ _ tcb-tdb-pair = refl
-  judged-pair _ _ tdb-tcb-pair = refl
-  judged-pair from to (offset-pair p) = judged-given from to p
+  judged-pair : (from to : ℕ) (p : FormulaPair from to) → formula_refusal from to size1 size2 size3 room1 room2 room ≡ judged (due_of p size1)
+  unfolding formula_refusal formula_of lengths_refusal takes_offset due_of
+  judged-pair _ _ gps_tai_pair = refl
+  judged-pair _ _ tai_gps_pair = refl
+  judged-pair _ _ tai_tt_pair = refl
+  judged-pair _ _ tt_tai_pair = refl
+  judged-pair _ _ tt_tcg_pair = refl
+  judged-pair _ _ tcg_tt_pair = refl
+  judged-pair _ _ tcb_tdb_pair = refl
+  judged-pair _ _ tdb_tcb_pair = refl
+  judged-pair from to (offset_pair p) = judged-given from to p
 
-  pub answered-lengths : (from to : ℕ) (p : FormulaPair from to) → formulaRefusal from to size1 size2 size3 room1 room2 room ≡ 0
-      → LengthsDue size1 size2 size3 (dueOf p size1) room1 room2 room
-  answered-lengths from to p z = lengths (dueOf p size1) (sym (judged-pair from to p) ∙ z)
+  pub answered-lengths : (from to : ℕ) (p : FormulaPair from to) → formula_refusal from to size1 size2 size3 room1 room2 room ≡ 0
+      → LengthsDue size1 size2 size3 (due_of p size1) room1 room2 room
+  answered-lengths from to p z = lengths (due_of p size1) (sym (judged-pair from to p) ∙ z)
 
-  pub lengths-answered : (from to : ℕ) (p : FormulaPair from to) → LengthsDue size1 size2 size3 (dueOf p size1) room1 room2 room
-      → formulaRefusal from to size1 size2 size3 room1 room2 room ≡ 0
-  lengths-answered from to p l = judged-pair from to p ∙ lengths-pass (dueOf p size1) l
+  pub lengths-answered : (from to : ℕ) (p : FormulaPair from to) → LengthsDue size1 size2 size3 (due_of p size1) room1 room2 room
+      → formula_refusal from to size1 size2 size3 room1 room2 room ≡ 0
+  lengths-answered from to p l = judged-pair from to p ∙ lengths-pass (due_of p size1) l
 
   -- a call that is answered is of a pair
-  answered-pair : (from to : ℕ) (o : Outcome Conversion) → formulaOf from to nought ≡ o → lengthsRefusal o size1 size2 size3 room1 room2 room ≡ 0
+  answered-pair : (from to : ℕ) (o : Outcome Conversion) → formula_of from to nought ≡ o → lengths_refusal o size1 size2 size3 room1 room2 room ≡ 0
       → FormulaPair from to
-  unfolding lengthsRefusal
-  answered-pair from to (answer c) e z = no-other-pair from to nought c e
-  answered-pair from to (refusal k) e z = let h : k ≡ 18 = other-scales-18 from to nought k e in let w : ⊥ = omega arith in absurd w
+  unfolding lengths_refusal
+  answered-pair from to (answer c) e z = no_other_pair from to nought c e
+  answered-pair from to (refusal k) e z = let h : k ≡ 18 = other_scales_18 from to nought k e in let w : ⊥ = omega arith in absurd w
 
 -- ---- a call that is not refused
 module _ (from to : ℕ) (js ks os out1 out2 numbers : List ℕ)
-    (z : formulaRefusal from to (length js) (length ks) (length os) (length out1) (length out2) (length numbers) ≡ 0) where
+    (z : formula_refusal from to (length js) (length ks) (length os) (length out1) (length out2) (length numbers) ≡ 0) where
   abbrev f : ℕ → Outcome JulianDate
-  f = formulaAnswer from to js ks os
+  f = formula_answer from to js ks os
 
   abbrev n : ℕ
   n = length js / 8
 
-  written : formulaRun from to js ks os out1 out2 numbers ≡ runWritten f n out1 out2 numbers
-  unfolding formulaRun
+  written : formula_run from to js ks os out1 out2 numbers ≡ run_written f n out1 out2 numbers
+  unfolding formula_run
   written = rw (eq-eqb _ 0 z)
 
   pair : FormulaPair from to
-  unfolding formulaRefusal
-  pair = answered-pair (length js) (length ks) (length os) (length out1) (length out2) (length numbers) from to (formulaOf from to nought) refl z
+  unfolding formula_refusal
+  pair = answered-pair (length js) (length ks) (length os) (length out1) (length out2) (length numbers) from to (formula_of from to nought) refl z
 
-  fits : LengthsDue (length js) (length ks) (length os) (dueOf pair (length js)) (length out1) (length out2) (length numbers)
+  fits : LengthsDue (length js) (length ks) (length os) (due_of pair (length js)) (length out1) (length out2) (length numbers)
   fits = answered-lengths (length js) (length ks) (length os) (length out1) (length out2) (length numbers) from to pair z
 
   whole : 8 * n ≤ length js
@@ -331,21 +331,21 @@ module _ (from to : ℕ) (js ks os out1 out2 numbers : List ℕ)
   room2 = omega (arith, whole, fits.places2)
 
   small : (i k : ℕ) → f i ≡ refusal k → k < 256
-  small i k e = below-256 (of_bits binary64 (u64At os (8 * i))) (stampOf js ks i) k
-      (why-refused (of_bits binary64 (u64At os (8 * i))) (stampOf js ks i) from to pair k e)
+  small i k e = below-256 (of_bits binary64 (u64_at os (8 * i))) (stamp_of js ks i) k
+      (why_refused (of_bits binary64 (u64_at os (8 * i))) (stamp_of js ks i) from to pair k e)
 
   -- EACH STAMP'S ANSWER is that of the single call, and its number is 0 or that of its refusal
-  pub formula-each-stamp : (i : ℕ) → i < n → StampDone (f i) i out1 out2 (formulaRun from to js ks os out1 out2 numbers)
-  formula-each-stamp i h = subst (StampDone (f i) i out1 out2) (sym written) (stamp-written f n out1 out2 numbers room1 room2 fits.bytes i h (small i))
+  pub formula_each_stamp : (i : ℕ) → i < n → StampDone (f i) i out1 out2 (formula_run from to js ks os out1 out2 numbers)
+  formula_each_stamp i h = subst (StampDone (f i) i out1 out2) (sym written) (stamp-written f n out1 out2 numbers room1 room2 fits.bytes i h (small i))
 
-  pub formula-spare-stays : SpareStays n out1 out2 numbers (formulaRun from to js ks os out1 out2 numbers)
-  formula-spare-stays = subst (SpareStays n out1 out2 numbers) (sym written) (spare-kept f n out1 out2 numbers room1 room2 fits.bytes)
+  pub formula_spare_stays : SpareStays n out1 out2 numbers (formula_run from to js ks os out1 out2 numbers)
+  formula_spare_stays = subst (SpareStays n out1 out2 numbers) (sym written) (spare-kept f n out1 out2 numbers room1 room2 fits.bytes)
 
   -- THE COUNT is of the numbers that are not 0
-  pub formula-count-is : (formulaRun from to js ks os out1 out2 numbers).answer ≡ answer (notZeroIn n (formulaRun from to js ks os out1 out2 numbers).numbers)
-  formula-count-is = subst (λ (c : RunCall). c.answer ≡ answer (notZeroIn n c.numbers)) (sym written)
+  pub formula_count_is : (formula_run from to js ks os out1 out2 numbers).answer ≡ answer (not_zero_in n (formula_run from to js ks os out1 out2 numbers).numbers)
+  formula_count_is = subst (λ (c : RunCall). c.answer ≡ answer (not_zero_in n c.numbers)) (sym written)
       (count-written f n out1 out2 numbers room1 room2 fits.bytes)
 
   -- EVERY STAMP THAT IS NOT FINITE is refused by 9
-  pub formula-not-finite-refused : (i : ℕ) → StampNotFinite js ks i → f i ≡ refusal 9
-  formula-not-finite-refused i h = not-finite-part-refused (of_bits binary64 (u64At os (8 * i))) (stampOf js ks i) from to pair (pattern-not-finite js ks i h)
+  pub formula_not_finite_refused : (i : ℕ) → StampNotFinite js ks i → f i ≡ refusal 9
+  formula_not_finite_refused i h = not_finite_part_refused (of_bits binary64 (u64_at os (8 * i))) (stamp_of js ks i) from to pair (pattern_not_finite js ks i h)

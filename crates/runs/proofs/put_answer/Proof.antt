@@ -1,19 +1,19 @@
 -- `runs::put_answer` meets its contract. Assumes nothing.
 use mathlib.Core.Path.{refl, ap}
-use Rattle.julian.specs.JulianDate.{julianOutcome}
+use Rattle.julian.specs.JulianDate.{julian_outcome}
 use Rattle.runs.proofs.by_formula.Puts.{put_refused, put-patterns}
 use borrow.Author.Rules.{rules}
 use Rattle.runs.proofs.put_answer.Statement.{statement}
 use Rattle.runs.proofs.put_answer.Tie as tie
 
 returns : tie.Need-returns
-unfolding julianOutcome
+unfolding julian_outcome
 returns c =
     let a = c.before.before.before.before.before.args in
-    put_refused (julianOutcome a.found) _ a.i _ a.out1.now a.out2.now (ap julianOutcome c.before.found.given.1) refl
+    put_refused (julian_outcome a.found) _ a.i _ a.out1.now a.out2.now (ap julian_outcome c.before.found.given.1) refl
 
 returns-2 : tie.Need-returns-2
-unfolding julianOutcome
+unfolding julian_outcome
 returns-2 c =
     let at-to-bits2 = c.before.before.before in
     let at-put-pattern = at-to-bits2.before.before.before.before in
@@ -21,8 +21,8 @@ returns-2 c =
     let at-found2 = at-to-bits.before.before.before in
     let start = at-found2.before.before.before.before in
     let a = start.args in
-    put-patterns (julianOutcome a.found) _ a.i a.out1.now a.out2.now _ _ _ _
-    (ap julianOutcome at-found2.found2.given.1)
+    put-patterns (julian_outcome a.found) _ a.i a.out1.now a.out2.now _ _ _ _
+    (ap julian_outcome at-found2.found2.given.1)
     at-to-bits.to-bits.ensures at-to-bits2.to-bits2.ensures
     at-put-pattern.put-pattern.ensures c.before.before.put-pattern2.ensures
 

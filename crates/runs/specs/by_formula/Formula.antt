@@ -7,21 +7,21 @@ use Rattle.std.specs.Float.{binary64}
 use Rattle.std.specs.Float.Ieee.{of_bits}
 use Rattle.refusals.specs.Outcome.{Outcome, answer, refusal, onward}
 use Rattle.floats.specs.Whole.{nought}
-use Rattle.numerals.specs.little_endian.LittleEndian.{u64At}
+use Rattle.numerals.specs.little_endian.LittleEndian.{u64_at}
 use Rattle.julian.specs.declared.JulianDate.{JulianDate}
-use Rattle.scales.specs.Conversions.{Conversion, answer_of, gps-tai, tai-gps, tai-tt, tt-tai, tcg-tt, tt-tcg, tcb-tdb, tdb-tcb, tai-tcg, tcg-tai}
+use Rattle.scales.specs.Conversions.{Conversion, answer_of, gps-tai, tai-gps, tai-tt, tt-tai, tcg-tt, tt_tcg, tcb-tdb, tdb-tcb, tai-tcg, tcg-tai}
 use Rattle.scales.specs.Conversions.{tai-ut1, ut1-tai, ut1-tt, tt-ut1, tt-tdb, tdb-tt}
-use Rattle.julian.specs.stamp_lists.Stamps.{stampOf}
-use Rattle.runs.specs.by_formula.Run.{RunCall, runCall, runWritten}
+use Rattle.julian.specs.stamp_lists.Stamps.{stamp_of}
+use Rattle.runs.specs.by_formula.Run.{RunCall, run_call, run_written}
 
 -- the conversion from one scale to another; the last six by an offset in seconds
-unfoldable pub formulaOf : ℕ → ℕ → Float → Outcome Conversion
-formulaOf from to seconds =
+unfoldable pub formula_of : ℕ → ℕ → Float → Outcome Conversion
+formula_of from to seconds =
     cond (eqb from GPS && eqb to TAI) (answer gps-tai)
     (cond (eqb from TAI && eqb to GPS) (answer tai-gps)
     (cond (eqb from TAI && eqb to TT) (answer tai-tt)
     (cond (eqb from TT && eqb to TAI) (answer tt-tai)
-    (cond (eqb from TT && eqb to TCG) (answer tt-tcg)
+    (cond (eqb from TT && eqb to TCG) (answer tt_tcg)
     (cond (eqb from TCG && eqb to TT) (answer tcg-tt)
     (cond (eqb from TCB && eqb to TDB) (answer tcb-tdb)
     (cond (eqb from TDB && eqb to TCB) (answer tdb-tcb)
@@ -34,49 +34,49 @@ formulaOf from to seconds =
     (refusal 18))))))))))))))
 
 -- the date that it leads to
-unfoldable pub byFormula : ℕ → ℕ → Float → JulianDate → Outcome JulianDate
-byFormula from to seconds d = onward (formulaOf from to seconds) (λ (c : Conversion). answer_of c d)
+unfoldable pub by_formula : ℕ → ℕ → Float → JulianDate → Outcome JulianDate
+by_formula from to seconds d = onward (formula_of from to seconds) (λ (c : Conversion). answer_of c d)
 
 -- the answer of the stamp at place i: eight bytes of each part, and of its offset
-abbrev pub formulaAnswer : ℕ → ℕ → List ℕ → List ℕ → List ℕ → ℕ → Outcome JulianDate
-formulaAnswer from to js ks os i = byFormula from to (of_bits binary64 (u64At os (8 * i))) (stampOf js ks i)
+abbrev pub formula_answer : ℕ → ℕ → List ℕ → List ℕ → List ℕ → ℕ → Outcome JulianDate
+formula_answer from to js ks os i = by_formula from to (of_bits binary64 (u64_at os (8 * i))) (stamp_of js ks i)
 
 -- ---- the call
 
 -- whether a conversion is by an offset that the caller gives
-unfoldable pub takesOffset : Conversion → Bool
-takesOffset gps-tai = false
-takesOffset tai-gps = false
-takesOffset tai-tt = false
-takesOffset tt-tai = false
-takesOffset tcg-tt = false
-takesOffset tt-tcg = false
-takesOffset tcb-tdb = false
-takesOffset tdb-tcb = false
-takesOffset tai-tcg = false
-takesOffset tcg-tai = false
-takesOffset (tai-ut1 seconds) = true
-takesOffset (ut1-tai seconds) = true
-takesOffset (ut1-tt seconds) = true
-takesOffset (tt-ut1 seconds) = true
-takesOffset (tt-tdb seconds) = true
-takesOffset (tdb-tt seconds) = true
+unfoldable pub takes_offset : Conversion → Bool
+takes_offset gps-tai = false
+takes_offset tai-gps = false
+takes_offset tai-tt = false
+takes_offset tt-tai = false
+takes_offset tcg-tt = false
+takes_offset tt_tcg = false
+takes_offset tcb-tdb = false
+takes_offset tdb-tcb = false
+takes_offset tai-tcg = false
+takes_offset tcg-tai = false
+takes_offset (tai-ut1 seconds) = true
+takes_offset (ut1-tai seconds) = true
+takes_offset (ut1-tt seconds) = true
+takes_offset (tt-ut1 seconds) = true
+takes_offset (tt-tdb seconds) = true
+takes_offset (tdb-tt seconds) = true
 
 -- the refusal of the lengths in bytes: of the parts and the offsets, of the places for the parts, and of the numbers; 0 for none
-unfoldable pub lengthsRefusal : Outcome Conversion → ℕ → ℕ → ℕ → ℕ → ℕ → ℕ → ℕ
-lengthsRefusal (refusal k) size1 size2 size3 room1 room2 room = k
-lengthsRefusal (answer c) size1 size2 size3 room1 room2 room =
+unfoldable pub lengths_refusal : Outcome Conversion → ℕ → ℕ → ℕ → ℕ → ℕ → ℕ → ℕ
+lengths_refusal (refusal k) size1 size2 size3 room1 room2 room = k
+lengths_refusal (answer c) size1 size2 size3 room1 room2 room =
     cond (eqb (size1 % 8) 0 && (eqb (size2 % 8) 0 && eqb (size3 % 8) 0))
-    (cond (eqb size1 size2 && eqb size3 (cond (takesOffset c) size1 0))
+    (cond (eqb size1 size2 && eqb size3 (cond (takes_offset c) size1 0))
     (cond (leb size1 room1 && (leb size1 room2 && leb (size1 / 8) room)) 0 11)
     12)
     14
 
-unfoldable pub formulaRefusal : ℕ → ℕ → ℕ → ℕ → ℕ → ℕ → ℕ → ℕ → ℕ
-formulaRefusal from to = lengthsRefusal (formulaOf from to nought)
+unfoldable pub formula_refusal : ℕ → ℕ → ℕ → ℕ → ℕ → ℕ → ℕ → ℕ → ℕ
+formula_refusal from to = lengths_refusal (formula_of from to nought)
 
-unfoldable pub formulaRun : ℕ → ℕ → List ℕ → List ℕ → List ℕ → List ℕ → List ℕ → List ℕ → RunCall
-formulaRun from to js ks os out1 out2 numbers =
-    cond (eqb (formulaRefusal from to (length js) (length ks) (length os) (length out1) (length out2) (length numbers)) 0)
-    (runWritten (formulaAnswer from to js ks os) (length js / 8) out1 out2 numbers)
-    (runCall (refusal (formulaRefusal from to (length js) (length ks) (length os) (length out1) (length out2) (length numbers))) out1 out2 numbers)
+unfoldable pub formula_run : ℕ → ℕ → List ℕ → List ℕ → List ℕ → List ℕ → List ℕ → List ℕ → RunCall
+formula_run from to js ks os out1 out2 numbers =
+    cond (eqb (formula_refusal from to (length js) (length ks) (length os) (length out1) (length out2) (length numbers)) 0)
+    (run_written (formula_answer from to js ks os) (length js / 8) out1 out2 numbers)
+    (run_call (refusal (formula_refusal from to (length js) (length ks) (length os) (length out1) (length out2) (length numbers))) out1 out2 numbers)

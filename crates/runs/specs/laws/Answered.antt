@@ -24,10 +24,10 @@ pub record PlacesFor (n room1 room2 room : ℕ) : Type 0 where
 -- the number k of a call, 0 where it is answered: the cases shut each other out, so each number comes exactly there. Lengths of parts that are no multiples of
 -- eight are 14, and then such that differ 12
 pub data RunDecision (from to size1 size2 room1 room2 room k : ℕ) : Type 0 where
-  other-scale : (BothKnown from to → ⊥) → k ≡ 18 → RunDecision from to size1 size2 room1 room2 room k
-  broken-parts : BothKnown from to → ((size1 % 8 ≡ 0) × (size2 % 8 ≡ 0) → ⊥) → k ≡ 14 → RunDecision from to size1 size2 room1 room2 room k
-  other-sizes : BothKnown from to → size1 % 8 ≡ 0 → size2 % 8 ≡ 0 → (size1 ≡ size2 → ⊥) → k ≡ 12 → RunDecision from to size1 size2 room1 room2 room k
+  other_scale : (BothKnown from to → ⊥) → k ≡ 18 → RunDecision from to size1 size2 room1 room2 room k
+  broken_parts : BothKnown from to → ((size1 % 8 ≡ 0) × (size2 % 8 ≡ 0) → ⊥) → k ≡ 14 → RunDecision from to size1 size2 room1 room2 room k
+  other_sizes : BothKnown from to → size1 % 8 ≡ 0 → size2 % 8 ≡ 0 → (size1 ≡ size2 → ⊥) → k ≡ 12 → RunDecision from to size1 size2 room1 room2 room k
   no_room : BothKnown from to → (n : ℕ) → size1 ≡ 8 * n → size2 ≡ 8 * n → (PlacesFor n room1 room2 room → ⊥) → k ≡ 11
       → RunDecision from to size1 size2 room1 room2 room k
-  run-answered : BothKnown from to → (n : ℕ) → size1 ≡ 8 * n → size2 ≡ 8 * n → PlacesFor n room1 room2 room → k ≡ 0
+  run_answered : BothKnown from to → (n : ℕ) → size1 ≡ 8 * n → size2 ≡ 8 * n → PlacesFor n room1 room2 room → k ≡ 0
       → RunDecision from to size1 size2 room1 room2 room k

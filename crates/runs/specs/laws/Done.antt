@@ -4,7 +4,7 @@ use Rattle.std.specs.Prelude.{ℕ, ◌+◌, ◌*◌, ◌<◌, ◌≤◌, ◌≡�
 use Rattle.std.specs.Float.{binary64}
 use Rattle.std.specs.Float.Ieee.{to_bits}
 use Rattle.refusals.specs.Outcome.{Outcome, answer, refusal}
-use Rattle.numerals.specs.little_endian.LittleEndian.{eightBytes}
+use Rattle.numerals.specs.little_endian.LittleEndian.{eight_bytes}
 use Rattle.julian.specs.declared.JulianDate.{JulianDate}
 use Rattle.runs.specs.by_formula.Run.{RunCall}
 
@@ -12,10 +12,10 @@ use Rattle.runs.specs.by_formula.Run.{RunCall}
 pub record StampDone (o : Outcome JulianDate) (i : ℕ) (out1 out2 : List ℕ) (c : RunCall) : Type 0 where
   pub answered : (d : JulianDate) → o ≡ answer d → get_or c.numbers i 0 ≡ 0
   pub numbered : (n : ℕ) → o ≡ refusal n → get_or c.numbers i 0 ≡ n
-  pub first : (d : JulianDate) → o ≡ answer d → (k : ℕ) → k < 8 → get_or c.out1 (8 * i + k) 0 ≡ get_or (eightBytes (to_bits binary64 d.jd1)) k 0
-  pub second : (d : JulianDate) → o ≡ answer d → (k : ℕ) → k < 8 → get_or c.out2 (8 * i + k) 0 ≡ get_or (eightBytes (to_bits binary64 d.jd2)) k 0
-  pub first-stays : (n : ℕ) → o ≡ refusal n → (k : ℕ) → k < 8 → get_or c.out1 (8 * i + k) 0 ≡ get_or out1 (8 * i + k) 0
-  pub second-stays : (n : ℕ) → o ≡ refusal n → (k : ℕ) → k < 8 → get_or c.out2 (8 * i + k) 0 ≡ get_or out2 (8 * i + k) 0
+  pub first : (d : JulianDate) → o ≡ answer d → (k : ℕ) → k < 8 → get_or c.out1 (8 * i + k) 0 ≡ get_or (eight_bytes (to_bits binary64 d.jd1)) k 0
+  pub second : (d : JulianDate) → o ≡ answer d → (k : ℕ) → k < 8 → get_or c.out2 (8 * i + k) 0 ≡ get_or (eight_bytes (to_bits binary64 d.jd2)) k 0
+  pub first_stays : (n : ℕ) → o ≡ refusal n → (k : ℕ) → k < 8 → get_or c.out1 (8 * i + k) 0 ≡ get_or out1 (8 * i + k) 0
+  pub second_stays : (n : ℕ) → o ≡ refusal n → (k : ℕ) → k < 8 → get_or c.out2 (8 * i + k) 0 ≡ get_or out2 (8 * i + k) 0
 
 -- what lies behind the places of n stamps is as it was
 pub record SpareStays (n : ℕ) (out1 out2 numbers : List ℕ) (c : RunCall) : Type 0 where

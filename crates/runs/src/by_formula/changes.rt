@@ -1,6 +1,6 @@
 // A run whose stamps are all changed by one formula. A stamp is judged by its patterns, and the part that stays is handed on as its pattern.
 ghost use Rattle.std.specs.Prelude.{◌≡◌, ◌%◌, ltb};
-ghost use Rattle.runs.specs.by_formula.Asked.{HasPlace, Roomy, StampPut, RunPut, changeOf, changedStamp};
+ghost use Rattle.runs.specs.by_formula.Asked.{HasPlace, Roomy, StampPut, RunPut, change_of, changed_stamp};
 
 use super::{is_number, one_if_refused, pairs, pattern_at, put_pattern};
 use scales::tcb_tdb::{tcb_to_tdb_part, tdb_to_tcb_part};
@@ -16,7 +16,7 @@ fn is_larger(a: u64, b: u64) -> bool
 
 // What the smaller part becomes.
 fn changed_part(kind: u32, days: f64, larger: f64, smaller: f64) -> f64
-    ensures { result ≡ changeOf kind days larger smaller }
+    ensures { result ≡ change_of kind days larger smaller }
 {
     if kind == pairs::SHIFT {
         return smaller + days;
@@ -44,7 +44,7 @@ pub(crate) fn change_stamp(
     out2: &mut [u8],
 ) -> u8
     requires { (HasPlace i jd1s.now jd2s.now) × (HasPlace i out1.old out2.old) }
-    ensures { StampPut (changedStamp (changeOf kind days) jd1s.now jd2s.now i) i out1.old out2.old result
+    ensures { StampPut (changed_stamp (change_of kind days) jd1s.now jd2s.now i) i out1.old out2.old result
         out1.new out2.new }
 {
     let a = pattern_at(jd1s, i);
@@ -80,7 +80,7 @@ pub(crate) fn shift_all(
     numbers: &mut [u8],
 ) -> usize
     requires { Roomy n jd1s.now jd2s.now out1.old out2.old numbers.old }
-    ensures { RunPut (changedStamp (changeOf 3 days) jd1s.now jd2s.now) n out1.old out2.old
+    ensures { RunPut (changed_stamp (change_of 3 days) jd1s.now jd2s.now) n out1.old out2.old
         numbers.old result out1.new out2.new numbers.new }
 {
     let mut refused = 0;
@@ -106,7 +106,7 @@ pub(crate) fn change_all(
     numbers: &mut [u8],
 ) -> usize
     requires { Roomy n jd1s.now jd2s.now out1.old out2.old numbers.old }
-    ensures { RunPut (changedStamp (changeOf kind days) jd1s.now jd2s.now) n out1.old out2.old
+    ensures { RunPut (changed_stamp (change_of kind days) jd1s.now jd2s.now) n out1.old out2.old
         numbers.old result out1.new out2.new numbers.new }
 {
     let mut refused = 0;

@@ -1,7 +1,7 @@
 // A run of which each stamp has an offset in seconds of its own.
 ghost use Rattle.std.specs.Prelude.{◌≡◌, ◌+◌, ◌*◌, ◌≤◌, cond, length};
 ghost use Rattle.std.specs.Float.Ieee.{neg};
-ghost use Rattle.runs.specs.by_formula.Asked.{HasPlace, Roomy, StampPut, RunPut, numberOfNotFiniteAt, offsetStamp};
+ghost use Rattle.runs.specs.by_formula.Asked.{HasPlace, Roomy, StampPut, RunPut, number_of_not_finite_at, offset_stamp};
 
 use super::changes::change_stamp;
 use super::{is_number, one_if_refused, pairs, pattern_at};
@@ -9,7 +9,7 @@ use super::{is_number, one_if_refused, pairs, pattern_at};
 // The number of a stamp whose offset is not finite: 9 where a part is not, and else 10.
 fn not_finite_number(jd1s: &[u8], jd2s: &[u8], i: usize) -> u8
     requires { HasPlace i jd1s.now jd2s.now }
-    ensures { result ≡ numberOfNotFiniteAt jd1s.now jd2s.now i }
+    ensures { result ≡ number_of_not_finite_at jd1s.now jd2s.now i }
 {
     if !is_number(pattern_at(jd1s, i)) {
         return 9;
@@ -37,7 +37,7 @@ fn offset_stamp(
     out2: &mut [u8],
 ) -> u8
     requires { (HasPlace i jd1s.now jd2s.now) × ((8 * i + 8 ≤ length offsets.now) × (HasPlace i out1.old out2.old)) }
-    ensures { StampPut (offsetStamp earlier jd1s.now jd2s.now offsets.now i) i out1.old out2.old
+    ensures { StampPut (offset_stamp earlier jd1s.now jd2s.now offsets.now i) i out1.old out2.old
         result out1.new out2.new }
 {
     let c = pattern_at(offsets, i);
@@ -68,7 +68,7 @@ pub(crate) fn offset_all(
     numbers: &mut [u8],
 ) -> usize
     requires { (Roomy n jd1s.now jd2s.now out1.old out2.old numbers.old) × (8 * n ≤ length offsets.now) }
-    ensures { RunPut (offsetStamp earlier jd1s.now jd2s.now offsets.now) n out1.old out2.old
+    ensures { RunPut (offset_stamp earlier jd1s.now jd2s.now offsets.now) n out1.old out2.old
         numbers.old result out1.new out2.new numbers.new }
 {
     let mut refused = 0;

@@ -1,6 +1,6 @@
 // Which formula leads from one scale to another.
 ghost use Rattle.std.specs.Prelude.{◌≡◌, false, ◌||◌, eqb};
-ghost use Rattle.runs.specs.by_formula.Asked.{needsNone, sizeDue, IsFormula, IsOffsetKind};
+ghost use Rattle.runs.specs.by_formula.Asked.{needs_none, size_due, IsFormula, IsOffsetKind};
 
 use constants::scale_numbers::{GPS, TAI, TCB, TCG, TDB, TT, UT1, are};
 use scales::gps_tai::gps_days;
@@ -32,7 +32,7 @@ pub(crate) struct Formula {
 
 // The kind where the caller gives an offset, which is that of the scale with the higher number less the other.
 fn offset_kind(from: u32, to: u32) -> u32
-    requires { needsNone from to ≡ false }
+    requires { needs_none from to ≡ false }
     ensures { IsOffsetKind from to result }
 {
     if are(from, to, TAI, UT1) {
@@ -107,7 +107,7 @@ pub(crate) fn takes_offsets(kind: u32) -> bool
 
 // The bytes of the offsets that are due where the first parts have `size` bytes.
 pub(crate) fn size_due(kind: u32, size: usize) -> usize
-    ensures { result ≡ sizeDue kind size }
+    ensures { result ≡ size_due kind size }
 {
     if takes_offsets(kind) { size } else { 0 }
 }

@@ -5,22 +5,22 @@ use lib.Ieee.Fits.{round-fits}
 use Rattle.refusals.specs.Outcome.{answer, refusal, onward}
 use Rattle.rounding.specs.Value.{Val, L, Under52}
 use Rattle.rounding.proofs.Value.{val-move, val-scale, val-finite-true, abs-val, L-pos}
-use Rattle.rounding.proofs.Signed.{dist, dist-le}
-use Rattle.rounding.proofs.Compare.{lt-show}
+use Rattle.rounding.proofs.Signed.{dist, dist_le}
+use Rattle.rounding.proofs.Compare.{lt_show}
 use Rattle.rounding.proofs.Range.{power-val}
 use Rattle.rounding.proofs.Near.{Near, rounds-near}
 use Rattle.julian.specs.declared.day_number.DayNumber.{DayNumber}
-use Rattle.julian.specs.day_number.DayNumber.{dayOf}
-use Rattle.julian.specs.day_number.Answer.{dayNumberAndFraction}
+use Rattle.julian.specs.day_number.DayNumber.{day_of}
+use Rattle.julian.specs.day_number.Answer.{day_number_and_fraction}
 use Rattle.julian.proofs.day_number.Units.{E-L, H, H-L}
 use Rattle.julian.proofs.day_number.JulianRange.{accepts}
 use Rattle.julian.proofs.day_number.Answer.{answered}
 use Rattle.julian.specs.declared.JulianDate.{JulianDate}
 use Rattle.julian.specs.JulianDate.{julian}
-use Rattle.julian.specs.Finite.{finiteJd}
+use Rattle.julian.specs.Finite.{finite_jd}
 use Rattle.julian.specs.Worth.{Worth, SmallParts}
-use Rattle.scales.specs.gps_weeks.WeekDate.{weekMidnight, partOfDay, dayIn, weekDate}
-use Rattle.scales.specs.gps_weeks.WeekOf.{weekTime, dayMillis, weekAt, weekOfDay, weekOf}
+use Rattle.scales.specs.gps_weeks.WeekDate.{week_midnight, part_of_day, day_in, week_date}
+use Rattle.scales.specs.gps_weeks.WeekOf.{week_time, day_millis, week_at, week_of_day, week_of}
 use Rattle.scales.proofs.gps_weeks.Parts.{midnight-val}
 use Rattle.scales.proofs.gps_week_laws.NearDates as N
 
@@ -46,7 +46,7 @@ pub under52 : {x : Float} {p n : ℕ} → T (fits binary64 x) → Val x p n L �
 under52 {x} {p} {n} f v u l = record {
   held = f;
   small =
-      lt-show L-pos (abs-val v) (power-val 52 L) (plain (dist p n) (dist-le p n (4503599627370495 * L) u l));
+      lt_show L-pos (abs-val v) (power-val 52 L) (plain (dist p n) (dist_le p n (4503599627370495 * L) u l));
 }
   where
     plain : (d : ℕ) → d ≤ 4503599627370495 * L → d + 0 < 2 ^ 52 * L + 0
@@ -58,8 +58,8 @@ module _ (r : ℕ) (short : r < 86400000) where
   few = mul-lt-mul_of_pos_right short L-pos
 
   -- a day's part is within 2 ^ -54 of r / 86400000
-  pub part-near : Near (partOfDay r) r 0 86400000 1021
-  unfolding partOfDay
+  pub part-near : Near (part_of_day r) r 0 86400000 1021
+  unfolding part_of_day
   part-near = rounds-near 1021 (lit< tt) (lit≤ tt) (subst (λ (x : ℕ). r * L < 0 * L + x * 86400000) (sym top) (less (r * L) L few))
       (subst (λ (x : ℕ). 0 * L < r * L + x * 86400000) (sym top) (more (r * L) L L-pos)) (record { sign = false; size = r; eq = refl; is = add-zero r })
     where
@@ -86,7 +86,7 @@ module _ (r : ℕ) (short : r < 86400000) where
 -- ---- both, for the day n
 module _ (n r : ℕ) (early : 2444245 ≤ n) (late : n ≤ 3144252) (short : r < 86400000) where
   abbrev pub d : JulianDate
-  d = julian (weekMidnight n) (partOfDay r)
+  d = julian (week_midnight n) (part_of_day r)
 
   pub q : ℕ
   q = (part-near r short).p
@@ -97,10 +97,10 @@ module _ (n r : ℕ) (early : 2444245 ≤ n) (late : n ≤ 3144252) (short : r <
   X : n * L ≡ 2 * n * H
   X = ap (λ (x : ℕ). n * x) H-L ∙ mul_left_comm n 2 H ∙ sym (mul_assoc 2 n H)
 
-  pub first : Val (weekMidnight n) (n * L) H L
-  first = subst (λ (x : ℕ). Val (weekMidnight n) (n * L) H x) (sym H-L) (val-move (val-scale H (midnight-val n (omega arith) (omega arith))) (omega (arith, X)))
+  pub first : Val (week_midnight n) (n * L) H L
+  first = subst (λ (x : ℕ). Val (week_midnight n) (n * L) H x) (sym H-L) (val-move (val-scale H (midnight-val n (omega arith) (omega arith))) (omega (arith, X)))
 
-  pub second : Val (partOfDay r) q m L
+  pub second : Val (part_of_day r) q m L
   unfolding q m
   second = (part-near r short).val
 
@@ -119,7 +119,7 @@ module _ (n r : ℕ) (early : 2444245 ≤ n) (late : n ≤ 3144252) (short : r <
   q-low = part_low r short
 
   pub small : SmallParts d
-  unfolding weekMidnight partOfDay
+  unfolding week_midnight part_of_day
   small = record {
     first = under52 (round-fits binary64 false (2 * n - 1) 2) first (omega (arith, high, H-L)) (omega (arith, low, H-L));
     second = under52 (round-fits binary64 false r 86400000) second (omega (arith, q-high, g-le)) (omega (arith, q-low, g-le));
@@ -129,17 +129,17 @@ module _ (n r : ℕ) (early : 2444245 ≤ n) (late : n ≤ 3144252) (short : r <
   worth = record { p = n * L; n = H; q = q; m = m; first = first; second = second; total = refl }
 
   pub number : DayNumber
-  number = dayOf (weekMidnight n) (partOfDay r)
+  number = day_of (week_midnight n) (part_of_day r)
 
-  pub given : dayNumberAndFraction (weekMidnight n) (partOfDay r) ≡ answer number
+  pub given : day_number_and_fraction (week_midnight n) (part_of_day r) ≡ answer number
   unfolding number
-  given = answered (weekMidnight n) (partOfDay r)
-      (accepts (weekMidnight n) (partOfDay r) (n * L) H q m first second (omega (arith, high, q-high, E-L, g-le)) (omega (arith, low, q-low, H-L, E-L, g-le)))
+  given = answered (week_midnight n) (part_of_day r)
+      (accepts (week_midnight n) (part_of_day r) (n * L) H q m first second (omega (arith, high, q-high, E-L, g-le)) (omega (arith, low, q-low, H-L, E-L, g-le)))
 
   pub day : (k : ℕ) × (number.day ≡ pos k)
   day = N.from-day-0 d (n * L + q) (H + m) small worth number given (omega (arith, low, q-low, H-L, g-le)) number.day refl
 
-  near : N.DaysNear (n * L + q) (H + m) day.0 (dayMillis number.fraction)
+  near : N.DaysNear (n * L + q) (H + m) day.0 (day_millis number.fraction)
   near = N.sum_near d (n * L + q) (H + m) small worth number given day.0 day.1
 
   spread : (k x : ℕ) → (86400000 * k + x) * L ≡ 86400000 * (k * L) + x * L
@@ -154,11 +154,11 @@ module _ (n r : ℕ) (early : 2444245 ≤ n) (late : n ≤ 3144252) (short : r <
   q-under = omega (arith, p-under r short, g-small)
 
   -- the count is that of the day and its milliseconds
-  pub count : 86400000 * day.0 + dayMillis number.fraction ≡ 86400000 * n + r
-  count = both (86400000 * day.0 + dayMillis number.fraction) (86400000 * n + r)
-      (lt_of_mul-lt-mul_right L (above (day.0 * L) (dayMillis number.fraction * L) _ _ (spread day.0 (dayMillis number.fraction)) (wider n r)
+  pub count : 86400000 * day.0 + day_millis number.fraction ≡ 86400000 * n + r
+  count = both (86400000 * day.0 + day_millis number.fraction) (86400000 * n + r)
+      (lt_of_mul-lt-mul_right L (above (day.0 * L) (day_millis number.fraction * L) _ _ (spread day.0 (day_millis number.fraction)) (wider n r)
       near.over))
-      (lt_of_mul-lt-mul_right L (under (day.0 * L) (dayMillis number.fraction * L) _ _ (wider day.0 (dayMillis number.fraction)) (spread n r)
+      (lt_of_mul-lt-mul_right L (under (day.0 * L) (day_millis number.fraction * L) _ _ (wider day.0 (day_millis number.fraction)) (spread n r)
       near.under))
     where
       wider : (k x : ℕ) → (86400000 * k + x + 1) * L ≡ 86400000 * (k * L) + x * L + L
@@ -175,24 +175,24 @@ module _ (n r : ℕ) (early : 2444245 ≤ n) (late : n ≤ 3144252) (short : r <
       both : (a b : ℕ) → a < b + 1 → b < a + 1 → a ≡ b
       both a b h k = omega arith
 
-  pub within-a-day : dayMillis number.fraction ≤ 86400000
-  within-a-day = N.in-a-day d (n * L + q) (H + m) small worth number given
+  pub within-a-day : day_millis number.fraction ≤ 86400000
+  within-a-day = N.in_a_day d (n * L + q) (H + m) small worth number given
 
   -- the day and the milliseconds are answered, and their week is that of the count
-  round-trip-of : weekOf d ≡ weekAt (86400000 * n + r)
-  unfolding weekOf finiteJd onward weekOfDay
-  round-trip-of =
+  round_trip_of : week_of d ≡ week_at (86400000 * n + r)
+  unfolding week_of finite_jd onward week_of_day
+  round_trip_of =
       rw (val-finite-true first, val-finite-true second, given, day.1)
-      (ap weekAt (ap (λ (y : ℕ). y + dayMillis number.fraction) (mul_comm day.0 86400000) ∙ count))
+      (ap week_at (ap (λ (y : ℕ). y + day_millis number.fraction) (mul_comm day.0 86400000) ∙ count))
 
 -- ---- the theorem
 
 week-of-count : (week ms : ℕ) → week ≤ 100000 → ms < 604800000
-    → weekAt (86400000 * (2444245 + 7 * week + ms / 86400000) + ms % 86400000) ≡ answer (weekTime week ms)
-unfolding weekAt
+    → week_at (86400000 * (2444245 + 7 * week + ms / 86400000) + ms % 86400000) ≡ answer (week_time week ms)
+unfolding week_at
 week-of-count week ms h k = go (86400000 * (2444245 + 7 * week + ms / 86400000) + ms % 86400000) (omega arith)
   where
-    go : (c : ℕ) → c ≡ 604800000 * week + ms + 211182768000000 → weekAt c ≡ answer (weekTime week ms)
+    go : (c : ℕ) → c ≡ 604800000 * week + ms + 211182768000000 → week_at c ≡ answer (week_time week ms)
     go c e =
         let i : (c - 211182768000000) / 604800000 ≡ week = omega arith in
         let j : (c - 211182768000000) % 604800000 ≡ ms = omega arith in
@@ -201,22 +201,22 @@ week-of-count week ms h k = go (86400000 * (2444245 + 7 * week + ms / 86400000) 
 pub record InWeeks (week ms : ℕ) (d : JulianDate) : Type 0 where
   pub week-most : week ≤ 100000
   pub below : ms < 604800000
-  pub is : d ≡ julian (weekMidnight (dayIn week ms)) (partOfDay (ms % 86400000))
+  pub is : d ≡ julian (week_midnight (day_in week ms)) (part_of_day (ms % 86400000))
 
-pub in-weeks : (week ms : ℕ) (d : JulianDate) → weekDate week ms ≡ answer d → InWeeks week ms d
-unfolding weekDate
+pub in-weeks : (week ms : ℕ) (d : JulianDate) → week_date week ms ≡ answer d → InWeeks week ms d
+unfolding week_date
 in-weeks week ms d e = go (leb week 100000) (ltb ms 604800000) refl refl e
   where
     go : (x y : Bool) → leb week 100000 ≡ x → ltb ms 604800000 ≡ y
-        → cond (x && y) (answer (julian (weekMidnight (dayIn week ms)) (partOfDay (ms % 86400000)))) (refusal 18) ≡ answer d → InWeeks week ms d
+        → cond (x && y) (answer (julian (week_midnight (day_in week ms)) (part_of_day (ms % 86400000)))) (refusal 18) ≡ answer d → InWeeks week ms d
     go true true f g h = record { week-most = leb-true week 100000 f; below = ltb-true ms 604800000 g; is = sym (cc) }
     go true false f g h = let z : ◌≡◌ {A = ℕ} 0 1 = cc in absurd (omega arith)
     go false y f g h = let z : ◌≡◌ {A = ℕ} 0 1 = cc in absurd (omega arith)
 
 -- document 02: "Week and millisecond turned into a date and back are the same pair"
-pub round_trip : (week ms : ℕ) (d : JulianDate) → weekDate week ms ≡ answer d → weekOf d ≡ answer (weekTime week ms)
+pub round_trip : (week ms : ℕ) (d : JulianDate) → week_date week ms ≡ answer d → week_of d ≡ answer (week_time week ms)
 round_trip week ms d e =
     let w = in-weeks week ms d e in
     let h = w.week-most in
     let k = w.below in
-    ap weekOf w.is ∙ round-trip-of (dayIn week ms) (ms % 86400000) (omega arith) (omega arith) (omega arith) ∙ week-of-count week ms h k
+    ap week_of w.is ∙ round_trip_of (day_in week ms) (ms % 86400000) (omega arith) (omega arith) (omega arith) ∙ week-of-count week ms h k

@@ -2,7 +2,7 @@
 use Rattle.std.proofs.Common.{◌≡◌, ℕ, ◌+◌, ◌-◌, ◌%◌, ◌<◌, ◌≤◌, Bool, true, false, cond, ◌||◌, eqb, ltb, leb, ◌⊎◌, sym, refl, ap, ◌∙◌, subst, inl, inr, arith, ltb-false, ltb-true, eqb-true, leb-false, leb-true}
 use borrow.Author.Tests.{eqb-false}
 use Rattle.refusals.specs.Outcome.{Outcome, answer, refusal}
-use Rattle.scales.specs.gps_weeks.FullWeek.{byDistance, fullWeek, apart, NearestWeek, Tie}
+use Rattle.scales.specs.gps_weeks.FullWeek.{by_distance, full_week, apart, NearestWeek, Tie}
 
 -- what the whole week of ten bits is, by cases: one is nearest, two are equally near, or a field is over its limit
 pub data Found (bits reference : ℕ) : Outcome ℕ → Type 0 where
@@ -61,10 +61,10 @@ module _ (bits r b : ℕ) (has : b % 1024 ≡ bits) where
     v = b;
     w = b + 1024;
     two = omega arith;
-    has-v = has;
-    has-w = next-has;
+    has_v = has;
+    has_w = next-has;
     level = omega arith;
-    none-nearer =
+    none_nearer =
         λ u e. near u e (ltb u b) (ltb b u) refl refl;
   }
     where
@@ -108,8 +108,8 @@ module _ (bits reference : ℕ) (small : bits < 1024) (most : reference ≤ 9900
     two-alike : (reference - bits) % 1024 ≡ 512 → Tie bits reference
     two-alike h = both-near bits reference before has-before (omega arith)
 
-    by-distance : Found bits reference (byDistance reference ((reference - bits) % 1024))
-    unfolding byDistance
+    by-distance : Found bits reference (by_distance reference ((reference - bits) % 1024))
+    unfolding by_distance
     by-distance = go (eqb ((reference - bits) % 1024) 512) (ltb ((reference - bits) % 1024) 512) refl refl
       where
         b : ℕ
@@ -128,12 +128,12 @@ module _ (bits reference : ℕ) (small : bits < 1024) (most : reference ≤ 9900
             up (inl h) = let l : 512 ≤ b = ltb-false b 512 f in absurd (omega arith)
             up (inr h) = h
 
-pub full-week-found : (bits reference : ℕ) → Found bits reference (fullWeek bits reference)
-unfolding fullWeek
-full-week-found bits reference = go (leb 1024 bits) (ltb 99000 reference) (ltb reference bits) refl refl refl
+pub full_week_found : (bits reference : ℕ) → Found bits reference (full_week bits reference)
+unfolding full_week
+full_week_found bits reference = go (leb 1024 bits) (ltb 99000 reference) (ltb reference bits) refl refl refl
   where
     go : (x y z : Bool) → leb 1024 bits ≡ x → ltb 99000 reference ≡ y → ltb reference bits ≡ z
-        → Found bits reference (cond (x || y) (refusal 18) (cond z (answer bits) (byDistance reference ((reference - bits) % 1024))))
+        → Found bits reference (cond (x || y) (refusal 18) (cond z (answer bits) (by_distance reference ((reference - bits) % 1024))))
     go true y z e f g = let h : 1024 ≤ bits = leb-true 1024 bits e in over (λ s m. omega arith)
     go false true z e f g = let h : 99000 < reference = ltb-true 99000 reference f in over (λ s m. omega arith)
     go false false true e f g =
@@ -144,8 +144,8 @@ full-week-found bits reference = go (leb 1024 bits) (ltb 99000 reference) (ltb r
 
 -- ---- each outcome exactly where it is due
 
-pub nearest-if : (bits reference w : ℕ) → fullWeek bits reference ≡ answer w → NearestWeek bits reference w × (w ≤ 99511)
-nearest-if bits reference w e = go (fullWeek bits reference) (full-week-found bits reference) e
+pub nearest-if : (bits reference w : ℕ) → full_week bits reference ≡ answer w → NearestWeek bits reference w × (w ≤ 99511)
+nearest-if bits reference w e = go (full_week bits reference) (full_week_found bits reference) e
   where
     go : (o : Outcome ℕ) → Found bits reference o → o ≡ answer w → NearestWeek bits reference w × (w ≤ 99511)
     go _ (one v s m n l) h = let k : v ≡ w = cc in (subst (NearestWeek bits reference) k n, omega arith)
@@ -169,25 +169,25 @@ no_tie {bits} {reference} w n t = go (eqb t.v w) refl
     go : (x : Bool) → eqb t.v w ≡ x → ⊥
     go true e =
         let i : t.v ≡ w = eqb-true t.v w e in
-        let h : apart w reference < apart t.w reference = n.nearest t.w t.has-w (λ k. omega (arith, t.two)) in
+        let h : apart w reference < apart t.w reference = n.nearest t.w t.has_w (λ k. omega (arith, t.two)) in
         omega (arith, t.level)
     go false e =
-        let h : apart w reference < apart t.v reference = n.nearest t.v t.has-v (eqb-false t.v w e) in
-        omega (arith, t.none-nearer w n.has)
+        let h : apart w reference < apart t.v reference = n.nearest t.v t.has_v (eqb-false t.v w e) in
+        omega (arith, t.none_nearer w n.has)
 
-pub nearest-only-if : (bits reference w : ℕ) → bits < 1024 → reference ≤ 99000 → NearestWeek bits reference w → fullWeek bits reference ≡ answer w
-nearest-only-if bits reference w s m n = go (fullWeek bits reference) (full-week-found bits reference)
+pub nearest-only-if : (bits reference w : ℕ) → bits < 1024 → reference ≤ 99000 → NearestWeek bits reference w → full_week bits reference ≡ answer w
+nearest-only-if bits reference w s m n = go (full_week bits reference) (full_week_found bits reference)
   where
     go : (o : Outcome ℕ) → Found bits reference o → o ≡ answer w
     go _ (one v _ _ k l) = ap answer (one-nearest v w k n)
     go _ (level _ _ t) = absurd (no_tie w n t)
     go _ (over h) = absurd (h s m)
 
-pub tie-exactly : (bits reference : ℕ) → (fullWeek bits reference ≡ refusal 19 → Tie bits reference)
-    × (bits < 1024 → reference ≤ 99000 → Tie bits reference → fullWeek bits reference ≡ refusal 19)
-tie-exactly bits reference = (
-  λ e. to (fullWeek bits reference) (full-week-found bits reference) e,
-  λ s m t. from (fullWeek bits reference) (full-week-found bits reference) s m t,
+pub tie_exactly : (bits reference : ℕ) → (full_week bits reference ≡ refusal 19 → Tie bits reference)
+    × (bits < 1024 → reference ≤ 99000 → Tie bits reference → full_week bits reference ≡ refusal 19)
+tie_exactly bits reference = (
+  λ e. to (full_week bits reference) (full_week_found bits reference) e,
+  λ s m t. from (full_week bits reference) (full_week_found bits reference) s m t,
 )
   where
     to : (o : Outcome ℕ) → Found bits reference o → o ≡ refusal 19 → Tie bits reference
@@ -200,11 +200,11 @@ tie-exactly bits reference = (
     from _ (level _ _ _) s m t = refl
     from _ (over h) s m t = absurd (h s m)
 
-pub over-exactly : (bits reference : ℕ) → (fullWeek bits reference ≡ refusal 18 → bits < 1024 → reference ≤ 99000 → ⊥)
-    × ((1024 ≤ bits) ⊎ (99000 < reference) → fullWeek bits reference ≡ refusal 18)
+pub over-exactly : (bits reference : ℕ) → (full_week bits reference ≡ refusal 18 → bits < 1024 → reference ≤ 99000 → ⊥)
+    × ((1024 ≤ bits) ⊎ (99000 < reference) → full_week bits reference ≡ refusal 18)
 over-exactly bits reference = (
-  λ e. to (fullWeek bits reference) (full-week-found bits reference) e,
-  λ h. from (fullWeek bits reference) (full-week-found bits reference) h,
+  λ e. to (full_week bits reference) (full_week_found bits reference) e,
+  λ h. from (full_week bits reference) (full_week_found bits reference) h,
 )
   where
     to : (o : Outcome ℕ) → Found bits reference o → o ≡ refusal 18 → bits < 1024 → reference ≤ 99000 → ⊥
@@ -220,8 +220,8 @@ over-exactly bits reference = (
     from _ (over n) h = refl
 
 -- document 02's refusals here: 18 and 19, and no other
-pub full-week-numbers : (bits reference n : ℕ) → fullWeek bits reference ≡ refusal n → (n ≡ 18) ⊎ (n ≡ 19)
-full-week-numbers bits reference n e = go (fullWeek bits reference) (full-week-found bits reference) e
+pub full_week_numbers : (bits reference n : ℕ) → full_week bits reference ≡ refusal n → (n ≡ 18) ⊎ (n ≡ 19)
+full_week_numbers bits reference n e = go (full_week bits reference) (full_week_found bits reference) e
   where
     go : (o : Outcome ℕ) → Found bits reference o → o ≡ refusal n → (n ≡ 18) ⊎ (n ≡ 19)
     go _ (one v s m k l) h = let z : ◌≡◌ {A = ℕ} 0 1 = cc in absurd (omega arith)
@@ -229,13 +229,13 @@ full-week-numbers bits reference n e = go (fullWeek bits reference) (full-week-f
     go _ (over k) h = inl (cc)
 
 -- near the start, where the next week below would be below 0
-pub first-weeks : (fullWeek 1023 0 ≡ answer 1023) × (fullWeek 512 0 ≡ answer 512) × (fullWeek 0 512 ≡ refusal 19) × (fullWeek 0 513 ≡ answer 1024)
-    × (fullWeek 0 511 ≡ answer 0)
-unfolding fullWeek byDistance
+pub first-weeks : (full_week 1023 0 ≡ answer 1023) × (full_week 512 0 ≡ answer 512) × (full_week 0 512 ≡ refusal 19) × (full_week 0 513 ≡ answer 1024)
+    × (full_week 0 511 ≡ answer 0)
+unfolding full_week by_distance
 first-weeks = (refl, refl, refl, refl, refl)
 
 -- the ends of the ranges, and the largest answer
-pub last-weeks : (fullWeek 183 99000 ≡ answer 99511) × (fullWeek 184 99000 ≡ refusal 19) × (fullWeek 185 99000 ≡ answer 98489)
-    × (fullWeek 1023 99001 ≡ refusal 18) × (fullWeek 1024 99000 ≡ refusal 18)
-unfolding fullWeek byDistance
+pub last-weeks : (full_week 183 99000 ≡ answer 99511) × (full_week 184 99000 ≡ refusal 19) × (full_week 185 99000 ≡ answer 98489)
+    × (full_week 1023 99001 ≡ refusal 18) × (full_week 1024 99000 ≡ refusal 18)
+unfolding full_week by_distance
 last-weeks = (refl, refl, refl, refl, refl)

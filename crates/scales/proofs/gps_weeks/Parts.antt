@@ -5,11 +5,11 @@ use lib.Ieee.Fits.{down_pos}
 use Rattle.floats.specs.Whole.{half}
 use Rattle.constants.specs.Constants.{decimal}
 use Rattle.rounding.specs.Value.{Signed, Val, Rounds}
-use Rattle.rounding.proofs.Value.{val-scale, sub-rounds, div-rounds}
-use Rattle.rounding.proofs.Casts.{ofInt-val}
+use Rattle.rounding.proofs.Value.{val-scale, sub_rounds, div_rounds}
+use Rattle.rounding.proofs.Casts.{of_int_val}
 use Rattle.rounding.proofs.Exact.{rounds-exact}
-use Rattle.time_of_day.specs.TimeShown.{fromZero}
-use Rattle.scales.specs.gps_weeks.WeekDate.{weekMidnight, partOfDay}
+use Rattle.time_of_day.specs.TimeShown.{from_zero}
+use Rattle.scales.specs.gps_weeks.WeekDate.{week_midnight, part_of_day}
 
 -- 86400000.0
 pub day-millis : of_bits binary64 0x4194_9970_0000_0000 ≡ decimal 86400000 0
@@ -31,34 +31,34 @@ positive {z} {p} {n} {d} a r e h = go r.sign r.size r.is r.eq
 half-val : Val half 1 0 2
 half-val = record { sign = false; size = 1; has = (refl, refl); is = refl }
 
-pub midnight-is : (n : ℕ) → 0 < n → n ≤ 2 ^ 53 → sub binary64 (of_int binary64 (pos n)) half ≡ weekMidnight n
-unfolding weekMidnight
-midnight-is n h k = positive (2 * n - 1) (sub-rounds binary64 (lit< tt) (val-scale 2 (ofInt-val (pos n) k (lit≤ tt))) half-val) (omega arith) (omega arith)
+pub midnight-is : (n : ℕ) → 0 < n → n ≤ 2 ^ 53 → sub binary64 (of_int binary64 (pos n)) half ≡ week_midnight n
+unfolding week_midnight
+midnight-is n h k = positive (2 * n - 1) (sub_rounds binary64 (lit< tt) (val-scale 2 (of_int_val (pos n) k (lit≤ tt))) half-val) (omega arith) (omega arith)
 
 -- document 02: jd1 "is its day's midnight": n - 1 / 2, exactly
-pub midnight-val : (n : ℕ) → 0 < n → n ≤ 2 ^ 51 → Val (weekMidnight n) (2 * n) 1 2
-unfolding weekMidnight
+pub midnight-val : (n : ℕ) → 0 < n → n ≤ 2 ^ 51 → Val (week_midnight n) (2 * n) 1 2
+unfolding week_midnight
 midnight-val n h k = rounds-exact 1 (lit≤ tt) (omega arith) (omega arith) (record { sign = false; size = 2 * n - 1; eq = refl; is = omega arith })
 
-pub part-is : (ms : ℕ) → ms ≤ 2 ^ 53 → div binary64 (of_int binary64 (pos ms)) (decimal 86400000 0) ≡ partOfDay ms
-unfolding partOfDay div round of_int
+pub part-is : (ms : ℕ) → ms ≤ 2 ^ 53 → div binary64 (of_int binary64 (pos ms)) (decimal 86400000 0) ≡ part_of_day ms
+unfolding part_of_day div round of_int
 part-is zero h = refl
-part-is (suc n) h = positive (suc n) (div-rounds binary64 (lit< tt) (lit< tt) (lit< tt) (ofInt-val (pos (suc n)) h (lit≤ tt)) day-millis-val) (omega arith)
+part-is (suc n) h = positive (suc n) (div_rounds binary64 (lit< tt) (lit< tt) (lit< tt) (of_int_val (pos (suc n)) h (lit≤ tt)) day-millis-val) (omega arith)
     (omega arith)
 
 -- ---- a count of 64 bits, and one from 1 to 2 ^ 52 by one cast
-pub from-zero-most : (z : ℤ) → SFits w64 z → fromZero z ≤ 9223372036854775807
-unfolding fromZero
+pub from-zero-most : (z : ℤ) → SFits w64 z → from_zero z ≤ 9223372036854775807
+unfolding from_zero
 from-zero-most (pos n) f = omega (arith, f.sfits)
 from-zero-most (negsuc n) f = omega arith
 
-from-negative : (k : ℕ) → 0 ≡ fromZero (neg_ℤ (pos k))
-unfolding fromZero
+from-negative : (k : ℕ) → 0 ≡ from_zero (neg_ℤ (pos k))
+unfolding from_zero
 from-negative zero = refl
 from-negative (suc k) = refl
 
-pub short-cast : (r : Float) → lt r (fin false 1 (pos 52)) ≡ true → (k : ℕ) → k ≡ to_unsigned 64 r → (k ≡ fromZero (to_signed 63 r)) × (k ≤ 9223372036854775807)
-unfolding lt to_unsigned to_signed fromZero
+pub short-cast : (r : Float) → lt r (fin false 1 (pos 52)) ≡ true → (k : ℕ) → k ≡ to_unsigned 64 r → (k ≡ from_zero (to_signed 63 r)) × (k ≤ 9223372036854775807)
+unfolding lt to_unsigned to_signed from_zero
 short-cast nan h k e = (e, omega arith)
 short-cast (inf true) h k e = (e, omega arith)
 short-cast (inf false) h k e = absurd (true≢false (sym h))

@@ -5,13 +5,13 @@ use Rattle.std.proofs.Common.{◌*◌, ◌^◌, true, false, refl, lit<, lit≤}
 use lib.Ieee.{round, add, sub, div, neg}
 use Rattle.rounding.specs.Value.{Val, L}
 use Rattle.rounding.proofs.About.{U, About}
-use Rattle.constants.specs.Constants.{secondsPerDay, mjdZeroPoint, gpsToTaiOffsetSeconds, ttTaiOffset, tcgRateLg, tcbRateLb, tdbOffset1977, mjd1977Jan1}
-use Rattle.constants.specs.Constants.{tcgReferenceEpoch, ratio, tcgRateRatio, tcbRateRatio}
-use Rattle.scales.specs.Formulas.{gpsDays, ttDays, jd1977, tdb0}
-use Rattle.julian.specs.shifts.Shifts.{daysOf}
+use Rattle.constants.specs.Constants.{seconds_per_day, mjd_zero_point, gps_to_tai_offset_seconds, tt_tai_offset, tcg_rate_lg, tcb_rate_lb, tdb_offset1977, mjd1977_jan1}
+use Rattle.constants.specs.Constants.{tcg_reference_epoch, ratio, tcg_rate_ratio, tcb_rate_ratio}
+use Rattle.scales.specs.Formulas.{gps_days, tt_days, jd1977, tdb0}
+use Rattle.julian.specs.shifts.Shifts.{days_of}
 
-pub gps-about : About gpsDays (19 * L) 0 (L * 86400) 1208925819614629174706176 3032327
-unfolding gpsDays gpsToTaiOffsetSeconds daysOf secondsPerDay div round L U
+pub gps-about : About gps_days (19 * L) 0 (L * 86400) 1208925819614629174706176 3032327
+unfolding gps_days gps_to_tai_offset_seconds days_of seconds_per_day div round L U
 gps-about = record {
   p = 8113151328714849 * 2 ^ 1009;
   n = 0;
@@ -23,9 +23,9 @@ gps-about = record {
   some = lit< tt;
 }
 
-pub tt-about : About ttDays (32184 * L) 0 (L * 86400000) 1208925819614629174706176 65562676
-unfolding ttDays ttTaiOffset daysOf secondsPerDay div round L U
-tt-about = record {
+pub tt_about : About tt_days (32184 * L) 0 (L * 86400000) 1208925819614629174706176 65562676
+unfolding tt_days tt_tai_offset days_of seconds_per_day div round L U
+tt_about = record {
   p = 6871412167456807 * 2 ^ 1010;
   n = 0;
   val = record { sign = false; size = 6871412167456807 * 2 ^ 1010; has = (refl, refl); is = refl };
@@ -36,8 +36,8 @@ tt-about = record {
   some = lit< tt;
 }
 
-pub mjd-about : About mjdZeroPoint (24000005000000 * L) 0 (L * 10000000) 2971057332224951945138173036724224 0
-unfolding mjdZeroPoint round L U
+pub mjd-about : About mjd_zero_point (24000005000000 * L) 0 (L * 10000000) 2971057332224951945138173036724224 0
+unfolding mjd_zero_point round L U
 mjd-about = record {
   p = 4800001 * 2 ^ 1073;
   n = 0;
@@ -49,9 +49,9 @@ mjd-about = record {
   some = lit< tt;
 }
 
-pub epoch-about : About tcgReferenceEpoch (431440003725 * L) 0 (L * 10000000) 53410922994967731960522714644480 1516091778558004
-unfolding tcgReferenceEpoch mjd1977Jan1 ttTaiOffset secondsPerDay add div round L U
-epoch-about = record {
+pub epoch_about : About tcg_reference_epoch (431440003725 * L) 0 (L * 10000000) 53410922994967731960522714644480 1516091778558004
+unfolding tcg_reference_epoch mjd1977_jan1 tt_tai_offset seconds_per_day add div round L U
+epoch_about = record {
   p = 2964833129895989 * 2 ^ 1038;
   n = 0;
   val = record { sign = false; size = 2964833129895989 * 2 ^ 1038; has = (refl, refl); is = refl };
@@ -63,7 +63,7 @@ epoch-about = record {
 }
 
 pub jd1977-about : About jd1977 (2110876848000000000 * L) 0 (L * 864000000000) 3024467017279880391718420852244480 0
-unfolding jd1977 mjdZeroPoint mjd1977Jan1 add round L U
+unfolding jd1977 mjd_zero_point mjd1977_jan1 add round L U
 jd1977-about = record {
   p = 4886289 * 2 ^ 1073;
   n = 0;
@@ -75,9 +75,9 @@ jd1977-about = record {
   some = lit< tt;
 }
 
-pub tt-about-2 : About ttDays (321840000 * L) 0 (L * 864000000000) 1208925819614629174706176 65562676
-unfolding ttDays ttTaiOffset daysOf secondsPerDay div round L U
-tt-about-2 = record {
+pub tt_about_2 : About tt_days (321840000 * L) 0 (L * 864000000000) 1208925819614629174706176 65562676
+unfolding tt_days tt_tai_offset days_of seconds_per_day div round L U
+tt_about_2 = record {
   p = 6871412167456807 * 2 ^ 1010;
   n = 0;
   val = record { sign = false; size = 6871412167456807 * 2 ^ 1010; has = (refl, refl); is = refl };
@@ -89,7 +89,7 @@ tt-about-2 = record {
 }
 
 pub tdb0-about : About tdb0 0 (655 * L) (L * 864000000000) 1152921504606846976 70
-unfolding tdb0 tdbOffset1977 daysOf secondsPerDay neg div round L U
+unfolding tdb0 tdb_offset1977 days_of seconds_per_day neg div round L U
 tdb0-about = record {
   p = 0;
   n = 3665955610405473 * 2 ^ 992;
@@ -101,18 +101,18 @@ tdb0-about = record {
   some = lit< tt;
 }
 
-pub lg-val : Val tcgRateLg 6740283829902479 0 (2 ^ 83)
-unfolding tcgRateLg round
-lg-val = record { sign = false; size = 6740283829902479; has = (refl, refl); is = refl }
+pub lg_val : Val tcg_rate_lg 6740283829902479 0 (2 ^ 83)
+unfolding tcg_rate_lg round
+lg_val = record { sign = false; size = 6740283829902479; has = (refl, refl); is = refl }
 
-pub ratio-lg-val : Val tcgRateRatio 3370141917299989 0 (2 ^ 82)
-unfolding tcgRateRatio ratio tcgRateLg sub div round
+pub ratio-lg-val : Val tcg_rate_ratio 3370141917299989 0 (2 ^ 82)
+unfolding tcg_rate_ratio ratio tcg_rate_lg sub div round
 ratio-lg-val = record { sign = false; size = 3370141917299989; has = (refl, refl); is = refl }
 
-pub lb-val : Val tcbRateLb 1171539613348803 0 (2 ^ 76)
-unfolding tcbRateLb round
-lb-val = record { sign = false; size = 1171539613348803; has = (refl, refl); is = refl }
+pub lb_val : Val tcb_rate_lb 1171539613348803 0 (2 ^ 76)
+unfolding tcb_rate_lb round
+lb_val = record { sign = false; size = 1171539613348803; has = (refl, refl); is = refl }
 
-pub ratio-lb-val : Val tcbRateRatio 2343079263027513 0 (2 ^ 77)
-unfolding tcbRateRatio ratio tcbRateLb sub div round
+pub ratio-lb-val : Val tcb_rate_ratio 2343079263027513 0 (2 ^ 77)
+unfolding tcb_rate_ratio ratio tcb_rate_lb sub div round
 ratio-lb-val = record { sign = false; size = 2343079263027513; has = (refl, refl); is = refl }

@@ -3,25 +3,25 @@
 use Rattle.std.proofs.Common.{ℕ, ◌+◌, ◌*◌, ◌^◌, ◌<◌, ◌≤◌, false, refl, ap, subst, add_comm, arith, lit<}
 use lib.Ieee.{Float, binary64, add, sub, mul, round}
 use Rattle.rounding.specs.Value.{Val, L}
-use Rattle.rounding.proofs.About.{U, About, about-own, about-scale, about-add, about-sub, about-mul, about-div}
-use Rattle.constants.specs.Constants.{secondsPerDay}
+use Rattle.rounding.proofs.About.{U, About, about_own, about_scale, about_add, about_sub, about_mul, about_div}
+use Rattle.constants.specs.Constants.{seconds_per_day}
 use Rattle.scales.specs.Formulas.{since}
-use Rattle.julian.specs.shifts.Shifts.{plus, minus, daysOf}
+use Rattle.julian.specs.shifts.Shifts.{plus, minus, days_of}
 
 -- a part of at most S units, its value (p - n) / L written over L * c
 pub part : (c S : ℕ) {x : Float} {p n : ℕ} → 0 < c → p ≤ n + S * U → n ≤ p + S * U → Val x p n L → About x (p * c) (n * c) (L * c) S 0
-part c S C h k v = about-scale c C (about-own S h k v)
+part c S C h k v = about_scale c C (about_own S h k v)
 
 -- ---- so many days more, or less
 module _ (i c S : ℕ) {small days : Float} (big : Float) {p n K K' M e : ℕ} (C : 0 < c) (I : 985 + i ≤ 2044) (r : S + M + (0 + e) < 2 ^ (54 + i))
     (h : p ≤ n + S * U) (k : n ≤ p + S * U) (v : Val small p n L) (a : About days K K' (L * c) M e) where
   pub plus-about : About (plus days big small) (p * c + K) (n * c + K') (L * c) (S + M) (0 + e + 2 ^ i)
   unfolding plus
-  plus-about = about-add i I r (part c S C h k v) a
+  plus-about = about_add i I r (part c S C h k v) a
 
   pub minus-about : About (minus days big small) (p * c + K') (n * c + K) (L * c) (S + M) (0 + e + 2 ^ i)
   unfolding minus
-  minus-about = about-sub i I r (part c S C h k v) a
+  minus-about = about_sub i I r (part c S C h k v) a
 
 -- seconds as days
 day-val : Val (round binary64 false 86400 1) 86400 0 1
@@ -30,9 +30,9 @@ day-val = record { sign = false; size = 86400; has = (refl, refl); is = refl }
 
 pub days-about : (i S M : ℕ) {seconds : Float} {p n : ℕ} → 985 + i ≤ 2044 → S ≤ M * 86400 → S + 0 < 2 ^ (54 + i) * 86400 → p ≤ n + S * U → n ≤ p + S * U
     → Val seconds p n L
-    → About (daysOf seconds) (p * 1) (n * 1) (L * 86400) M (2 ^ i)
-unfolding daysOf secondsPerDay
-days-about i S M I m r h k v = about-div i 86400 M (2 ^ i) I (lit< tt) m r (go (2 ^ i)) day-val (about-own S h k v)
+    → About (days_of seconds) (p * 1) (n * 1) (L * 86400) M (2 ^ i)
+unfolding days_of seconds_per_day
+days-about i S M I m r h k v = about_div i 86400 M (2 ^ i) I (lit< tt) m r (go (2 ^ i)) day-val (about_own S h k v)
   where
     go : (t : ℕ) → 0 + t * 86400 ≤ t * 86400
     go t = omega arith
@@ -44,13 +44,13 @@ module _ (i1 i2 i3 : ℕ) {a b big y : Float} {P N Q R K H D M1 M2 M3 M4 e1 e2 e
     (vb : About big P N D M1 e1) (vy : About y Q R D M2 e2) (va : About a K 0 D M3 e3) (vc : About b H 0 D M4 e4) where
   pub since-about : About (since a b big y) (P + 0 + (Q + 0)) (N + K + (R + H)) D (M1 + M3 + (M2 + M4)) (e1 + e3 + 2 ^ i1 + (e2 + e4 + 2 ^ i2) + 2 ^ i3)
   unfolding since
-  since-about = about-add i3 I3 r3 (about-sub i1 I1 r1 vb va) (about-sub i2 I2 r2 vy vc)
+  since-about = about_add i3 I3 r3 (about_sub i1 I1 r1 vb va) (about_sub i2 I2 r2 vy vc)
 
   -- the same with the other sign
   pub until-about : About (sub binary64 (sub binary64 a big) (sub binary64 y b)) (K + N + (R + H)) (0 + P + (Q + 0)) D (M3 + M1 + (M2 + M4))
       (e3 + e1 + 2 ^ i1 + (e2 + e4 + 2 ^ i2) + 2 ^ i3)
-  until-about = about-sub i3 I3 (other M1 M3 (M2 + M4) e1 e3 (2 ^ i1) (e2 + e4 + 2 ^ i2) (2 ^ (54 + i3)) r3)
-      (about-sub i1 I1 (turn M1 M3 e1 e3 (2 ^ (54 + i1)) r1) va vb) (about-sub i2 I2 r2 vy vc)
+  until-about = about_sub i3 I3 (other M1 M3 (M2 + M4) e1 e3 (2 ^ i1) (e2 + e4 + 2 ^ i2) (2 ^ (54 + i3)) r3)
+      (about_sub i1 I1 (turn M1 M3 e1 e3 (2 ^ (54 + i1)) r1) va vb) (about_sub i2 I2 r2 vy vc)
     where
       turn : (a b c d w : ℕ) → a + b + (c + d) < w → b + a + (d + c) < w
       turn a b c d w h = omega arith
@@ -64,10 +64,10 @@ module _ (i4 i5 A B C E Δ M' e' : ℕ) {k x z : Float} {P N Q R D M e Mz ez : �
     (b4 : e * (B * C) + Δ * M + 2 ^ i4 * (E * C) ≤ e' * (E * C))
     (r5 : Mz + M' + (ez + e') < 2 ^ (54 + i5)) (kv : Val k B 0 E) (a : About x P N D M e) (b : About z Q R D Mz ez) where
   pub rate-less : About (sub binary64 z (mul binary64 x k)) (Q * C + N * A) (R * C + P * A) (D * C) (Mz + M') (ez + e' + 2 ^ i5)
-  rate-less = about-sub i5 I5 r5 (about-scale C G b) (about-mul i4 A B C E Δ M' e' I4 F G d1 d2 m r4 b4 kv a)
+  rate-less = about_sub i5 I5 r5 (about_scale C G b) (about_mul i4 A B C E Δ M' e' I4 F G d1 d2 m r4 b4 kv a)
 
   pub rate-more : About (add binary64 z (mul binary64 x k)) (Q * C + P * A) (R * C + N * A) (D * C) (Mz + M') (ez + e' + 2 ^ i5)
-  rate-more = about-add i5 I5 r5 (about-scale C G b) (about-mul i4 A B C E Δ M' e' I4 F G d1 d2 m r4 b4 kv a)
+  rate-more = about_add i5 I5 r5 (about_scale C G b) (about_mul i4 A B C E Δ M' e' I4 F G d1 d2 m r4 b4 kv a)
 
 -- ---- the same over any range: the larger part is at most S in size; y, from which the days since 1977 are counted, and z, which is corrected, at most My and
 -- Mz, with the errors ey and ez; the two constants at most Ma and Mb, the second with the error eb. M and e are the size and the error of the correction.

@@ -6,8 +6,8 @@ use lib.Ieee.{Float, binary64, add, sub, fits}
 use lib.Ieee.Scale.{finite}
 use lib.Ieee.Exact.{HasValue}
 use Rattle.rounding.specs.Value.{Val, Rounds, L}
-use Rattle.rounding.proofs.Signed.{dist, dist-up, signed_le, signed_of, plus-of, minus-of}
-use Rattle.rounding.proofs.Value.{L-pos, val-finite-true, add_rounds, sub-rounds}
+use Rattle.rounding.proofs.Signed.{dist, dist_up, signed_le, signed_of, plus-of, minus-of}
+use Rattle.rounding.proofs.Value.{L-pos, val-finite-true, add_rounds, sub_rounds}
 use Rattle.rounding.proofs.Own.{Rep, val-rep, val-small}
 use Rattle.rounding.proofs.Optimal.{step, multiple, step-optimal}
 use Rattle.rounding.proofs.Relative.{step-has}
@@ -16,11 +16,11 @@ use Rattle.rounding.proofs.Relative.{step-has}
 abbrev largest : ℕ
 largest = 9007199254740991 * 2 ^ 2045
 
-largest-rep : Rep largest
-largest-rep = record { q = 9007199254740991; j = 2045; is = refl; small = lit< tt }
+largest_rep : Rep largest
+largest_rep = record { q = 9007199254740991; j = 2045; is = refl; small = lit< tt }
 
-rep-largest : (a : ℕ) → Rep a → a < 2 ^ 2098 → a ≤ largest
-rep-largest a r h = go (leb (2 ^ 2097) a) (leb→le (2 ^ 2097) a) (nleb→lt (2 ^ 2097) a)
+rep_largest : (a : ℕ) → Rep a → a < 2 ^ 2098 → a ≤ largest
+rep_largest a r h = go (leb (2 ^ 2097) a) (leb→le (2 ^ 2097) a) (nleb→lt (2 ^ 2097) a)
   where
     few : (d : ℕ) → a ≡ d * 2 ^ 2045 → a ≤ largest
     few d e =
@@ -38,15 +38,15 @@ rep-largest a r h = go (leb (2 ^ 2097) a) (leb→le (2 ^ 2097) a) (nleb→lt (2 
     go false f g = under a (2 ^ 2097) largest (g tt) (lit≤ tt)
 
 -- what is at most 2 ^ 2043 units above the largest f64 is rounded down to it
-rounded-down : (a : ℕ) → a ≤ largest + 2 ^ 2043 → step a < 2 ^ 2098
-rounded-down a h = lt_of_le_of_lt (go a largest (step a) (2 ^ 2043) h (step-optimal a largest largest-rep)) (lit< tt)
+rounded_down : (a : ℕ) → a ≤ largest + 2 ^ 2043 → step a < 2 ^ 2098
+rounded_down a h = lt_of_le_of_lt (go a largest (step a) (2 ^ 2043) h (step-optimal a largest largest_rep)) (lit< tt)
   where
     go : (a y s K : ℕ) → a ≤ y + K → (s - a) + (a - s) ≤ (y - a) + (a - y) → s ≤ y + 2 * K
     go a y s K h k = omega arith
 
 pub stays : {z : Float} {P N : ℕ} → P ≤ N + (largest + 2 ^ 2043) → N ≤ P + (largest + 2 ^ 2043) → Rounds binary64 z P N L → finite z ≡ true
 stays {z} {P} {N} u l r =
-    let h = step-has r.sign r.size (rounded-down r.size (signed_le r.sign r.size P N (largest + 2 ^ 2043) r.is u l)) in
+    let h = step-has r.sign r.size (rounded_down r.size (signed_le r.sign r.size P N (largest + 2 ^ 2043) r.is u l)) in
     has-finite-true z r.sign (step r.size) (subst (λ (x : Float). HasValue x r.sign (step r.size) L) (sym r.eq) h)
   where
     has-finite-true : (x : Float) (s : Bool) (a : ℕ) → HasValue x s a L → finite x ≡ true
@@ -61,19 +61,19 @@ near p n q m d B h k l = go p n q m d B (2 ^ 2043) h k l
 -- y is at most 2 ^ 2043 units, 2 ^ 969, in size
 module _ {x y : Float} {p n q m : ℕ} (f : T (fits binary64 x)) (v : Val x p n L) (w : Val y q m L) (hq : q ≤ m + 2 ^ 2043) (hm : m ≤ q + 2 ^ 2043) where
   top : dist p n ≤ largest
-  top = rep-largest (dist p n) (val-rep f v) (val-small f v)
+  top = rep_largest (dist p n) (val-rep f v) (val-small f v)
 
-  pub add-stays : finite (add binary64 x y) ≡ true
-  add-stays = stays (near p n q m (dist p n) largest (dist-up p n).0 top hq) (near n p m q (dist p n) largest (dist-up p n).1 top hm)
+  pub add_stays : finite (add binary64 x y) ≡ true
+  add_stays = stays (near p n q m (dist p n) largest (dist_up p n).0 top hq) (near n p m q (dist p n) largest (dist_up p n).1 top hm)
       (add_rounds binary64 L-pos v w)
 
-  pub sub-stays : finite (sub binary64 x y) ≡ true
-  sub-stays = stays (near p n m q (dist p n) largest (dist-up p n).0 top hm) (near n p q m (dist p n) largest (dist-up p n).1 top hq)
-      (sub-rounds binary64 L-pos v w)
+  pub sub_stays : finite (sub binary64 x y) ≡ true
+  sub_stays = stays (near p n m q (dist p n) largest (dist_up p n).0 top hm) (near n p q m (dist p n) largest (dist_up p n).1 top hq)
+      (sub_rounds binary64 L-pos v w)
 
   pub from-stays : finite (sub binary64 y x) ≡ true
-  from-stays = stays (turn q m n p (near n p q m (dist p n) largest (dist-up p n).1 top hq))
-      (turn m q p n (near p n m q (dist p n) largest (dist-up p n).0 top hm)) (sub-rounds binary64 L-pos w v)
+  from-stays = stays (turn q m n p (near n p q m (dist p n) largest (dist_up p n).1 top hq))
+      (turn m q p n (near p n m q (dist p n) largest (dist_up p n).0 top hm)) (sub_rounds binary64 L-pos w v)
     where
       turn : (a b c d : ℕ) → c + a ≤ d + b + (largest + 2 ^ 2043) → a + c ≤ b + d + (largest + 2 ^ 2043)
       turn a b c d h = go a b c d (largest + 2 ^ 2043) h

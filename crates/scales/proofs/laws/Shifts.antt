@@ -5,10 +5,10 @@ use lib.Ieee.Scale.{finite}
 use Rattle.rounding.specs.Value.{Val, L}
 use Rattle.rounding.proofs.Own.{own, own_val}
 use Rattle.rounding.proofs.About.{U, About, size-high, size_low}
-use Rattle.constants.specs.Constants.{mjdZeroPoint, tcgReferenceEpoch}
-use Rattle.scales.specs.Formulas.{ttDays, tdb0, jd1977, gpsDays}
-use Rattle.scales.proofs.laws.NoOverflow.{add-stays, sub-stays, from-stays}
-use Rattle.scales.proofs.laws.Constants.{gps-about, tt-about, tdb0-about, mjd-about, epoch-about, jd1977-about}
+use Rattle.constants.specs.Constants.{mjd_zero_point, tcg_reference_epoch}
+use Rattle.scales.specs.Formulas.{tt_days, tdb0, jd1977, gps_days}
+use Rattle.scales.proofs.laws.NoOverflow.{add_stays, sub_stays, from-stays}
+use Rattle.scales.proofs.laws.Constants.{gps-about, tt_about, tdb0-about, mjd-about, epoch_about, jd1977-about}
 
 pub record Small (x : Float) : Type 0 where
   pub p : ℕ
@@ -35,28 +35,28 @@ small_of {x} {P} {N} {D} {M} {e} h a =
 -- a finite f64 stays finite
 module _ {k : Float} (w : Small k) (x : Float) (f : T (fits binary64 x)) (h : finite x ≡ true) where
   pub added : finite (add binary64 x k) ≡ true
-  added = add-stays f (own_val x (own x f (subst T (sym h) tt))) w.val w.high w.low
+  added = add_stays f (own_val x (own x f (subst T (sym h) tt))) w.val w.high w.low
 
   pub taken : finite (sub binary64 x k) ≡ true
-  taken = sub-stays f (own_val x (own x f (subst T (sym h) tt))) w.val w.high w.low
+  taken = sub_stays f (own_val x (own x f (subst T (sym h) tt))) w.val w.high w.low
 
   pub taken-from : finite (sub binary64 k x) ≡ true
   taken-from = from-stays f (own_val x (own x f (subst T (sym h) tt))) w.val w.high w.low
 
-pub tt-small : Small ttDays
-tt-small = small_of (lit≤ tt) tt-about
+pub tt_small : Small tt_days
+tt_small = small_of (lit≤ tt) tt_about
 
-pub gps-small : Small gpsDays
+pub gps-small : Small gps_days
 gps-small = small_of (lit≤ tt) gps-about
 
 pub tdb0-small : Small tdb0
 tdb0-small = small_of (lit≤ tt) tdb0-about
 
-pub zero-point-small : Small mjdZeroPoint
-zero-point-small = small_of (lit≤ tt) mjd-about
+pub zero_point_small : Small mjd_zero_point
+zero_point_small = small_of (lit≤ tt) mjd-about
 
 pub jd1977-small : Small jd1977
 jd1977-small = small_of (lit≤ tt) jd1977-about
 
-pub epoch-small : Small tcgReferenceEpoch
-epoch-small = small_of (lit≤ tt) epoch-about
+pub epoch_small : Small tcg_reference_epoch
+epoch_small = small_of (lit≤ tt) epoch_about

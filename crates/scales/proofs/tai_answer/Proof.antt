@@ -1,17 +1,17 @@
 -- `scales::tai_answer` meets its contract: each case keeps what it carries. Assumes nothing.
 use Rattle.std.proofs.Common.{sym, ap, rules}
-use Rattle.julian.specs.JulianDate.{julianOutcome}
-use Rattle.scales.specs.Scales.{taiOutcome}
+use Rattle.julian.specs.JulianDate.{julian_outcome}
+use Rattle.scales.specs.Scales.{tai_outcome}
 use Rattle.scales.proofs.tai_answer.Statement.{statement}
 use Rattle.scales.proofs.tai_answer.Tie as tie
 
 returns : tie.Need-returns
-unfolding taiOutcome julianOutcome
-returns c = sym (ap julianOutcome c.before.a.given.1)
+unfolding tai_outcome julian_outcome
+returns c = sym (ap julian_outcome c.before.a.given.1)
 
 returns-2 : tie.Need-returns-2
-unfolding taiOutcome julianOutcome
-returns-2 c = sym (ap julianOutcome c.before.a2.given.1)
+unfolding tai_outcome julian_outcome
+returns-2 c = sym (ap julian_outcome c.before.a2.given.1)
 
 pub tai-answer-spec : {M : Type 1} → statement M
 tai-answer-spec = tie.close (tie.spec (λ c. search rules) (λ c. search rules) returns returns-2)

@@ -1,17 +1,17 @@
 -- `scales::tcg_answer` meets its contract: each case keeps what it carries. Assumes nothing.
 use Rattle.std.proofs.Common.{sym, ap, rules}
-use Rattle.julian.specs.JulianDate.{julianOutcome}
-use Rattle.scales.specs.Scales.{tcgOutcome}
+use Rattle.julian.specs.JulianDate.{julian_outcome}
+use Rattle.scales.specs.Scales.{tcg_outcome}
 use Rattle.scales.proofs.tcg_answer.Statement.{statement}
 use Rattle.scales.proofs.tcg_answer.Tie as tie
 
 returns : tie.Need-returns
-unfolding tcgOutcome julianOutcome
-returns c = sym (ap julianOutcome c.before.a.given.1)
+unfolding tcg_outcome julian_outcome
+returns c = sym (ap julian_outcome c.before.a.given.1)
 
 returns-2 : tie.Need-returns-2
-unfolding tcgOutcome julianOutcome
-returns-2 c = sym (ap julianOutcome c.before.a2.given.1)
+unfolding tcg_outcome julian_outcome
+returns-2 c = sym (ap julian_outcome c.before.a2.given.1)
 
 pub tcg-answer-spec : {M : Type 1} → statement M
 tcg-answer-spec = tie.close (tie.spec (λ c. search rules) (λ c. search rules) returns returns-2)

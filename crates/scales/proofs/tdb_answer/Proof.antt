@@ -1,17 +1,17 @@
 -- `scales::tdb_answer` meets its contract: each case keeps what it carries. Assumes nothing.
 use Rattle.std.proofs.Common.{sym, ap, rules}
-use Rattle.julian.specs.JulianDate.{julianOutcome}
-use Rattle.scales.specs.Scales.{tdbOutcome}
+use Rattle.julian.specs.JulianDate.{julian_outcome}
+use Rattle.scales.specs.Scales.{tdb_outcome}
 use Rattle.scales.proofs.tdb_answer.Statement.{statement}
 use Rattle.scales.proofs.tdb_answer.Tie as tie
 
 returns : tie.Need-returns
-unfolding tdbOutcome julianOutcome
-returns c = sym (ap julianOutcome c.before.a.given.1)
+unfolding tdb_outcome julian_outcome
+returns c = sym (ap julian_outcome c.before.a.given.1)
 
 returns-2 : tie.Need-returns-2
-unfolding tdbOutcome julianOutcome
-returns-2 c = sym (ap julianOutcome c.before.a2.given.1)
+unfolding tdb_outcome julian_outcome
+returns-2 c = sym (ap julian_outcome c.before.a2.given.1)
 
 pub tdb-answer-spec : {M : Type 1} → statement M
 tdb-answer-spec = tie.close (tie.spec (λ c. search rules) (λ c. search rules) returns returns-2)

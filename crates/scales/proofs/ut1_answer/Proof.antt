@@ -1,17 +1,17 @@
 -- `scales::ut1_answer` meets its contract: each case keeps what it carries. Assumes nothing.
 use Rattle.std.proofs.Common.{sym, ap, rules}
-use Rattle.julian.specs.JulianDate.{julianOutcome}
-use Rattle.scales.specs.Scales.{ut1Outcome}
+use Rattle.julian.specs.JulianDate.{julian_outcome}
+use Rattle.scales.specs.Scales.{ut1_outcome}
 use Rattle.scales.proofs.ut1_answer.Statement.{statement}
 use Rattle.scales.proofs.ut1_answer.Tie as tie
 
 returns : tie.Need-returns
-unfolding ut1Outcome julianOutcome
-returns c = sym (ap julianOutcome c.before.a.given.1)
+unfolding ut1_outcome julian_outcome
+returns c = sym (ap julian_outcome c.before.a.given.1)
 
 returns-2 : tie.Need-returns-2
-unfolding ut1Outcome julianOutcome
-returns-2 c = sym (ap julianOutcome c.before.a2.given.1)
+unfolding ut1_outcome julian_outcome
+returns-2 c = sym (ap julian_outcome c.before.a2.given.1)
 
 pub ut1-answer-spec : {M : Type 1} → statement M
 ut1-answer-spec = tie.close (tie.spec (λ c. search rules) (λ c. search rules) returns returns-2)

@@ -5,19 +5,19 @@ use Rattle.refusals.specs.Outcome.{Outcome, answer, refusal}
 use Rattle.scales.specs.declared.gps_weeks.FullWeekAnswer.{FullWeekAnswer}
 use Rattle.scales.specs.declared.gps_weeks.FullWeekAnswer.TheVariants as Answer
 
-unfoldable pub fullOutcome : FullWeekAnswer → Outcome ℕ
-fullOutcome (Answer.Week w) = answer w
-fullOutcome (Answer.Refused number) = refusal number
+unfoldable pub full_outcome : FullWeekAnswer → Outcome ℕ
+full_outcome (Answer.Week w) = answer w
+full_outcome (Answer.Refused number) = refusal number
 
 -- the week `back` before the reference, or the one 1,024 later, whichever is nearer
-unfoldable pub byDistance : ℕ → ℕ → Outcome ℕ
-byDistance reference back = cond (back == 512) (refusal 19) (cond (nat_lt back 512) (answer (reference - back)) (answer (reference - back + 1024)))
+unfoldable pub by_distance : ℕ → ℕ → Outcome ℕ
+by_distance reference back = cond (back == 512) (refusal 19) (cond (nat_lt back 512) (answer (reference - back)) (answer (reference - back + 1024)))
 
 -- where the ten bits are above the reference, the week of the bits themselves is the first that is not below 0
-unfoldable pub fullWeek : ℕ → ℕ → Outcome ℕ
-fullWeek bits reference =
+unfoldable pub full_week : ℕ → ℕ → Outcome ℕ
+full_week bits reference =
     cond (nat_le 1024 bits || nat_lt 99000 reference) (refusal 18)
-    (cond (nat_lt reference bits) (answer bits) (byDistance reference ((reference - bits) % 1024)))
+    (cond (nat_lt reference bits) (answer bits) (by_distance reference ((reference - bits) % 1024)))
 
 -- how far two weeks are apart
 abbrev pub apart : ℕ → ℕ → ℕ
@@ -33,7 +33,7 @@ pub record Tie (bits reference : ℕ) : Type 0 where
   pub v : ℕ
   pub w : ℕ
   pub two : v < w
-  pub has-v : v % 1024 ≡ bits
-  pub has-w : w % 1024 ≡ bits
+  pub has_v : v % 1024 ≡ bits
+  pub has_w : w % 1024 ≡ bits
   pub level : apart v reference ≡ apart w reference
-  pub none-nearer : (u : ℕ) → u % 1024 ≡ bits → apart v reference ≤ apart u reference
+  pub none_nearer : (u : ℕ) → u % 1024 ≡ bits → apart v reference ≤ apart u reference

@@ -5,45 +5,45 @@ use Rattle.std.specs.Prelude.{ℕ, ◌+◌, ◌-◌, ◌*◌, ◌/◌, ◌%◌, 
 use Rattle.std.specs.Float.{binary64}
 use Rattle.std.specs.Float.Ieee.{mul, to_signed}
 use Rattle.refusals.specs.Outcome.{Outcome, answer, refusal, onward}
-use Rattle.floats.specs.Whole.{toWhole, away}
+use Rattle.floats.specs.Whole.{to_whole, away}
 use Rattle.constants.specs.Constants.{decimal}
-use Rattle.julian.specs.day_number.Answer.{dayNumberAndFraction}
+use Rattle.julian.specs.day_number.Answer.{day_number_and_fraction}
 use Rattle.julian.specs.declared.JulianDate.{JulianDate}
-use Rattle.julian.specs.Finite.{finiteJd}
-use Rattle.time_of_day.specs.TimeShown.{fromZero}
+use Rattle.julian.specs.Finite.{finite_jd}
+use Rattle.time_of_day.specs.TimeShown.{from_zero}
 use Rattle.scales.specs.declared.gps_weeks.WeekTime.{WeekTime}
 use Rattle.scales.specs.declared.gps_weeks.WeekAnswer.{WeekAnswer}
 use Rattle.scales.specs.declared.gps_weeks.WeekAnswer.TheVariants as Answer
-use Rattle.scales.specs.gps_weeks.WeekDate.{firstDay}
+use Rattle.scales.specs.gps_weeks.WeekDate.{first_day}
 
 -- document 02's answer: a week and its milliseconds, or a refusal number
-unfoldable pub weekOutcome : WeekAnswer → Outcome WeekTime
-weekOutcome (Answer.At t) = answer t
-weekOutcome (Answer.Refused number) = refusal number
+unfoldable pub week_outcome : WeekAnswer → Outcome WeekTime
+week_outcome (Answer.At t) = answer t
+week_outcome (Answer.Refused number) = refusal number
 
-abbrev pub weekTime : ℕ → ℕ → WeekTime
-weekTime week ms = record { week = week; millis = ms }
+abbrev pub week_time : ℕ → ℕ → WeekTime
+week_time week ms = record { week = week; millis = ms }
 
 -- the fraction times 86,400,000, as floats
-unfoldable pub productOf : Float → Float
-productOf fraction = mul binary64 fraction (decimal 86400000 0)
+unfoldable pub product_of : Float → Float
+product_of fraction = mul binary64 fraction (decimal 86400000 0)
 
 -- the exact value of that product to the nearest whole number; of a number from 0 up, a half that goes away from 0 goes up. It is never below 0 (`millis-near`)
-unfoldable pub dayMillis : Float → ℕ
-dayMillis fraction = fromZero (to_signed 63 (toWhole away (productOf fraction)))
+unfoldable pub day_millis : Float → ℕ
+day_millis fraction = from_zero (to_signed 63 (to_whole away (product_of fraction)))
 
 -- the week of so many milliseconds since midnight of day 0
-unfoldable pub weekAt : ℕ → Outcome WeekTime
-weekAt count =
-    cond (nat_lt count (firstDay * 86400000)) (refusal 18)
-    (cond (nat_le ((count - firstDay * 86400000) / 604800000) 100000)
-    (answer (weekTime ((count - firstDay * 86400000) / 604800000) ((count - firstDay * 86400000) % 604800000)))
+unfoldable pub week_at : ℕ → Outcome WeekTime
+week_at count =
+    cond (nat_lt count (first_day * 86400000)) (refusal 18)
+    (cond (nat_le ((count - first_day * 86400000) / 604800000) 100000)
+    (answer (week_time ((count - first_day * 86400000) / 604800000) ((count - first_day * 86400000) % 604800000)))
     (refusal 18))
 
 -- a day with its milliseconds, 86,400,000 where the next day begins; a day below 0 is before the first week
-unfoldable pub weekOfDay : ℤ → ℕ → Outcome WeekTime
-weekOfDay (pos n) ms = weekAt (n * 86400000 + ms)
-weekOfDay (negsuc n) ms = refusal 18
+unfoldable pub week_of_day : ℤ → ℕ → Outcome WeekTime
+week_of_day (pos n) ms = week_at (n * 86400000 + ms)
+week_of_day (negsuc n) ms = refusal 18
 
-unfoldable pub weekOf : JulianDate → Outcome WeekTime
-weekOf d = onward (finiteJd d) (λ e. onward (dayNumberAndFraction e.jd1 e.jd2) (λ n. weekOfDay n.day (dayMillis n.fraction)))
+unfoldable pub week_of : JulianDate → Outcome WeekTime
+week_of d = onward (finite_jd d) (λ e. onward (day_number_and_fraction e.jd1 e.jd2) (λ n. week_of_day n.day (day_millis n.fraction)))

@@ -38,7 +38,7 @@ Modified d = (AtMost (power 23) d.jd1 × AtMost (decimal 131071 0) d.jd2) ⊎ (A
 abbrev pub HalfDay : Float → Type 0
 HalfDay s = AtMost (decimal 43200 0) s
 
--- both parts of a date are finite: the fact that the test `finiteParts` of `julian` finds
+-- both parts of a date are finite: the fact that the test `finite_parts` of `julian` finds
 abbrev pub FiniteParts : JulianDate → Type 0
 FiniteParts d = (finite d.jd1 ≡ true) × (finite d.jd2 ≡ true)
 

@@ -3,14 +3,14 @@ use mathlib.Core.Path.{refl, sym, ap, ◌∙◌}
 use Prim.Native.Nat.{ℕ, ◌+◌, ◌-◌, ◌*◌, ◌<◌}
 use native.Mathlib.Omega.{arith}
 use borrow.Author.Tests.{le-ltb, lt-ltb}
-use Rattle.since_launch.specs.Millis.{millisOutcome, in_range}
+use Rattle.since_launch.specs.Millis.{millis_outcome, in_range}
 use Rattle.since_launch.proofs.Counts.{early, late, below-0, counted}
 use borrow.Author.Rules.{rules}
 use Rattle.since_launch.proofs.count_of.Statement.{statement}
 use Rattle.since_launch.proofs.count_of.Tie as tie
 
 returns : tie.Need-returns
-unfolding millisOutcome
+unfolding millis_outcome
 returns c =
     let s = c.before.before.before in
     let p = s.args.from in
@@ -18,7 +18,7 @@ returns c =
     early p.days p.units q.days q.units s.requires.0.units s.requires.1.units c.if1.true
 
 returns-2 : tie.Need-returns-2
-unfolding millisOutcome
+unfolding millis_outcome
 returns-2 c =
     let s = c.before.before.before.before.before.before in
     let p = s.args.from in
@@ -26,7 +26,7 @@ returns-2 c =
     late p.days p.units q.days q.units s.requires.0.units s.requires.1.units (omega (arith, c.before.before.before.if1.false)) c.if2.true
 
 returns-3 : tie.Need-returns-3
-unfolding millisOutcome
+unfolding millis_outcome
 returns-3 c =
     let s = c.before.before.before.before.before.before.before.before.before.before in
     let p = s.args.from in
@@ -36,7 +36,7 @@ returns-3 c =
     (omega (arith, c.if3.true, c.before.nearest-count.ensures.0))
 
 returns-4 : tie.Need-returns-4
-unfolding millisOutcome in_range
+unfolding millis_outcome in_range
 returns-4 c =
     let s = c.before.before.before.before.before.before.before.before.before.before.before in
     let p = s.args.from in
@@ -48,7 +48,7 @@ returns-4 c =
     (ap (λ (k : ℕ). (q.days + 1 - p.days) * 86400000 + k) c.before.before.nearest-count.ensures.0) c.before.if3.false
 
 returns-5 : tie.Need-returns-5
-unfolding millisOutcome in_range
+unfolding millis_outcome in_range
 returns-5 c =
     let s = c.before.before.before.before.before.before.before.before.before.before.before in
     let p = s.args.from in

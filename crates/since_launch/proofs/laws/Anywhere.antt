@@ -8,23 +8,23 @@ use mathlib.Core.Bool.{Bool, true, false, cond, ◌&&◌}
 use lib.IntN.{ℤ, pos, ◌+ℤ◌, ◌-ℤ◌}
 use lib.Ieee.{Float}
 use Rattle.refusals.specs.Outcome.{Outcome, answer, refusal, onward}
-use Rattle.rounding.specs.Value.{L, plusZ, minusZ}
+use Rattle.rounding.specs.Value.{L, plus_z, minus_z}
 use Rattle.rounding.proofs.Value.{val-move, L-pos}
-use Rattle.rounding.proofs.Casts.{add-pair, sub-pair}
-use Rattle.rounding.proofs.Compare.{lt-says}
+use Rattle.rounding.proofs.Casts.{add_pair, sub_pair}
+use Rattle.rounding.proofs.Compare.{lt_says}
 use Rattle.julian.specs.declared.JulianDate.{JulianDate}
 use Rattle.julian.specs.declared.day_number.DayNumber.{DayNumber}
-use Rattle.julian.specs.day_number.Answer.{dayNumberAndFraction}
+use Rattle.julian.specs.day_number.Answer.{day_number_and_fraction}
 use Rattle.julian.specs.day_number.NearDay.{DayNear}
 use Rattle.julian.proofs.day_number.OffGrid.{day-near}
 use Rattle.julian.proofs.day_number.Ranges.{day-range, fraction-range}
-use Rattle.julian.specs.Finite.{finiteParts}
+use Rattle.julian.specs.Finite.{finite_parts}
 use Rattle.julian.specs.Worth.{Worth, SmallParts}
-use Rattle.time_of_day.specs.TimeShown.{fromZero}
-use Rattle.time_of_day.specs.HalfEven.{gridUnits}
+use Rattle.time_of_day.specs.TimeShown.{from_zero}
+use Rattle.time_of_day.specs.HalfEven.{grid_units}
 use Rattle.time_of_day.proofs.Fractions.{one-val}
 use Rattle.since_launch.specs.declared.Place.{Place}
-use Rattle.since_launch.specs.Millis.{place_of, place_in, unitsOf, count_of, millisFromTo}
+use Rattle.since_launch.specs.Millis.{place_of, place_in, units_of, count_of, millis_from_to}
 use Rattle.since_launch.specs.laws.NearestMillis.{NearestMillis}
 use Rattle.since_launch.specs.laws.NearSums.{NearMillis}
 use Rattle.since_launch.proofs.Units.{units-floor}
@@ -37,7 +37,7 @@ pub record PlaceNear (P N p : ℕ) : Type 0 where
   pub under : 4503599627370496 * P + (68570 * 4503599627370496 + 2251799813685248) * L ≤ p * L + 4503599627370496 * N + 3 * L
 
 module _ (d : JulianDate) (P N : ℕ) (s : SmallParts d) (w : Worth d P N L) (number : DayNumber)
-    (given : dayNumberAndFraction d.jd1 d.jd2 ≡ answer number) where
+    (given : day_number_and_fraction d.jd1 d.jd2 ≡ answer number) where
   abbrev i : ℤ
   i = pos w.p -ℤ pos w.n
 
@@ -45,31 +45,31 @@ module _ (d : JulianDate) (P N : ℕ) (s : SmallParts d) (w : Worth d P N L) (nu
   j = pos w.q -ℤ pos w.m
 
   near : DayNear (i +ℤ j) number.day number.fraction
-  near = day-near d.jd1 d.jd2 s.first s.second i j (val-move w.first (omega (arith, sub-pair (pos w.p) (pos w.n))))
-      (val-move w.second (omega (arith, sub-pair (pos w.q) (pos w.m)))) number given
+  near = day-near d.jd1 d.jd2 s.first s.second i j (val-move w.first (omega (arith, sub_pair (pos w.p) (pos w.n))))
+      (val-move w.second (omega (arith, sub_pair (pos w.q) (pos w.m)))) number given
 
-  is_sum : plusZ (i +ℤ j) + N ≡ P + minusZ (i +ℤ j)
-  is_sum = omega (arith, add-pair i j, sub-pair (pos w.p) (pos w.n), sub-pair (pos w.q) (pos w.m), w.total)
+  is_sum : plus_z (i +ℤ j) + N ≡ P + minus_z (i +ℤ j)
+  is_sum = omega (arith, add_pair i j, sub_pair (pos w.p) (pos w.n), sub_pair (pos w.q) (pos w.m), w.total)
 
   below_one : near.units < L
   below_one =
       let r = fraction-range d.jd1 d.jd2 s.first.held s.second.held number given in
-      let h : near.units + 0 < L + 0 = lt-says L-pos near.val (one-val L) r.high in
+      let h : near.units + 0 < L + 0 = lt_says L-pos near.val (one-val L) r.high in
       omega arith
 
-  pub place-near : PlaceNear P N (unitsOf (place_of number))
+  pub place-near : PlaceNear P N (units_of (place_of number))
   unfolding place_of
   place-near =
       let u = units-floor number.fraction near.units (fraction-held d.jd1 d.jd2 s.first.held s.second.held number given) near.val
       below_one in
-      let a = fromZero (number.day +ℤ pos 68570) in
-      let k = gridUnits number.fraction in
-      let e = times a (minusZ number.day) (plusZ number.day)
+      let a = from_zero (number.day +ℤ pos 68570) in
+      let k = grid_units number.fraction in
+      let e = times a (minus_z number.day) (plus_z number.day)
       (days-are number.day (day-range d.jd1 d.jd2 s.first.held s.second.held number given)) in
       record {
-        over = above (plusZ (i +ℤ j)) (minusZ (i +ℤ j)) near.units (k * L) (a * L) (minusZ number.day * L) (plusZ number.day * L)
+        over = above (plus_z (i +ℤ j)) (minus_z (i +ℤ j)) near.units (k * L) (a * L) (minus_z number.day * L) (plus_z number.day * L)
             ((a * 4503599627370496 + k) * L) is_sum e (spread a k) u.0 near.over;
-        under = below (plusZ (i +ℤ j)) (minusZ (i +ℤ j)) near.units (k * L) (a * L) (minusZ number.day * L) (plusZ number.day * L)
+        under = below (plus_z (i +ℤ j)) (minus_z (i +ℤ j)) near.units (k * L) (a * L) (minus_z number.day * L) (plus_z number.day * L)
             ((a * 4503599627370496 + k) * L) is_sum e (spread a k) u.1 near.under;
       }
     where
@@ -95,17 +95,17 @@ module _ (d : JulianDate) (P N : ℕ) (s : SmallParts d) (w : Worth d P N L) (nu
 pub record Answered (from to : JulianDate) (r : ℕ) : Type 0 where
   pub n : DayNumber
   pub n' : DayNumber
-  pub given : dayNumberAndFraction from.jd1 from.jd2 ≡ answer n
-  pub given' : dayNumberAndFraction to.jd1 to.jd2 ≡ answer n'
-  pub count : count_of (unitsOf (place_of n)) (unitsOf (place_of n')) ≡ answer r
+  pub given : day_number_and_fraction from.jd1 from.jd2 ≡ answer n
+  pub given' : day_number_and_fraction to.jd1 to.jd2 ≡ answer n'
+  pub count : count_of (units_of (place_of n)) (units_of (place_of n')) ≡ answer r
 
-pub answered-by : (from to : JulianDate) (r : ℕ) → millisFromTo from to ≡ answer r → Answered from to r
-unfolding millisFromTo place_in onward
+pub answered-by : (from to : JulianDate) (r : ℕ) → millis_from_to from to ≡ answer r → Answered from to r
+unfolding millis_from_to place_in onward
 answered-by from to r e =
-    go (finiteParts from && finiteParts to) (dayNumberAndFraction from.jd1 from.jd2) (dayNumberAndFraction to.jd1 to.jd2) refl refl e
+    go (finite_parts from && finite_parts to) (day_number_and_fraction from.jd1 from.jd2) (day_number_and_fraction to.jd1 to.jd2) refl refl e
   where
-    go : (b : Bool) (o o' : Outcome DayNumber) → dayNumberAndFraction from.jd1 from.jd2 ≡ o → dayNumberAndFraction to.jd1 to.jd2 ≡ o'
-        → cond b (onward (onward o (λ n. answer (place_of n))) (λ p. onward (onward o' (λ n. answer (place_of n))) (λ q. count_of (unitsOf p) (unitsOf q))))
+    go : (b : Bool) (o o' : Outcome DayNumber) → day_number_and_fraction from.jd1 from.jd2 ≡ o → day_number_and_fraction to.jd1 to.jd2 ≡ o'
+        → cond b (onward (onward o (λ n. answer (place_of n))) (λ p. onward (onward o' (λ n. answer (place_of n))) (λ q. count_of (units_of p) (units_of q))))
         (refusal 9) ≡ answer r → Answered from to r
     go false o o' f g h = let z : ◌≡◌ {A = ℕ} 0 1 = cc in absurd (omega arith)
     go true (refusal k) o' f g h = let z : ◌≡◌ {A = ℕ} 0 1 = cc in absurd (omega arith)
@@ -113,10 +113,10 @@ answered-by from to r e =
     go true (answer n) (answer n') f g h = record { n = n; n' = n'; given = f; given' = g; count = h }
 
 -- an answer is below 2 ^ 40
-pub answer-small : (from to : JulianDate) (r : ℕ) → millisFromTo from to ≡ answer r → r < 2 ^ 40
+pub answer-small : (from to : JulianDate) (r : ℕ) → millis_from_to from to ≡ answer r → r < 2 ^ 40
 answer-small from to r e =
     let g = answered-by from to r e in
-    (answered-nearest (count-decided (unitsOf (place_of g.n)) (unitsOf (place_of g.n'))) g.count).1
+    (answered-nearest (count-decided (units_of (place_of g.n)) (units_of (place_of g.n'))) g.count).1
 
 -- ---- times L
 lin : (x y z : ℕ) → (8796093022208 * x + 168750 * y + z) * L ≡ 8796093022208 * (x * L) + 168750 * (y * L) + z * L
@@ -149,9 +149,9 @@ near-by-places P N P' N' p q r a b n =
     below R p q h a b = omega arith
 
 -- (b) within 0.5 ms and 96 ps
-pub anywhere-near : (from to : JulianDate) (P N P' N' : ℕ) → SmallParts from → SmallParts to → Worth from P N L → Worth to P' N' L → (r : ℕ)
-    → millisFromTo from to ≡ answer r → NearMillis P N P' N' r
-anywhere-near from to P N P' N' s s' w w' r e =
+pub anywhere_near : (from to : JulianDate) (P N P' N' : ℕ) → SmallParts from → SmallParts to → Worth from P N L → Worth to P' N' L → (r : ℕ)
+    → millis_from_to from to ≡ answer r → NearMillis P N P' N' r
+anywhere_near from to P N P' N' s s' w w' r e =
     let g = answered-by from to r e in
-    near-by-places P N P' N' (unitsOf (place_of g.n)) (unitsOf (place_of g.n')) r (place-near from P N s w g.n g.given)
-    (place-near to P' N' s' w' g.n' g.given') (answered-nearest (count-decided (unitsOf (place_of g.n)) (unitsOf (place_of g.n'))) g.count).0
+    near-by-places P N P' N' (units_of (place_of g.n)) (units_of (place_of g.n')) r (place-near from P N s w g.n g.given)
+    (place-near to P' N' s' w' g.n' g.given') (answered-nearest (count-decided (units_of (place_of g.n)) (units_of (place_of g.n'))) g.count).0

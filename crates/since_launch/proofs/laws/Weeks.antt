@@ -10,34 +10,34 @@ use Rattle.rounding.specs.Value.{L}
 use Rattle.rounding.proofs.Value.{val-finite-true}
 use Rattle.julian.specs.declared.JulianDate.{JulianDate}
 use Rattle.julian.specs.declared.day_number.DayNumber.{DayNumber}
-use Rattle.julian.specs.day_number.Answer.{dayNumberAndFraction}
-use Rattle.julian.specs.Finite.{finiteParts}
+use Rattle.julian.specs.day_number.Answer.{day_number_and_fraction}
+use Rattle.julian.specs.Finite.{finite_parts}
 use Rattle.julian.proofs.day_number.Units.{H, H-L}
-use Rattle.scales.specs.gps_weeks.WeekDate.{dayIn, weekDate}
+use Rattle.scales.specs.gps_weeks.WeekDate.{day_in, week_date}
 use Rattle.scales.proofs.gps_week_laws.RoundTrip as R
 use Rattle.since_launch.specs.declared.Place.{Place}
-use Rattle.since_launch.specs.Millis.{place_of, place_in, unitsOf, count_of, millisFromTo}
-use Rattle.since_launch.specs.laws.OwnMillis.{weekMillis, Own}
+use Rattle.since_launch.specs.Millis.{place_of, place_in, units_of, count_of, millis_from_to}
+use Rattle.since_launch.specs.laws.OwnMillis.{week_millis, Own}
 use Rattle.since_launch.proofs.laws.OnGrid.{by-places}
 use Rattle.since_launch.proofs.laws.Anywhere.{PlaceNear, place-near}
 use Rattle.since_launch.proofs.laws.OwnCounts.{MillisNear, own-count, own-move}
 
 -- a date with a place that is near, of millisecond T since midnight of day 0
 pub record MadeOf (d : JulianDate) (T : ℕ) : Type 0 where
-  pub finite : finiteParts d ≡ true
+  pub finite : finite_parts d ≡ true
   pub place : Place
   pub found : place_in d ≡ answer place
   pub P : ℕ
   pub N : ℕ
-  pub near : PlaceNear P N (unitsOf place)
+  pub near : PlaceNear P N (units_of place)
   pub millis : MillisNear P N T
 
-pub made-own : {d d' : JulianDate} {T T' : ℕ} → MadeOf d T → MadeOf d' T' → Own T T' (millisFromTo d d')
-made-own {d} {d'} {T} {T'} a b =
+pub made_own : {d d' : JulianDate} {T T' : ℕ} → MadeOf d T → MadeOf d' T' → Own T T' (millis_from_to d d')
+made_own {d} {d'} {T} {T'} a b =
     subst (Own T T') (sym (by-places d d' a.place b.place a.finite b.finite a.found b.found))
-    (own-count a.P a.N b.P b.N (unitsOf a.place) (unitsOf b.place) T T' a.near b.near a.millis b.millis)
+    (own-count a.P a.N b.P b.N (units_of a.place) (units_of b.place) T T' a.near b.near a.millis b.millis)
 
-pub place-by : (d : JulianDate) (n : DayNumber) → dayNumberAndFraction d.jd1 d.jd2 ≡ answer n → place_in d ≡ answer (place_of n)
+pub place-by : (d : JulianDate) (n : DayNumber) → day_number_and_fraction d.jd1 d.jd2 ≡ answer n → place_in d ≡ answer (place_of n)
 unfolding place_in onward
 place-by d n e = rw e
 
@@ -61,18 +61,18 @@ module _ (n r : ℕ) (early : 2444245 ≤ n) (late : n ≤ 3144252) (short : r <
   }
 
 -- a week's date
-pub week-made : (week ms : ℕ) (d : JulianDate) → weekDate week ms ≡ answer d → MadeOf d (weekMillis week ms + 211182768000000)
+pub week-made : (week ms : ℕ) (d : JulianDate) → week_date week ms ≡ answer d → MadeOf d (week_millis week ms + 211182768000000)
 week-made week ms d e =
     let w = R.in-weeks week ms d e in
     let h = w.week-most in
     let k = w.below in
-    subst (λ (x : JulianDate). MadeOf x (weekMillis week ms + 211182768000000)) (sym w.is)
-    (subst (MadeOf _) (whole week ms) (gps-made (dayIn week ms) (ms % 86400000) (omega arith) (omega arith) (omega arith)))
+    subst (λ (x : JulianDate). MadeOf x (week_millis week ms + 211182768000000)) (sym w.is)
+    (subst (MadeOf _) (whole week ms) (gps-made (day_in week ms) (ms % 86400000) (omega arith) (omega arith) (omega arith)))
   where
     whole : (week ms : ℕ) → 86400000 * (2444245 + 7 * week + ms / 86400000) + ms % 86400000 ≡ 604800000 * week + ms + 211182768000000
     whole week ms = omega arith
 
 -- the request's theorem, in GPS
-pub own-millisecond : (week ms week' ms' : ℕ) (d d' : JulianDate) → weekDate week ms ≡ answer d → weekDate week' ms' ≡ answer d'
-    → Own (weekMillis week ms) (weekMillis week' ms') (millisFromTo d d')
-own-millisecond week ms week' ms' d d' e f = own-move 211182768000000 (made-own (week-made week ms d e) (week-made week' ms' d' f))
+pub own-millisecond : (week ms week' ms' : ℕ) (d d' : JulianDate) → week_date week ms ≡ answer d → week_date week' ms' ≡ answer d'
+    → Own (week_millis week ms) (week_millis week' ms') (millis_from_to d d')
+own-millisecond week ms week' ms' d d' e f = own-move 211182768000000 (made_own (week-made week ms d e) (week-made week' ms' d' f))

@@ -12,37 +12,37 @@ use Rattle.refusals.specs.Outcome.{Outcome, answer, refusal, onward}
 use Rattle.floats.specs.Whole.{abs}
 use Rattle.rounding.specs.Value.{Val, L}
 use Rattle.rounding.proofs.Value.{L-pos, val-finite-true, val-unique, abs-val}
-use Rattle.rounding.proofs.Signed.{dist, dist-le, dist-hi}
-use Rattle.rounding.proofs.Compare.{le-show, lt_val}
+use Rattle.rounding.proofs.Signed.{dist, dist_le, dist_hi}
+use Rattle.rounding.proofs.Compare.{le_show, lt_val}
 use Rattle.rounding.proofs.Range.{power-val}
-use Rattle.rounding.specs.Picoseconds.{dayPs}
+use Rattle.rounding.specs.Picoseconds.{day_ps}
 use borrow.Author.Tests.{lt-ltb}
 use Rattle.julian.specs.declared.JulianDate.{JulianDate}
 use Rattle.julian.specs.JulianDate.{julian}
 use Rattle.julian.specs.Worth.{Worth, SmallParts}
-use Rattle.julian.specs.Finite.{finiteParts}
-use Rattle.julian.specs.day_number.DayNumber.{dayOf}
-use Rattle.julian.specs.day_number.Answer.{dayNumberAndFraction}
-use Rattle.julian.specs.shifts.SmallerPart.{firstIsLarger}
+use Rattle.julian.specs.Finite.{finite_parts}
+use Rattle.julian.specs.day_number.DayNumber.{day_of}
+use Rattle.julian.specs.day_number.Answer.{day_number_and_fraction}
+use Rattle.julian.specs.shifts.SmallerPart.{first_is_larger}
 use Rattle.julian.specs.shifts.Shifts.{plus, converted}
 use Rattle.julian.proofs.shifts.Outcomes.{converted-is}
-use Rattle.julian.proofs.shifts.SmallerPart.{mapAs, map_is}
+use Rattle.julian.proofs.shifts.SmallerPart.{map_as, map_is}
 use Rattle.julian.proofs.day_number.Units.{E-L, H, H-L}
 use Rattle.julian.proofs.day_number.JulianRange.{accepts}
 use Rattle.julian.proofs.day_number.Answer.{answered}
-use Rattle.scales.specs.Formulas.{gpsDays}
+use Rattle.scales.specs.Formulas.{gps_days}
 use Rattle.scales.specs.Conversions.{gps-tai, answer_of}
 use Rattle.scales.specs.laws.Ranges.{Practical, power}
-use Rattle.scales.specs.laws.Meaning.{Close, Means, taiOverGps}
-use Rattle.scales.specs.gps_weeks.WeekDate.{weekMidnight, partOfDay, dayIn, weekDate}
+use Rattle.scales.specs.laws.Meaning.{Close, Means, tai_over_gps}
+use Rattle.scales.specs.gps_weeks.WeekDate.{week_midnight, part_of_day, day_in, week_date}
 use Rattle.scales.proofs.laws.Meant.{Meant, worth-unique}
 use Rattle.scales.proofs.laws.Recorders.{gps-means}
 use Rattle.scales.proofs.gps_week_laws.RoundTrip as R
-use Rattle.since_launch.specs.Millis.{place_of, millisFromTo}
-use Rattle.since_launch.specs.laws.OwnMillis.{weekMillis, Own}
+use Rattle.since_launch.specs.Millis.{place_of, millis_from_to}
+use Rattle.since_launch.specs.laws.OwnMillis.{week_millis, Own}
 use Rattle.since_launch.proofs.laws.Anywhere.{place-near}
 use Rattle.since_launch.proofs.laws.OwnCounts.{MillisNear, own-move}
-use Rattle.since_launch.proofs.laws.Weeks.{MadeOf, made-own, place-by, spread}
+use Rattle.since_launch.proofs.laws.Weeks.{MadeOf, made_own, place-by, spread}
 
 module _ (n r : ℕ) (early : 2444245 ≤ n) (late : n ≤ 3144252) (short : r < 86400000) where
   abbrev d : JulianDate
@@ -54,10 +54,10 @@ module _ (n r : ℕ) (early : 2444245 ≤ n) (late : n ≤ 3144252) (short : r <
   abbrev m : ℕ
   m = R.m n r early late short
 
-  fits1 : T (fits binary64 (weekMidnight n))
+  fits1 : T (fits binary64 (week_midnight n))
   fits1 = (R.small n r early late short).first.held
 
-  fits2 : T (fits binary64 (partOfDay r))
+  fits2 : T (fits binary64 (part_of_day r))
   fits2 = (R.small n r early late short).second.held
 
   -- the milliseconds of the day are less than a day by more than a float's place
@@ -71,12 +71,12 @@ module _ (n r : ℕ) (early : 2444245 ≤ n) (late : n ≤ 3144252) (short : r <
   practical = inl (
     (
       fits1,
-      le-show L-pos (abs-val (R.first n r early late short)) (power-val 23 L) (plain _ (dist-le (n * L) H (8388608 * L)
+      le_show L-pos (abs-val (R.first n r early late short)) (power-val 23 L) (plain _ (dist_le (n * L) H (8388608 * L)
           (omega (arith, R.high n r early late short)) (omega (arith, R.low n r early late short, H-L)))),
     ),
     (
       fits2,
-      le-show L-pos (abs-val (R.second n r early late short)) (power-val 0 L) (plain0 _ (dist-le q m L at_most_one
+      le_show L-pos (abs-val (R.second n r early late short)) (power-val 0 L) (plain0 _ (dist_le q m L at_most_one
           (omega (arith, R.q-low n r early late short, R.g-le)))),
     ),
   )
@@ -87,29 +87,29 @@ module _ (n r : ℕ) (early : 2444245 ≤ n) (late : n ≤ 3144252) (short : r <
       plain0 : (x : ℕ) → x ≤ L → x + 0 ≤ 2 ^ 0 * L + 0
       plain0 x h = omega arith
 
-  larger : firstIsLarger d ≡ true
-  unfolding firstIsLarger
+  larger : first_is_larger d ≡ true
+  unfolding first_is_larger
   larger = lt_val L-pos (abs-val (R.second n r early late short)) (abs-val (R.first n r early late short))
-      ∙ lt-ltb _ _ (plain (dist q m) (dist (n * L) H) (dist-le q m L at_most_one (omega (arith, R.q-low n r early late short, R.g-le)))
-      (dist-hi (n * L) H (omega (arith, R.low n r early late short, H-L))))
+      ∙ lt-ltb _ _ (plain (dist q m) (dist (n * L) H) (dist_le q m L at_most_one (omega (arith, R.q-low n r early late short, R.g-le)))
+      (dist_hi (n * L) H (omega (arith, R.low n r early late short, H-L))))
     where
       plain : (x y : ℕ) → x ≤ L → y + H ≡ n * L → x + 0 < y + 0
       plain x y h e = omega (arith, R.low n r early late short, H-L, L-pos)
 
   abbrev u : JulianDate
-  u = julian (weekMidnight n) (add binary64 (partOfDay r) gpsDays)
+  u = julian (week_midnight n) (add binary64 (part_of_day r) gps_days)
 
   pub tai-is : answer_of gps-tai d ≡ answer u
   unfolding answer_of plus
   tai-is =
-      converted-is (plus gpsDays) d (val-finite-true (R.first n r early late short)) (val-finite-true (R.second n r early late short))
-      ∙ ap answer (map_is (plus gpsDays) d ∙ ap (mapAs (plus gpsDays) d) larger)
+      converted-is (plus gps_days) d (val-finite-true (R.first n r early late short)) (val-finite-true (R.second n r early late short))
+      ∙ ap answer (map_is (plus gps_days) d ∙ ap (map_as (plus gps_days) d) larger)
 
-  close : Means 10 taiOverGps d u
+  close : Means 10 tai_over_gps d u
   close =
       let k = gps-means d practical in
       let e : k.date ≡ u = same (sym k.is ∙ tai-is) in
-      subst (Means 10 taiOverGps d) e k.means
+      subst (Means 10 tai_over_gps d) e k.means
     where
       same : {x y : JulianDate} → answer x ≡ answer y → x ≡ y
       same e = cc
@@ -121,7 +121,7 @@ module _ (n r : ℕ) (early : 2444245 ≤ n) (late : n ≤ 3144252) (short : r <
   same-date = worth-unique close.from (R.worth n r early late short)
 
   fits3 : T (fits binary64 u.jd2)
-  fits3 = add-fits binary64 (partOfDay r) gpsDays
+  fits3 = add-fits binary64 (part_of_day r) gps_days
 
   later-high : close.p' + H ≤ close.n' + n * L + 3 * L
   later-high = omega (arith, close.over, same-date, at_most_one, L-pos)
@@ -129,26 +129,26 @@ module _ (n r : ℕ) (early : 2444245 ≤ n) (late : n ≤ 3144252) (short : r <
   later-low : close.n' + n * L ≤ close.p' + H + L
   later-low = omega (arith, close.under, same-date, R.q-low n r early late short, R.g-le, L-pos)
 
-  smallParts : SmallParts u
-  smallParts = record {
+  small_parts : SmallParts u
+  small_parts = record {
     first = (R.small n r early late short).first;
     second = R.under52 fits3 close.to.second (omega (arith, later-high, same1, close.to.total)) (omega (arith, later-low, same1, close.to.total));
   }
 
-  given : dayNumberAndFraction (weekMidnight n) (add binary64 (partOfDay r) gpsDays) ≡ answer (dayOf (weekMidnight n) (add binary64 (partOfDay r) gpsDays))
-  given = answered (weekMidnight n) (add binary64 (partOfDay r) gpsDays)
-      (accepts (weekMidnight n) (add binary64 (partOfDay r) gpsDays) (n * L) H close.to.q close.to.m (R.first n r early late short) close.to.second
+  given : day_number_and_fraction (week_midnight n) (add binary64 (part_of_day r) gps_days) ≡ answer (day_of (week_midnight n) (add binary64 (part_of_day r) gps_days))
+  given = answered (week_midnight n) (add binary64 (part_of_day r) gps_days)
+      (accepts (week_midnight n) (add binary64 (part_of_day r) gps_days) (n * L) H close.to.q close.to.m (R.first n r early late short) close.to.second
       (omega (arith, later-high, same1, close.to.total, R.high n r early late short, E-L))
       (omega (arith, later-low, same1, close.to.total, R.low n r early late short, H-L, E-L)))
 
   pub tai-made : MadeOf u (86400000 * n + r + 19000)
   tai-made = record {
     finite = rw (val-finite-true (R.first n r early late short), val-finite-true close.to.second);
-    place = place_of (dayOf (weekMidnight n) (add binary64 (partOfDay r) gpsDays));
+    place = place_of (day_of (week_midnight n) (add binary64 (part_of_day r) gps_days));
     found = place-by u _ given;
     P = close.p';
     N = close.n';
-    near = place-near u _ _ smallParts close.to _ given;
+    near = place-near u _ _ small_parts close.to _ given;
     millis = record {
       over = omega (arith, more, spread n r, R.q-over n r early late short, H-L, close.over, same-date, L-pos);
       under = omega (arith, more, spread n r, R.q-under n r early late short, H-L, close.under, same-date, L-pos);
@@ -159,16 +159,16 @@ module _ (n r : ℕ) (early : 2444245 ≤ n) (late : n ≤ 3144252) (short : r <
       more = add-mul (86400000 * n + r) 19000 L
 
 -- a week's date in TAI
-pub week-tai-made : (week ms : ℕ) (d t : JulianDate) → weekDate week ms ≡ answer d → answer_of gps-tai d ≡ answer t
-    → MadeOf t (weekMillis week ms + 211182768019000)
+pub week-tai-made : (week ms : ℕ) (d t : JulianDate) → week_date week ms ≡ answer d → answer_of gps-tai d ≡ answer t
+    → MadeOf t (week_millis week ms + 211182768019000)
 week-tai-made week ms d t e f =
     let w = R.in-weeks week ms d e in
     let h = w.week-most in
     let k = w.below in
-    let a = tai-is (dayIn week ms) (ms % 86400000) (omega arith) (omega arith) (omega arith) in
+    let a = tai-is (day_in week ms) (ms % 86400000) (omega arith) (omega arith) (omega arith) in
     let x = same (sym a ∙ sym (ap (answer_of gps-tai) w.is) ∙ f) in
-    subst (λ (y : JulianDate). MadeOf y (weekMillis week ms + 211182768019000)) x
-    (subst (MadeOf _) (whole week ms) (tai-made (dayIn week ms) (ms % 86400000) (omega arith) (omega arith) (omega arith)))
+    subst (λ (y : JulianDate). MadeOf y (week_millis week ms + 211182768019000)) x
+    (subst (MadeOf _) (whole week ms) (tai-made (day_in week ms) (ms % 86400000) (omega arith) (omega arith) (omega arith)))
   where
     same : {x y : JulianDate} → answer x ≡ answer y → x ≡ y
     same e = cc
@@ -177,7 +177,7 @@ week-tai-made week ms d t e f =
     whole week ms = omega arith
 
 -- the request's theorem, through GPS to TAI
-pub own-millisecond-tai : (week ms week' ms' : ℕ) (d d' t t' : JulianDate) → weekDate week ms ≡ answer d → weekDate week' ms' ≡ answer d'
-    → answer_of gps-tai d ≡ answer t → answer_of gps-tai d' ≡ answer t' → Own (weekMillis week ms) (weekMillis week' ms') (millisFromTo t t')
+pub own-millisecond-tai : (week ms week' ms' : ℕ) (d d' t t' : JulianDate) → week_date week ms ≡ answer d → week_date week' ms' ≡ answer d'
+    → answer_of gps-tai d ≡ answer t → answer_of gps-tai d' ≡ answer t' → Own (week_millis week ms) (week_millis week' ms') (millis_from_to t t')
 own-millisecond-tai week ms week' ms' d d' t t' e f g h =
-    own-move 211182768019000 (made-own (week-tai-made week ms d t e g) (week-tai-made week' ms' d' t' f h))
+    own-move 211182768019000 (made_own (week-tai-made week ms d t e g) (week-tai-made week' ms' d' t' f h))

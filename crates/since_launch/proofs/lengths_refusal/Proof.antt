@@ -1,18 +1,18 @@
 -- `since_launch::lengths_refusal` meets its contract. Assumes nothing.
-use Rattle.since_launch.proofs.Calls.{broken-first, broken-second, sizes-differ, few-places, few-numbers, none-refused}
+use Rattle.since_launch.proofs.Calls.{broken_first, broken_second, sizes-differ, few-places, few-numbers, none-refused}
 use Rattle.since_launch.proofs.lengths_refusal.Statement.{statement}
 use Rattle.since_launch.proofs.lengths_refusal.Tie as tie
 
 returns : tie.Need-returns
 returns c =
     let a = c.before.args in
-    broken-first a.size1 a.size2 a.room1 a.room2 c.if1.true
+    broken_first a.size1 a.size2 a.room1 a.room2 c.if1.true
 
 returns-2 : tie.Need-returns-2
 returns-2 c =
     let at-if1 = c.before in
     let a = at-if1.before.args in
-    broken-second a.size1 a.size2 a.room1 a.room2 at-if1.if1.false c.if2.true
+    broken_second a.size1 a.size2 a.room1 a.room2 at-if1.if1.false c.if2.true
 
 returns-3 : tie.Need-returns-3
 returns-3 c =

@@ -1,7 +1,7 @@
 -- `since_launch::milliseconds` meets its contract. Assumes nothing.
 use mathlib.Core.Path.{sym, ap, subst, ◌∙◌}
-use Rattle.julian.specs.JulianDate.{julianOutcome}
-use Rattle.since_launch.specs.Millis.{placeOutcome, millisOutcome}
+use Rattle.julian.specs.JulianDate.{julian_outcome}
+use Rattle.since_launch.specs.Millis.{place_outcome, millis_outcome}
 use Rattle.since_launch.specs.Asked.{AllPlaced}
 use Rattle.since_launch.proofs.Places.{stamp-not-finite, launch-refused, from-launch}
 use borrow.Author.Rules.{rules}
@@ -13,25 +13,25 @@ unfolding AllPlaced
 since-requires c κs = subst AllPlaced c.before.launch.given.1 c.before.before.before.place_at.ensures.1
 
 returns : tie.Need-returns
-unfolding millisOutcome julianOutcome
-returns c = stamp-not-finite _ _ _ (sym c.before.before.before.finite-jd.ensures ∙ ap julianOutcome c.before.number.given.1)
+unfolding millis_outcome julian_outcome
+returns c = stamp-not-finite _ _ _ (sym c.before.before.before.finite-jd.ensures ∙ ap julian_outcome c.before.number.given.1)
 
 returns-2 : tie.Need-returns-2
-unfolding millisOutcome placeOutcome julianOutcome
+unfolding millis_outcome place_outcome julian_outcome
 returns-2 c =
     let p = c.before.before.before in
     let j = p.before.before in
-    launch-refused _ _ _ _ (sym j.before.before.finite-jd.ensures ∙ ap julianOutcome j.stamp.given.1)
-    (sym p.place_at.ensures.0 ∙ ap placeOutcome c.before.number2.given.1)
+    launch-refused _ _ _ _ (sym j.before.before.finite-jd.ensures ∙ ap julian_outcome j.stamp.given.1)
+    (sym p.place_at.ensures.0 ∙ ap place_outcome c.before.number2.given.1)
 
 returns-3 : tie.Need-returns-3
-unfolding placeOutcome julianOutcome
+unfolding place_outcome julian_outcome
 returns-3 c =
     let p = c.before.before.before.before in
     let j = p.before.before in
     c.since.ensures
-    ∙ from-launch _ _ _ _ (sym j.before.before.finite-jd.ensures ∙ ap julianOutcome j.stamp.given.1)
-    (sym p.place_at.ensures.0 ∙ ap placeOutcome c.before.before.launch.given.1)
+    ∙ from-launch _ _ _ _ (sym j.before.before.finite-jd.ensures ∙ ap julian_outcome j.stamp.given.1)
+    (sym p.place_at.ensures.0 ∙ ap place_outcome c.before.before.launch.given.1)
 
 pub milliseconds-spec : {M : Type 1} → statement M
 milliseconds-spec =

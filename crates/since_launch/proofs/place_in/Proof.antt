@@ -2,9 +2,9 @@
 use mathlib.Core.Path.{sym, ap, subst, ◌∙◌}
 use Rattle.refusals.specs.Outcome.{answer}
 use Rattle.floats.proofs.Laws.{yes}
-use Rattle.julian.specs.day_number.Answer.{dayOutcome}
+use Rattle.julian.specs.day_number.Answer.{day_outcome}
 use Rattle.julian.proofs.day_number.Ranges.{day-range}
-use Rattle.since_launch.specs.Millis.{placeOutcome}
+use Rattle.since_launch.specs.Millis.{place_outcome}
 use Rattle.since_launch.specs.Asked.{PlaceWithin, AllPlaced}
 use Rattle.since_launch.proofs.Places.{placed, place-no-day, place_found}
 use borrow.Author.Rules.{rules}
@@ -12,28 +12,28 @@ use Rattle.since_launch.proofs.place_in.Statement.{statement}
 use Rattle.since_launch.proofs.place_in.Tie as tie
 
 place-of-requires : tie.Need-place-of-requires
-unfolding dayOutcome
+unfolding day_outcome
 place-of-requires c κs =
     let n = c.before.before.before in
     let s = n.before in
-    let e = sym n.day-number-and-fraction.ensures ∙ ap dayOutcome c.before.found.given.1 in
-    day-range _ _ (yes s.well-formed.0.1) (yes s.well-formed.1.0.1) _ e
+    let e = sym n.day-number-and-fraction.ensures ∙ ap day_outcome c.before.found.given.1 in
+    day-range _ _ (yes s.well_formed.0.1) (yes s.well_formed.1.0.1) _ e
 
 returns : tie.Need-returns
-unfolding placeOutcome dayOutcome AllPlaced
+unfolding place_outcome day_outcome AllPlaced
 returns c = (
-  place-no-day _ _ (sym c.before.before.before.day-number-and-fraction.ensures ∙ ap dayOutcome c.before.number.given.1),
+  place-no-day _ _ (sym c.before.before.before.day-number-and-fraction.ensures ∙ ap day_outcome c.before.number.given.1),
   tt,
 )
 
 returns-2 : tie.Need-returns-2
-unfolding placeOutcome dayOutcome AllPlaced
+unfolding place_outcome day_outcome AllPlaced
 returns-2 c =
     let n = c.before.before.before.before in
     let s = n.before in
-    let e = sym n.day-number-and-fraction.ensures ∙ ap dayOutcome c.before.before.found.given.1 in (
+    let e = sym n.day-number-and-fraction.ensures ∙ ap day_outcome c.before.before.found.given.1 in (
       ap answer c.place_of.ensures ∙ place_found _ _ e,
-      subst PlaceWithin (sym c.place_of.ensures) (placed _ _ (yes s.well-formed.0.1) (yes s.well-formed.1.0.1) _ e),
+      subst PlaceWithin (sym c.place_of.ensures) (placed _ _ (yes s.well_formed.0.1) (yes s.well_formed.1.0.1) _ e),
     )
 
 pub place-in-spec : {M : Type 1} → statement M

@@ -5,7 +5,7 @@ use mir.Syntax.{w64}
 use mir.Val.{SFits, to_z, of_z}
 use mir.Facts.{to_z-of_z}
 use Rattle.julian.proofs.day_number.Ranges.{day-read}
-use Rattle.time_of_day.specs.TimeShown.{fromZero}
+use Rattle.time_of_day.specs.TimeShown.{from_zero}
 use Rattle.since_launch.specs.Millis.{place_of}
 use Rattle.since_launch.proofs.Places.{days-fit}
 use borrow.Author.Rules.{rules}
@@ -23,7 +23,7 @@ returns c =
     let s = c.before.before.before.before in
     let z = s.args.found.day in
     let e = ap (λ (y : ℤ). to_z w64 (of_z w64 (y +ℤ pos 68570))) (day-read z s.requires) in
-    let d = c.before.from_zero.ensures ∙ ap fromZero (e ∙ to_z-of_z {w = w64} (days-fit z s.requires)) in
+    let d = c.before.from_zero.ensures ∙ ap from_zero (e ∙ to_z-of_z {w = w64} (days-fit z s.requires)) in
     λ i. record { days = d i; units = c.grid-units.ensures i }
 
 pub place-of-spec : {M : Type 1} → statement M

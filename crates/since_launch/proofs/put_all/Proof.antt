@@ -3,27 +3,27 @@ use Prim.Native.Nat.{ℕ, ◌-◌}
 use native.Mathlib.Omega.{arith}
 use borrow.Author.Rules.{rules}
 use Rattle.refusals.specs.Outcome.{Outcome}
-use Rattle.since_launch.specs.Run.{stampMillis}
-use Rattle.since_launch.proofs.Puts.{Putting, putting-starts, len1, len2, few, putting-goes, putting-ends}
+use Rattle.since_launch.specs.Run.{stamp_millis}
+use Rattle.since_launch.proofs.Puts.{Putting, putting_starts, len1, len2, few, putting_goes, putting_ends}
 use Rattle.since_launch.proofs.put_all.Statement.{statement}
 use Rattle.since_launch.proofs.put_all.Tie as tie
 
 abbrev invariant-loop : tie.invariant-loop
 invariant-loop launch jd1s jd2s n out₀ numbers₀ refused₀ i₀ out numbers refused i =
-    Putting (stampMillis launch jd1s jd2s) n out₀ numbers₀ out numbers refused i
+    Putting (stamp_millis launch jd1s jd2s) n out₀ numbers₀ out numbers refused i
 
 abbrev decreases-loop : tie.decreases-loop
 decreases-loop launch jd1s jd2s n out₀ numbers₀ refused₀ i₀ out numbers refused i = n - i
 
 -- the milliseconds of each stamp
 abbrev answers : tie.Start invariant-loop decreases-loop → ℕ → Outcome ℕ
-answers s = let a = s.args in stampMillis a.launch a.jd1s.now a.jd2s.now
+answers s = let a = s.args in stamp_millis a.launch a.jd1s.now a.jd2s.now
 
 loop-holds : tie.Need-loop-init invariant-loop decreases-loop
 loop-holds c =
     let s = c.before.before.before.before in
     let a = s.args in
-    putting-starts (answers s) a.n a.out.now a.numbers.now
+    putting_starts (answers s) a.n a.out.now a.numbers.now
 
 put-stamp-requires : tie.Need-put-stamp-requires invariant-loop decreases-loop
 put-stamp-requires c κs =
@@ -66,7 +66,7 @@ loop-again c =
     let test = at-put-stamp.before.before in
     let l = test.before in
     let s = l.before.before.before.before.before in
-    putting-goes (answers s) _ _ _ _ _ _ _ l.loop.invariant _ _ _ test.loop-test.true at-put-stamp.put-stamp.ensures c.one-if-refused.ensures.0
+    putting_goes (answers s) _ _ _ _ _ _ _ l.loop.invariant _ _ _ test.loop-test.true at-put-stamp.put-stamp.ensures c.one-if-refused.ensures.0
 
 same_length : tie.Need-same-length invariant-loop decreases-loop
 same_length c =
@@ -81,7 +81,7 @@ same-length-2 c =
 returns : tie.Need-returns invariant-loop decreases-loop
 returns c =
     let l = c.before in
-    putting-ends (answers l.before.before.before.before.before) _ _ _ _ _ _ _ l.loop.invariant (omega (arith, c.loop-test.false))
+    putting_ends (answers l.before.before.before.before.before) _ _ _ _ _ _ _ l.loop.invariant (omega (arith, c.loop-test.false))
 
 pub put-all-spec : {M : Type 1} → statement M
 put-all-spec =

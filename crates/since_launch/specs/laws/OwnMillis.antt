@@ -4,8 +4,8 @@ use Rattle.std.specs.Prelude.{◌≡◌, ℕ, ◌+◌, ◌*◌, ◌^◌, ◌≤�
 use Rattle.refusals.specs.Outcome.{Outcome, answer, refusal}
 
 -- milliseconds since 1980-01-06 0h GPS
-abbrev pub weekMillis : ℕ → ℕ → ℕ
-weekMillis week ms = 604800000 * week + ms
+abbrev pub week_millis : ℕ → ℕ → ℕ
+week_millis week ms = 604800000 * week + ms
 
 -- from millisecond T to millisecond T' there are T' - T, and 18 where that is not 0 to 2 ^ 40 - 1
 pub data Own (T T' : ℕ) : Outcome ℕ → Type 0 where

@@ -10,62 +10,62 @@ use Rattle.refusals.specs.Outcome.{Outcome, answer, refusal, onward}
 use Rattle.calendar.proofs.Years.{valid_of}
 use Rattle.julian.specs.declared.JulianDate.{JulianDate}
 use Rattle.julian.specs.declared.CalendarFields.{CalendarFields}
-use Rattle.julian.specs.Calendar.{julianToCalendar}
+use Rattle.julian.specs.Calendar.{julian_to_calendar}
 use Rattle.leap_table.specs.declared.rows.AnnouncedRows.{AnnouncedRows}
 use Rattle.leap_table.specs.rows.Table.{Row, fixed}
 use Rattle.leap_table.specs.rows.Announced.{table_of}
 use Rattle.leap_table.proofs.rows.TablesTaken.{table_none}
-use Rattle.utc.specs.iso_texts.Expanded.{expandedForm, isoTextExpanded}
+use Rattle.utc.specs.iso_texts.Expanded.{expanded_form, iso_text_expanded}
 use Rattle.julian.proofs.Dates.{date-in-range}
 use Rattle.utc.proofs.iso_texts.TextCalls.{fields-refused-by, fields-given-by}
 use Rattle.utc.proofs.laws.DayTexts.{text-refused-by, has-text-by}
-use Rattle.utc.proofs.laws.Numbers.{not-both, one_number, date-refusal}
+use Rattle.utc.proofs.laws.Numbers.{not_both, one_number, date-refusal}
 use Rattle.stamps.specs.declared.Reporting.{Reporting}
 use Rattle.stamps.specs.declared.Part.{Part}
 use Rattle.stamps.specs.declared.LinesAnswer.{LinesAnswer}
 use Rattle.stamps.specs.declared.LinesAnswer.TheVariants.{Lines, Refused}
-use Rattle.stamps.specs.Block.{block_of, stampAt}
-use Rattle.stamps.specs.Listing.{textAt, stampLine, oneIfRefused, refusedIn, header}
-use Rattle.stamps.specs.Parts.{line_of, linesOutcome, scratchHolds, part_of, partText, PartPlaced, PartCall}
+use Rattle.stamps.specs.Block.{block_of, stamp_at}
+use Rattle.stamps.specs.Listing.{text_at, stamp_line, one_if_refused, refused_in, header}
+use Rattle.stamps.specs.Parts.{line_of, lines_outcome, scratch_holds, part_of, part_text, PartPlaced, PartCall}
 
 -- ---- refusals read no row: what one table refuses every other refuses, by the same number
 module _ (a b : List Row) where
-  text-refused-alike : (jd : JulianDate) (k : ℕ) → isoTextExpanded a jd ≡ refusal k → isoTextExpanded b jd ≡ refusal k
-  text-refused-alike jd k e = go (julianToCalendar jd.jd1 jd.jd2) refl
+  text-refused-alike : (jd : JulianDate) (k : ℕ) → iso_text_expanded a jd ≡ refusal k → iso_text_expanded b jd ≡ refusal k
+  text-refused-alike jd k e = go (julian_to_calendar jd.jd1 jd.jd2) refl
     where
-      go : (o : Outcome CalendarFields) → julianToCalendar jd.jd1 jd.jd2 ≡ o → isoTextExpanded b jd ≡ refusal k
-      go (refusal n) p = fields-refused-by expandedForm b jd n p
-          ∙ ap refusal (one_number (isoTextExpanded a jd) n k (fields-refused-by expandedForm a jd n p) e)
+      go : (o : Outcome CalendarFields) → julian_to_calendar jd.jd1 jd.jd2 ≡ o → iso_text_expanded b jd ≡ refusal k
+      go (refusal n) p = fields-refused-by expanded_form b jd n p
+          ∙ ap refusal (one_number (iso_text_expanded a jd) n k (fields-refused-by expanded_form a jd n p) e)
       go (answer c) p = by-date (date-refusal jd.jd1 jd.jd2 c p)
         where
-          by-date : (valid_of c.date ≡ answer tt) ⊎ (valid_of c.date ≡ refusal 1) → isoTextExpanded b jd ≡ refusal k
-          by-date (inl v) = absurd (not-both (isoTextExpanded a jd) _ k
-              (fields-given-by expandedForm a jd c p
-              ∙ has-text-by a c.date v (date-in-range jd.jd1 jd.jd2 c p).year-high expandedForm c.fraction) e)
+          by-date : (valid_of c.date ≡ answer tt) ⊎ (valid_of c.date ≡ refusal 1) → iso_text_expanded b jd ≡ refusal k
+          by-date (inl v) = absurd (not_both (iso_text_expanded a jd) _ k
+              (fields-given-by expanded_form a jd c p
+              ∙ has-text-by a c.date v (date-in-range jd.jd1 jd.jd2 c p).year_high expanded_form c.fraction) e)
           by-date (inr v) =
-              fields-given-by expandedForm b jd c p
-              ∙ text-refused-by b c.date expandedForm c.fraction 1 v
-              ∙ ap refusal (one_number (isoTextExpanded a jd) 1 k
-              (fields-given-by expandedForm a jd c p ∙ text-refused-by a c.date expandedForm c.fraction 1 v) e)
+              fields-given-by expanded_form b jd c p
+              ∙ text-refused-by b c.date expanded_form c.fraction 1 v
+              ∙ ap refusal (one_number (iso_text_expanded a jd) 1 k
+              (fields-given-by expanded_form a jd c p ∙ text-refused-by a c.date expanded_form c.fraction 1 v) e)
 
-  pub refused-alike : (s : List ℕ) (n i k : ℕ) → textAt a s n i ≡ refusal k → textAt b s n i ≡ refusal k
-  unfolding textAt
-  refused-alike s n i k e = text-refused-alike (stampAt s n i) k e
+  pub refused-alike : (s : List ℕ) (n i k : ℕ) → text_at a s n i ≡ refusal k → text_at b s n i ≡ refusal k
+  unfolding text_at
+  refused-alike s n i k e = text-refused-alike (stamp_at s n i) k e
 
-one_alike : (o p : Outcome (List ℕ)) → ((k : ℕ) → o ≡ refusal k → p ≡ refusal k) → ((k : ℕ) → p ≡ refusal k → o ≡ refusal k) → oneIfRefused o ≡ oneIfRefused p
-unfolding oneIfRefused
+one_alike : (o p : Outcome (List ℕ)) → ((k : ℕ) → o ≡ refusal k → p ≡ refusal k) → ((k : ℕ) → p ≡ refusal k → o ≡ refusal k) → one_if_refused o ≡ one_if_refused p
+unfolding one_if_refused
 one_alike (answer t) (answer u) f g = refl
-one_alike (answer t) (refusal k) f g = absurd (not-both (answer t) t k refl (g k refl))
-one_alike (refusal k) (answer u) f g = absurd (not-both (answer u) u k refl (f k refl))
+one_alike (answer t) (refusal k) f g = absurd (not_both (answer t) t k refl (g k refl))
+one_alike (refusal k) (answer u) f g = absurd (not_both (answer u) u k refl (f k refl))
 one_alike (refusal k) (refusal j) f g = refl
 
 -- so the count is the same
-pub count-alike : (a b : List Row) (s : List ℕ) (n k : ℕ) → refusedIn a s n k ≡ refusedIn b s n k
-unfolding refusedIn
+pub count-alike : (a b : List Row) (s : List ℕ) (n k : ℕ) → refused_in a s n k ≡ refused_in b s n k
+unfolding refused_in
 count-alike a b s n zero = refl
 count-alike a b s n (suc k) =
     let before = count-alike a b s n k in
-    let one = one_alike (textAt a s n k) (textAt b s n k) (refused-alike a b s n k) (refused-alike b a s n k) in
+    let one = one_alike (text_at a s n k) (text_at b s n k) (refused-alike a b s n k) (refused-alike b a s n k) in
     omega arith
 
 -- and the header, which is written without a look at the table, is right for each
@@ -78,19 +78,19 @@ header-alike how a b s = go (block_of s)
     go (refusal k) = refl
 
 -- the lines of stamps that are refused too
-pub refused-lines-alike : (how : Reporting) (a b : List Row) (s : List ℕ) (n i k : ℕ) → textAt a s n i ≡ refusal k
-    → stampLine how a s n i ≡ stampLine how b s n i
-unfolding stampLine
+pub refused-lines-alike : (how : Reporting) (a b : List Row) (s : List ℕ) (n i k : ℕ) → text_at a s n i ≡ refusal k
+    → stamp_line how a s n i ≡ stamp_line how b s n i
+unfolding stamp_line
 refused-lines-alike how a b s n i k e = rw (e, refused-alike a b s n i k e)
 
 -- ---- a call: what it does with a table that is taken, and with one that is refused
 module _ {how : Reporting} {table : Outcome (List Row)} {s before after : List ℕ} {line : ℕ} {r : LinesAnswer}
     (c : PartCall how table s line before r after) where
   pub part-of-taken : (rows : List Row) → table ≡ answer rows → (p : Part) × (r ≡ Lines p) × PartPlaced how rows s line before p after
-  unfolding linesOutcome scratchHolds onward
+  unfolding lines_outcome scratch_holds onward
   part-of-taken rows e = go r (c.says ∙ ap (λ (o : Outcome (List Row)). onward o (λ rows. answer (part_of how rows s line (length before)))) e)
     where
-      go : (x : LinesAnswer) → linesOutcome x ≡ answer (part_of how rows s line (length before)) → (p : Part) × (x ≡ Lines p)
+      go : (x : LinesAnswer) → lines_outcome x ≡ answer (part_of how rows s line (length before)) → (p : Part) × (x ≡ Lines p)
           × PartPlaced how rows s line before p after
       go (Lines p) q = (
         p,
@@ -98,19 +98,19 @@ module _ {how : Reporting} {table : Outcome (List Row)} {s before after : List �
         record {
           says = cc;
           holds = c.holds
-              ∙ ap (λ (o : Outcome (List Row)). scratchHolds (onward o (λ rows. answer (partText how rows s line (length before)))) before) e;
+              ∙ ap (λ (o : Outcome (List Row)). scratch_holds (onward o (λ rows. answer (part_text how rows s line (length before)))) before) e;
         },
       )
       go (Refused k) q = let z : ◌≡◌ {A = ℕ} 0 1 = cc in absurd (omega arith)
 
   pub part-of-refused : (k : ℕ) → table ≡ refusal k → (r ≡ Refused k) × (after ≡ before)
-  unfolding linesOutcome scratchHolds onward
+  unfolding lines_outcome scratch_holds onward
   part-of-refused k e = (
     go r (c.says ∙ ap (λ (o : Outcome (List Row)). onward o (λ rows. answer (part_of how rows s line (length before)))) e),
-    c.holds ∙ ap (λ (o : Outcome (List Row)). scratchHolds (onward o (λ rows. answer (partText how rows s line (length before)))) before) e,
+    c.holds ∙ ap (λ (o : Outcome (List Row)). scratch_holds (onward o (λ rows. answer (part_text how rows s line (length before)))) before) e,
   )
     where
-      go : (x : LinesAnswer) → linesOutcome x ≡ refusal k → x ≡ Refused k
+      go : (x : LinesAnswer) → lines_outcome x ≡ refusal k → x ≡ Refused k
       go (Lines p) q = let z : ◌≡◌ {A = ℕ} 0 1 = cc in absurd (omega arith)
       go (Refused j) q = let same : j ≡ k = cc in ap Refused same
 

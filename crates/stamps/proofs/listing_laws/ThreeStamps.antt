@@ -8,29 +8,29 @@ use lib.IntN.{ℤ, negsuc}
 use lib.Ieee.{Float, binary64, of_bits, round, of_int, add, sub, div, neg, lt, le, eq, to_signed}
 use lib.Ieee.Scale.{finite}
 use Rattle.refusals.specs.Outcome.{answer, refusal}
-use Rattle.numerals.specs.little_endian.LittleEndian.{fourAt, u64At}
+use Rattle.numerals.specs.little_endian.LittleEndian.{four_at, u64_at}
 use Rattle.numerals.specs.little_endian.Written.{all_bytes}
-use Rattle.numerals.specs.digits.Decimal.{digitsIn}
-use Rattle.floats.specs.Whole.{abs, toWhole, nearestInt}
-use Rattle.calendar.specs.Gregorian.{gregorianDate}
-use Rattle.calendar.proofs.Years.{valid_of, gregorian-valid}
-use Rattle.julian.specs.day_number.DayNumber.{dayOf}
-use Rattle.julian.specs.day_number.Answer.{dayNumberAndFraction}
+use Rattle.numerals.specs.digits.Decimal.{digits_in}
+use Rattle.floats.specs.Whole.{abs, to_whole, nearest_int}
+use Rattle.calendar.specs.Gregorian.{gregorian_date}
+use Rattle.calendar.proofs.Years.{valid_of, gregorian_valid}
+use Rattle.julian.specs.day_number.DayNumber.{day_of}
+use Rattle.julian.specs.day_number.Answer.{day_number_and_fraction}
 use Rattle.julian.specs.JulianDate.{julian}
 use Rattle.julian.proofs.laws.CalendarDays.{fields-of}
 use Rattle.leap_table.specs.rows.Table.{Row}
-use Rattle.utc.specs.text.Ascii.{asciiBytes}
-use Rattle.utc.specs.iso_texts.Expanded.{expandedForm, isoTextExpanded}
+use Rattle.utc.specs.text.Ascii.{ascii_bytes}
+use Rattle.utc.specs.iso_texts.Expanded.{expanded_form, iso_text_expanded}
 use Rattle.utc.proofs.iso_texts.TextCalls.{fields-given-by}
 use Rattle.utc.proofs.laws.DayTexts.{text-refused-by}
 use Rattle.utc.proofs.laws.ExpandedTexts.{expanded-not-finite}
-use Rattle.stamps.specs.Block.{jd1Bits, jd2Bits, stampAt}
-use Rattle.stamps.specs.Listing.{textAt, oneIfRefused, refusedIn, header}
-use Rattle.stamps.specs.listing_laws.Writer.{Stamp, blockBytes}
-use Rattle.stamps.proofs.listing_laws.Longest.{zero-text}
+use Rattle.stamps.specs.Block.{jd1_bits, jd2_bits, stamp_at}
+use Rattle.stamps.specs.Listing.{text_at, one_if_refused, refused_in, header}
+use Rattle.stamps.specs.listing_laws.Writer.{Stamp, block_bytes}
+use Rattle.stamps.proofs.listing_laws.Longest.{zero_text}
 
 abbrev three : List ℕ
-three = blockBytes (record { first = 0; second = 0 } ∷ record { first = 0xc0e3_8800_0000_0000; second = 0 }
+three = block_bytes (record { first = 0; second = 0 } ∷ record { first = 0xc0e3_8800_0000_0000; second = 0 }
     ∷ record { first = 0x7ff8_0000_0000_0000; second = 0 } ∷ [])
 
 abbrev nil : Float
@@ -44,42 +44,42 @@ abbrev no_number : Float
 no_number = of_bits binary64 0x7ff8_0000_0000_0000
 
 -- ---- the three, read
-stamps-read : (stampAt three 3 0 ≡ julian nil nil) × (stampAt three 3 1 ≡ julian early nil) × (stampAt three 3 2 ≡ julian no_number nil)
-unfolding stampAt jd1Bits jd2Bits blockBytes all_bytes u64At fourAt
+stamps-read : (stamp_at three 3 0 ≡ julian nil nil) × (stamp_at three 3 1 ≡ julian early nil) × (stamp_at three 3 2 ≡ julian no_number nil)
+unfolding stamp_at jd1_bits jd2_bits block_bytes all_bytes u64_at four_at
 stamps-read = (refl, refl, refl)
 
 -- ---- the second has a day, and no text
-early-day : (dayNumberAndFraction early nil ≡ answer (dayOf early nil)) × ((dayOf early nil).day ≡ negsuc 39999)
-unfolding dayNumberAndFraction dayOf abs toWhole nearestInt round of_bits of_int add sub div neg lt le eq to_signed
+early-day : (day_number_and_fraction early nil ≡ answer (day_of early nil)) × ((day_of early nil).day ≡ negsuc 39999)
+unfolding day_number_and_fraction day_of abs to_whole nearest_int round of_bits of_int add sub div neg lt le eq to_signed
 early-day = (refl, refl)
 
-early-refused : (rows : List Row) → isoTextExpanded rows (julian early nil) ≡ refusal 1
+early-refused : (rows : List Row) → iso_text_expanded rows (julian early nil) ≡ refusal 1
 early-refused rows =
-    fields-given-by expandedForm rows (julian early nil) _ (fields-of early nil _ early-day.0)
-    ∙ text-refused-by rows (gregorianDate (dayOf early nil).day) expandedForm (dayOf early nil).fraction 1
-    (ap (λ (n : ℤ). valid_of (gregorianDate n)) early-day.1 ∙ gregorian-valid (negsuc 39999))
+    fields-given-by expanded_form rows (julian early nil) _ (fields-of early nil _ early-day.0)
+    ∙ text-refused-by rows (gregorian_date (day_of early nil).day) expanded_form (day_of early nil).fraction 1
+    (ap (λ (n : ℤ). valid_of (gregorian_date n)) early-day.1 ∙ gregorian_valid (negsuc 39999))
 
 not_finite : finite no_number ≡ false
 unfolding of_bits
 not_finite = refl
 
-nan-refused : (rows : List Row) → isoTextExpanded rows (julian no_number nil) ≡ refusal 6
-nan-refused rows = expanded-not-finite rows (julian no_number nil) (rw not_finite refl)
+nan_refused : (rows : List Row) → iso_text_expanded rows (julian no_number nil) ≡ refusal 6
+nan_refused rows = expanded-not-finite rows (julian no_number nil) (rw not_finite refl)
 
 -- ---- BY 1 AND BY 6 make two
 module _ (rows : List Row) where
-  texts-of : (textAt rows three 3 0 ≡ answer (zero-text rows).0) × (textAt rows three 3 1 ≡ refusal 1) × (textAt rows three 3 2 ≡ refusal 6)
-  unfolding textAt
+  texts-of : (text_at rows three 3 0 ≡ answer (zero_text rows).0) × (text_at rows three 3 1 ≡ refusal 1) × (text_at rows three 3 2 ≡ refusal 6)
+  unfolding text_at
   texts-of = (
-    ap (isoTextExpanded rows) stamps-read.0 ∙ (zero-text rows).1,
-    ap (isoTextExpanded rows) stamps-read.1 ∙ early-refused rows,
-    ap (isoTextExpanded rows) stamps-read.2 ∙ nan-refused rows,
+    ap (iso_text_expanded rows) stamps-read.0 ∙ (zero_text rows).1,
+    ap (iso_text_expanded rows) stamps-read.1 ∙ early-refused rows,
+    ap (iso_text_expanded rows) stamps-read.2 ∙ nan_refused rows,
   )
 
-  pub two-of-three : refusedIn rows three 3 3 ≡ 2
-  unfolding refusedIn oneIfRefused
+  pub two-of-three : refused_in rows three 3 3 ≡ 2
+  unfolding refused_in one_if_refused
   two-of-three = rw (texts-of.0, texts-of.1, texts-of.2) refl
 
-  pub two-of-three-header : header 3 (refusedIn rows three 3 3) ≡ asciiBytes "utc listing 3 refused 2" ++ (10 ∷ [])
-  unfolding header digitsIn
+  pub two-of-three-header : header 3 (refused_in rows three 3 3) ≡ ascii_bytes "utc listing 3 refused 2" ++ (10 ∷ [])
+  unfolding header digits_in
   two-of-three-header = rw two-of-three refl

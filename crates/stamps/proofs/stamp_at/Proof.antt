@@ -1,11 +1,11 @@
 -- `stamps::stamp_at` meets its contract: the floats of the two patterns. Assumes nothing.
-use Rattle.stamps.specs.Block.{jd1Bits, jd2Bits, stampAt}
+use Rattle.stamps.specs.Block.{jd1_bits, jd2_bits, stamp_at}
 use borrow.Author.Rules.{rules}
 use Rattle.stamps.proofs.stamp_at.Statement.{statement}
 use Rattle.stamps.proofs.stamp_at.Tie as tie
 
 returns : tie.Need-returns
-unfolding jd1Bits jd2Bits stampAt
+unfolding jd1_bits jd2_bits stamp_at
 returns c = cc
 
 pub stamp-at-spec : {M : Type 1} → statement M

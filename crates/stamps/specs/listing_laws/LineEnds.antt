@@ -3,6 +3,6 @@
 use Rattle.std.specs.Prelude.{ℕ, ◌+◌, List, [], ◌∷◌, cond, eqb}
 
 -- how many of the bytes are 10
-unfoldable pub lineEnds : List ℕ → ℕ
-lineEnds [] = 0
-lineEnds (c ∷ cs) = cond (eqb c 10) 1 0 + lineEnds cs
+unfoldable pub line_ends : List ℕ → ℕ
+line_ends [] = 0
+line_ends (c ∷ cs) = cond (eqb c 10) 1 0 + line_ends cs

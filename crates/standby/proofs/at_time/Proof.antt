@@ -7,38 +7,38 @@ use lib.IntN.{ℤ, pos}
 use mir.Syntax.{w32}
 use mir.Facts.{to_z-of_z}
 use borrow.Author.Rules.{rules}
-use Rattle.leap_table.specs.rows.Table.{mostSeconds}
+use Rattle.leap_table.specs.rows.Table.{most_seconds}
 use Rattle.refusals.specs.Outcome.{answer}
 use Rattle.calendar.specs.declared.CalendarDate.{CalendarDate}
 use Rattle.calendar.proofs.Accepted.{date-accepted}
 use Rattle.calendar.proofs.NextDates.{next-is}
 use Rattle.leap_table.specs.declared.rows.AnnouncedRows.{AnnouncedRows}
 use Rattle.leap_table.specs.rows.Announced.{rows_of}
-use Rattle.leap_table.specs.offsets.WholeSeconds.{wholeSeconds}
+use Rattle.leap_table.specs.offsets.WholeSeconds.{whole_seconds}
 use Rattle.standby.specs.declared.UtcTime.{UtcTime}
 use Rattle.standby.specs.declared.Instant.{Instant}
-use Rattle.standby.specs.Times.{inItsDay, lastMinute, offsetOnDate, taiMs}
-use Rattle.standby.specs.Answers.{instantOutcome}
+use Rattle.standby.specs.Times.{in_its_day, last_minute, offset_on_date, tai_ms}
+use Rattle.standby.specs.Answers.{instant_outcome}
 use Rattle.standby.specs.Asked.{Dated, SmallInstant}
-use Rattle.standby.proofs.Times.{same-instant, never-at, few-millis, offset-small, time-fits, time-refused}
+use Rattle.standby.proofs.Times.{same-instant, never-at, few_millis, offset-small, time-fits, time-refused}
 use Rattle.standby.proofs.at_time.Statement.{statement}
 use Rattle.standby.proofs.at_time.Tie as tie
 
-offset-limit : (table : AnnouncedRows) (t : UtcTime) (day : ℕ) (next : CalendarDate) → Dated table t day next → offsetOnDate (rows_of table) t ≤ mostSeconds
+offset-limit : (table : AnnouncedRows) (t : UtcTime) (day : ℕ) (next : CalendarDate) → Dated table t day next → offset_on_date (rows_of table) t ≤ most_seconds
 offset-limit table t day next d =
-    let a = date-accepted t.year (pos t.month) (pos t.day) (next-is t.year (pos t.month) (pos t.day) next d.has-next).0 in
-    (offset-small table (rows_of table) d.taken t.year t.month d.from-1972 a.m-low a.m-high).1
+    let a = date-accepted t.year (pos t.month) (pos t.day) (next-is t.year (pos t.month) (pos t.day) next d.has_next).0 in
+    (offset-small table (rows_of table) d.taken t.year t.month d.from_1972 a.m_low a.m_high).1
 
 -- TAI-UTC, as it was looked up
 module _ (c : tie.After-whole-seconds-by-rows) where
-  offset-is : let s = c.before.before.before in c.whole-seconds-by-rows.result ≡ offsetOnDate (rows_of s.args.table) s.args.t
+  offset-is : let s = c.before.before.before in c.whole-seconds-by-rows.result ≡ offset_on_date (rows_of s.args.table) s.args.t
   offset-is =
       let s = c.before.before.before in
       c.whole-seconds-by-rows.ensures.0
-      ∙ ap (λ (y : ℤ). wholeSeconds (rows_of s.args.table) y s.args.t.month)
+      ∙ ap (λ (y : ℤ). whole_seconds (rows_of s.args.table) y s.args.t.month)
       (to_z-of_z {w = w32} (record { sfits = c.before.struct_told.given.0.1 }))
 
-  offset-few : c.whole-seconds-by-rows.result ≤ mostSeconds
+  offset-few : c.whole-seconds-by-rows.result ≤ most_seconds
   offset-few =
       let s = c.before.before.before in
       let a = s.args in
@@ -47,13 +47,13 @@ module _ (c : tie.After-whole-seconds-by-rows) where
 -- the test of the time
 module _ (c : tie.After-in-its-day) where
   tested : (v : Bool) → c.in-its-day.result ≡ v → let s =
-      c.before.before.before.before.before in inItsDay s.args.t (lastMinute (rows_of s.args.table) s.args.t s.args.next) ≡ v
+      c.before.before.before.before.before in in_its_day s.args.t (last_minute (rows_of s.args.table) s.args.t s.args.next) ≡ v
   tested v p =
       let s = c.before.before.before.before.before in
-      ap (inItsDay s.args.t) (sym c.before.last-minute.ensures) ∙ sym c.in-its-day.ensures ∙ p
+      ap (in_its_day s.args.t) (sym c.before.last-minute.ensures) ∙ sym c.in-its-day.ensures ∙ p
 
 returns : tie.Need-returns
-unfolding instantOutcome taiMs
+unfolding instant_outcome tai_ms
 returns c =
     let i = c.before in
     let d = i.before in
@@ -63,18 +63,18 @@ returns c =
     let e = tested d true i.if1.true in
     record {
       says =
-          (λ j. answer (1000 * (86400 * (s.requires.day-is j) + (c.time-seconds.ensures.0 j) + (offset-is o j)) + a.t.millis))
+          (λ j. answer (1000 * (86400 * (s.requires.day_is j) + (c.time-seconds.ensures.0 j) + (offset-is o j)) + a.t.millis))
           ∙ time-fits (rows_of a.table) a.t a.next e;
       small = λ x p. subst (λ (y : Instant). SmallInstant y) (same-instant p)
           (record {
-            few-seconds = omega (arith, s.requires.few-days, c.time-seconds.ensures.1, offset-few o);
-            few-millis =
-                few-millis a.t (lastMinute (rows_of a.table) a.t a.next) e;
+            few_seconds = omega (arith, s.requires.few_days, c.time-seconds.ensures.1, offset-few o);
+            few_millis =
+                few_millis a.t (last_minute (rows_of a.table) a.t a.next) e;
           });
     }
 
 returns-2 : tie.Need-returns-2
-unfolding instantOutcome
+unfolding instant_outcome
 returns-2 c =
     let d = c.before in
     let a = d.before.before.before.before.before.args in

@@ -1,7 +1,7 @@
 -- `standby::in_its_day` meets its contract: each test is one of the definition's. Assumes nothing.
 use mathlib.Core.Logic.{⊎_elim}
 use borrow.Author.Rules.{rules}
-use Rattle.standby.proofs.Times.{late-hour, late-minute, many-millis, in-last-minute, in-other-hour, in-other-minute}
+use Rattle.standby.proofs.Times.{late-hour, late-minute, many-millis, in_last_minute, in_other_hour, in_other_minute}
 use Rattle.standby.proofs.in_its_day.Statement.{statement}
 use Rattle.standby.proofs.in_its_day.Tie as tie
 
@@ -29,7 +29,7 @@ returns-4 c =
     let j = k.before.before in
     let i = j.before.before in
     let s = i.before.before in
-    in-last-minute s.args.t s.args.last i.if1.false j.if2.false k.if3.false h.if4.true m.if5.true
+    in_last_minute s.args.t s.args.last i.if1.false j.if2.false k.if3.false h.if4.true m.if5.true
 
 returns-5 : tie.Need-returns-5
 returns-5 c =
@@ -39,8 +39,8 @@ returns-5 c =
     let i = j.before.before in
     let s = i.before.before in
     ⊎_elim
-    (λ w. in-other-minute s.args.t s.args.last i.if1.false j.if2.false k.if3.false w.0.taken w.2.left)
-    (λ w. in-other-hour s.args.t s.args.last i.if1.false j.if2.false k.if3.false w.left)
+    (λ w. in_other_minute s.args.t s.args.last i.if1.false j.if2.false k.if3.false w.0.taken w.2.left)
+    (λ w. in_other_hour s.args.t s.args.last i.if1.false j.if2.false k.if3.false w.left)
     h.if4.branch
 
 pub in-its-day-spec : {M : Type 1} → statement M

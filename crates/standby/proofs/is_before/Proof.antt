@@ -8,14 +8,14 @@ returns c =
     let s = c.before.before.before in
     let a = s.args.a in
     let b = s.args.b in
-    earlier-second a.seconds a.millis b.seconds b.millis s.requires.0.few-millis s.requires.1.few-millis c.if1.true
+    earlier-second a.seconds a.millis b.seconds b.millis s.requires.0.few_millis s.requires.1.few_millis c.if1.true
 
 returns-2 : tie.Need-returns-2
 returns-2 c =
     let s = c.before.before.before.before.before.before in
     let a = s.args.a in
     let b = s.args.b in
-    later_second a.seconds a.millis b.seconds b.millis s.requires.0.few-millis s.requires.1.few-millis c.if2.true
+    later_second a.seconds a.millis b.seconds b.millis s.requires.0.few_millis s.requires.1.few_millis c.if2.true
 
 returns-3 : tie.Need-returns-3
 returns-3 c =
@@ -24,7 +24,7 @@ returns-3 c =
     let s = i.before.before.before in
     let a = s.args.a in
     let b = s.args.b in
-    same_second a.seconds a.millis b.seconds b.millis s.requires.0.few-millis s.requires.1.few-millis j.if2.false i.if1.false
+    same_second a.seconds a.millis b.seconds b.millis s.requires.0.few_millis s.requires.1.few_millis j.if2.false i.if1.false
 
 pub is-before-spec : {M : Type 1} → statement M
 is-before-spec = tie.close (tie.spec returns returns-2 returns-3)

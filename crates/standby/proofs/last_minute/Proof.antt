@@ -8,13 +8,13 @@ use mir.Val.{to_z}
 use mir.Facts.{to_z-of_z}
 use borrow.Author.Rules.{rules}
 use Rattle.leap_table.specs.rows.Announced.{rows_of}
-use Rattle.leap_table.specs.offsets.WholeSeconds.{wholeSeconds}
-use Rattle.standby.specs.Times.{lastMinute}
+use Rattle.leap_table.specs.offsets.WholeSeconds.{whole_seconds}
+use Rattle.standby.specs.Times.{last_minute}
 use Rattle.standby.proofs.last_minute.Statement.{statement}
 use Rattle.standby.proofs.last_minute.Tie as tie
 
 returns : tie.Need-returns
-unfolding lastMinute
+unfolding last_minute
 returns c =
     let i = c.before.before.before in
     let s = i.before.before.before.before.before in
@@ -24,21 +24,21 @@ returns c =
     ∙ ap (to_z w32) i.if1.true
     ∙ to_z-of_z {w = w32} (record { sfits = i.before.struct-told2.given.0.1 }) in
     let q : a.next.month ≡ a.t.month = c.if2.true in
-    same (wholeSeconds (rows_of a.table) a.next.year a.next.month) (wholeSeconds (rows_of a.table) a.t.year a.t.month)
-    (λ j. wholeSeconds (rows_of a.table) (p j) (q j))
+    same (whole_seconds (rows_of a.table) a.next.year a.next.month) (whole_seconds (rows_of a.table) a.t.year a.t.month)
+    (λ j. whole_seconds (rows_of a.table) (p j) (q j))
   where
     same : (k l : ℕ) → k ≡ l → 60 ≡ 60 + k - l
     same k l e = omega arith
 
 returns-2 : tie.Need-returns-2
-unfolding lastMinute
+unfolding last_minute
 returns-2 c =
     let l = c.before in
     let s = l.before.before.before.before.before.before in
     let a = s.args in
-    let k : c.whole-seconds-by-rows.result ≡ wholeSeconds (rows_of a.table) a.next.year a.next.month =
+    let k : c.whole-seconds-by-rows.result ≡ whole_seconds (rows_of a.table) a.next.year a.next.month =
     c.whole-seconds-by-rows.ensures.0
-    ∙ ap (λ (y : ℤ). wholeSeconds (rows_of a.table) y a.next.month) (to_z-of_z {w = w32} (record { sfits = l.struct-told3.given.0.1 })) in
+    ∙ ap (λ (y : ℤ). whole_seconds (rows_of a.table) y a.next.month) (to_z-of_z {w = w32} (record { sfits = l.struct-told3.given.0.1 })) in
     λ j. 60 + k j - s.requires.0 j
 
 pub last-minute-spec : {M : Type 1} → statement M

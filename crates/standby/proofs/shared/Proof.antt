@@ -2,24 +2,24 @@
 use Prim.Native.Nat.{ℕ, ◌+◌, ◌*◌, ◌≤◌}
 use native.Mathlib.Omega.{arith}
 use borrow.Author.Rules.{rules}
-use Rattle.standby.specs.Bills.{shareDown}
+use Rattle.standby.specs.Bills.{share_down}
 use Rattle.standby.specs.Asked.{InLimits}
-use Rattle.standby.proofs.Shares.{small_product, parts-at-most, to-second, to-first}
+use Rattle.standby.proofs.Shares.{small_product, parts-at-most, to_second, to_first}
 use Rattle.standby.proofs.shared.Statement.{statement}
 use Rattle.standby.proofs.shared.Tie as tie
 
 module _ (q rate a b : ℕ) (l : InLimits q rate a b) where
   small-total : q * rate ≤ 1000000000000
-  small-total = small_product q rate 1000000 1000000 l.few-quarters l.low-rate
+  small-total = small_product q rate 1000000 1000000 l.few_quarters l.low_rate
 
   small-first : q * rate * a ≤ 1000000000000000000
-  small-first = small_product (q * rate) a 1000000000000 1000000 small-total l.short-first
+  small-first = small_product (q * rate) a 1000000000000 1000000 small-total l.short_first
 
   small-second : q * rate * b ≤ 1000000000000000000
-  small-second = small_product (q * rate) b 1000000000000 1000000 small-total l.short-second
+  small-second = small_product (q * rate) b 1000000000000 1000000 small-total l.short_second
 
-  all-at-most : shareDown (q * rate) a (a + b) + shareDown (q * rate) b (a + b) ≤ q * rate
-  all-at-most = parts-at-most (q * rate) a b l.some-line
+  all-at-most : share_down (q * rate) a (a + b) + share_down (q * rate) b (a + b) ≤ q * rate
+  all-at-most = parts-at-most (q * rate) a b l.some_line
 
 mul-total : tie.Need-overflow-mul-total
 mul-total c = let a = c.args in record { fits = omega (arith, small-total a.quarters a.rate a.first-metres a.second-metres c.requires) }
@@ -64,13 +64,13 @@ returns : tie.Need-returns
 returns c =
     let s = c.before in
     let a = s.args in
-    to-second (a.quarters * a.rate) a.first-metres a.second-metres s.requires.some-line a.quarters c.if1.true
+    to_second (a.quarters * a.rate) a.first-metres a.second-metres s.requires.some_line a.quarters c.if1.true
 
 returns-2 : tie.Need-returns-2
 returns-2 c =
     let s = c.before in
     let a = s.args in
-    to-first (a.quarters * a.rate) a.first-metres a.second-metres s.requires.some-line a.quarters c.if1.false
+    to_first (a.quarters * a.rate) a.first-metres a.second-metres s.requires.some_line a.quarters c.if1.false
 
 pub shared-spec : {M : Type 1} → statement M
 shared-spec =

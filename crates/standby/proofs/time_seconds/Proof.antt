@@ -2,12 +2,12 @@
 use mathlib.Core.Path.{refl}
 use native.Mathlib.Omega.{arith}
 use borrow.Author.Rules.{rules}
-use Rattle.standby.specs.Times.{timeSeconds}
+use Rattle.standby.specs.Times.{time_seconds}
 use Rattle.standby.proofs.time_seconds.Statement.{statement}
 use Rattle.standby.proofs.time_seconds.Tie as tie
 
 returns : tie.Need-returns
-unfolding timeSeconds
+unfolding time_seconds
 returns c = (refl, omega arith)
 
 pub time-seconds-spec : {M : Type 1} → statement M

@@ -5,7 +5,7 @@ use native.Mathlib.Numerals.{add-one}
 use native.Mathlib.Decide.{dec_lt}
 use mathlib.Core.Path.{◌≡◌, refl, sym, subst}
 use mathlib.Core.Bool.{Bool, true, false, ◌&&◌, true≢false}
-use Rattle.ticks.specs.judging.Numbers.{holdsBelow}
+use Rattle.ticks.specs.judging.Numbers.{holds_below}
 
 and_first : (a b : Bool) → a && b ≡ true → a ≡ true
 and_first true b e = refl
@@ -15,42 +15,42 @@ and_second : (a b : Bool) → a && b ≡ true → b ≡ true
 and_second true b e = e
 and_second false b e = absurd (true≢false (sym e))
 
-pub and-false : (a b : Bool) → b ≡ false → a && b ≡ false
-and-false true b e = e
-and-false false b e = refl
+pub and_false : (a b : Bool) → b ≡ false → a && b ≡ false
+and_false true b e = e
+and_false false b e = refl
 
 -- both tests are true
 pub both : (a b : Bool) → a && b ≡ true → (a ≡ true) × (b ≡ true)
 both a b e = (and_first a b e, and_second a b e)
 
 module _ (f : ℕ → Bool) where
-  pub every_more : (n : ℕ) → holdsBelow n f ≡ true → f n ≡ true → holdsBelow (n + 1) f ≡ true
-  unfolding holdsBelow
+  pub every_more : (n : ℕ) → holds_below n f ≡ true → f n ≡ true → holds_below (n + 1) f ≡ true
+  unfolding holds_below
   every_more n p q = rw (add-one, p) q
 
-  pub every-stops : (n i : ℕ) → i < n → f i ≡ false → holdsBelow n f ≡ false
-  unfolding holdsBelow
-  every-stops zero i h e = absurd (omega arith)
-  every-stops (suc n) i h e = go (every-stops n i) (dec_lt i n)
+  pub every_stops : (n i : ℕ) → i < n → f i ≡ false → holds_below n f ≡ false
+  unfolding holds_below
+  every_stops zero i h e = absurd (omega arith)
+  every_stops (suc n) i h e = go (every_stops n i) (dec_lt i n)
     where
-      go : (i < n → f i ≡ false → holdsBelow n f ≡ false) → Dec (i < n) → holdsBelow n f && f n ≡ false
+      go : (i < n → f i ≡ false → holds_below n f ≡ false) → Dec (i < n) → holds_below n f && f n ≡ false
       go hyp (yes k) = rw (hyp k e)
       go hyp (no k) =
           let m : i ≡ n = omega arith in
-          and-false (holdsBelow n f) (f n) (subst (λ (j : ℕ). f j ≡ false) m e)
+          and_false (holds_below n f) (f n) (subst (λ (j : ℕ). f j ≡ false) m e)
 
-  pub every-at : (n : ℕ) → holdsBelow n f ≡ true → (i : ℕ) → i < n → f i ≡ true
-  unfolding holdsBelow
-  every-at zero e i h = absurd (omega arith)
-  every-at (suc n) e i h = go (every-at n (both (holdsBelow n f) (f n) e).0 i) (dec_lt i n)
+  pub every_at : (n : ℕ) → holds_below n f ≡ true → (i : ℕ) → i < n → f i ≡ true
+  unfolding holds_below
+  every_at zero e i h = absurd (omega arith)
+  every_at (suc n) e i h = go (every_at n (both (holds_below n f) (f n) e).0 i) (dec_lt i n)
     where
       go : (i < n → f i ≡ true) → Dec (i < n) → f i ≡ true
       go hyp (yes k) = hyp k
       go hyp (no k) =
           let m : n ≡ i = omega arith in
-          subst (λ (j : ℕ). f j ≡ true) m (both (holdsBelow n f) (f n) e).1
+          subst (λ (j : ℕ). f j ≡ true) m (both (holds_below n f) (f n) e).1
 
-  pub every-all : (n : ℕ) → ((i : ℕ) → i < n → f i ≡ true) → holdsBelow n f ≡ true
-  unfolding holdsBelow
-  every-all zero h = refl
-  every-all (suc n) h = rw (every-all n (λ i k. h i (omega arith))) (h n (omega arith))
+  pub every_all : (n : ℕ) → ((i : ℕ) → i < n → f i ≡ true) → holds_below n f ≡ true
+  unfolding holds_below
+  every_all zero h = refl
+  every_all (suc n) h = rw (every_all n (λ i k. h i (omega arith))) (h n (omega arith))

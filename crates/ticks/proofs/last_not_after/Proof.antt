@@ -4,7 +4,7 @@ use native.Mathlib.Omega.{arith}
 use mathlib.Core.Path.{sym, subst}
 use mathlib.Core.Logic.{⊎_elim}
 use Rattle.ticks.specs.judging.Refusing.{number_at}
-use Rattle.ticks.proofs.Search.{Seeking, seek-starts, seek-up, seek-down, seek-ends}
+use Rattle.ticks.proofs.Search.{Seeking, seek_starts, seek_up, seek_down, seek_ends}
 use Rattle.ticks.proofs.last_not_after.Statement.{statement}
 use Rattle.ticks.proofs.last_not_after.Tie as tie
 
@@ -20,7 +20,7 @@ sub-left c = c.before.requires.order
 loop-holds : tie.Need-loop-init invariant-loop decreases-loop
 loop-holds c =
     let s = c.before in
-    seek-starts (number_at s.args.passes.now) s.args.low s.args.high s.args.t s.requires.order s.requires.from
+    seek_starts (number_at s.args.passes.now) s.args.low s.args.high s.args.t s.requires.order s.requires.from
 
 add-middle : tie.Need-overflow-add-middle invariant-loop decreases-loop
 add-middle c = record { fits = omega (arith, c.before.loop.invariant.over, c.before.before.before.requires.few) }
@@ -41,10 +41,10 @@ loop-again c =
     let a = l.before.before.args in
     ⊎_elim
     (λ w. subst (λ (x : ℕ). Seeking (number_at a.passes.now) a.low a.high a.t x (l.loop.left / 2)) (sym w.1)
-    (seek-up (number_at a.passes.now) a.low a.high a.t l.loop.from l.loop.left l.loop.invariant q.before.loop-test.true
+    (seek_up (number_at a.passes.now) a.low a.high a.t l.loop.from l.loop.left l.loop.invariant q.before.loop-test.true
     q.number-at.result q.number-at.ensures (omega (arith, w.0.taken))))
     (λ w. subst (λ (x : ℕ). Seeking (number_at a.passes.now) a.low a.high a.t x (l.loop.left / 2)) (sym w.1)
-    (seek-down (number_at a.passes.now) a.low a.high a.t l.loop.from l.loop.left l.loop.invariant q.before.loop-test.true
+    (seek_down (number_at a.passes.now) a.low a.high a.t l.loop.from l.loop.left l.loop.invariant q.before.loop-test.true
     q.number-at.result q.number-at.ensures l.before.before.requires.rises (omega (arith, w.0.left))))
     c.if1.branch
 
@@ -52,7 +52,7 @@ returns : tie.Need-returns invariant-loop decreases-loop
 returns c =
     let l = c.before in
     let a = l.before.before.args in
-    seek-ends (number_at a.passes.now) a.low a.high a.t l.loop.from l.loop.left l.loop.invariant (omega (arith, c.loop-test.false))
+    seek_ends (number_at a.passes.now) a.low a.high a.t l.loop.from l.loop.left l.loop.invariant (omega (arith, c.loop-test.false))
 
 pub last-not-after-spec : {M : Type 1} → statement M
 last-not-after-spec =

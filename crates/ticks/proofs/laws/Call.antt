@@ -10,65 +10,65 @@ use borrow.Author.Tests.{eq-eqb, ne_eqb}
 use Rattle.refusals.specs.Outcome.{answer, refusal}
 use Rattle.ticks.specs.declared.TicksAnswer.{TicksAnswer}
 use Rattle.ticks.specs.declared.TicksAnswer.TheVariants.{Written, Refused}
-use Rattle.ticks.specs.Passes.{millisAt}
-use Rattle.ticks.specs.judging.Refusing.{number_at, numbersIn, refusedBy}
-use Rattle.ticks.specs.Ticks.{passesOf, bytes_of, placedTicks, ticksOutcome, lentAfter, TicksCall}
-use Rattle.ticks.proofs.judging.Ladder.{ladder-passed}
+use Rattle.ticks.specs.Passes.{millis_at}
+use Rattle.ticks.specs.judging.Refusing.{number_at, numbers_in, refused_by}
+use Rattle.ticks.specs.Ticks.{passes_of, bytes_of, placed_ticks, ticks_outcome, lent_after, TicksCall}
+use Rattle.ticks.proofs.judging.Ladder.{ladder_passed}
 use Rattle.ticks.proofs.Calls.{length-bytes}
 use Rattle.ticks.specs.laws.Sound.{Sound, Inside, JustBelow}
 use Rattle.ticks.specs.laws.Reasons.{PlacedRight, TicksMeaning}
-use Rattle.ticks.proofs.laws.Laws.{on_line, at-a-pass, never-earlier, just-below}
+use Rattle.ticks.proofs.laws.Laws.{on_line, at_a_pass, never-earlier, just_below}
 use Rattle.ticks.proofs.laws.Refusals.{passes-sound, ticks-inside}
 use Rattle.ticks.proofs.laws.Results.{result-at}
 use Rattle.ticks.proofs.laws.Exactly.{answered, exactly-when}
 
-module _ (ps ms ts before after : List ℕ) (r : TicksAnswer) (call : TicksCall (placedTicks ps ms ts (length before)) before r after) where
+module _ (ps ms ts before after : List ℕ) (r : TicksAnswer) (call : TicksCall (placed_ticks ps ms ts (length before)) before r after) where
   abbrev f : ℕ → ℕ
-  f i = millisAt (passesOf ps ms) (number_at ts i)
+  f i = millis_at (passes_of ps ms) (number_at ts i)
 
   unchanged : (n : ℕ) → r ≡ Refused n → after ≡ before
-  unfolding placedTicks lentAfter ticksOutcome
-  unchanged n e = go (dec_lt 0 (refusedBy ps ms ts (length before)))
+  unfolding placed_ticks lent_after ticks_outcome
+  unchanged n e = go (dec_lt 0 (refused_by ps ms ts (length before)))
     where
-      go : Dec (0 < refusedBy ps ms ts (length before)) → after ≡ before
-      go (yes h) = call.holds ∙ rw (ne_eqb (refusedBy ps ms ts (length before)) 0 (λ z. omega arith))
+      go : Dec (0 < refused_by ps ms ts (length before)) → after ≡ before
+      go (yes h) = call.holds ∙ rw (ne_eqb (refused_by ps ms ts (length before)) 0 (λ z. omega arith))
       go (no h) =
           let w : Refused n ≡ Written (length ts) = sym e ∙ (answered ps ms ts before after r call).1 (omega arith) in
-          let q : refusal n ≡ answer (length ts) = ap ticksOutcome w in
+          let q : refusal n ≡ answer (length ts) = ap ticks_outcome w in
           let z : ◌≡◌ {A = ℕ} 0 1 = cc in
           absurd (omega arith)
 
-  module _ (z : refusedBy ps ms ts (length before) ≡ 0) where
-    holds : after ≡ bytes_of f (numbersIn ts) ++ drop (8 * numbersIn ts) before
-    unfolding placedTicks lentAfter
-    holds = call.holds ∙ rw (eq-eqb (refusedBy ps ms ts (length before)) 0 z)
-        (ap (λ (m : ℕ). bytes_of f (numbersIn ts) ++ drop m before) (length-bytes f (numbersIn ts)))
+  module _ (z : refused_by ps ms ts (length before) ≡ 0) where
+    holds : after ≡ bytes_of f (numbers_in ts) ++ drop (8 * numbers_in ts) before
+    unfolding placed_ticks lent_after
+    holds = call.holds ∙ rw (eq-eqb (refused_by ps ms ts (length before)) 0 z)
+        (ap (λ (m : ℕ). bytes_of f (numbers_in ts) ++ drop m before) (length-bytes f (numbers_in ts)))
 
-    sound : Sound (passesOf ps ms)
+    sound : Sound (passes_of ps ms)
     sound = passes-sound ps ms ts (length before) z
 
-    tick-in : (i : ℕ) → i < numbersIn ts → Inside (passesOf ps ms) (number_at ts i)
+    tick-in : (i : ℕ) → i < numbers_in ts → Inside (passes_of ps ms) (number_at ts i)
     tick-in = ticks-inside ps ms ts (length before) z
 
-    below : (i : ℕ) → i < numbersIn ts → JustBelow (passesOf ps ms) (number_at ts i) (f i)
-    below i h = just-below (passesOf ps ms) sound (number_at ts i) (tick-in i h)
+    below : (i : ℕ) → i < numbers_in ts → JustBelow (passes_of ps ms) (number_at ts i) (f i)
+    below i h = just_below (passes_of ps ms) sound (number_at ts i) (tick-in i h)
 
-    result : (i : ℕ) → i < numbersIn ts → number_at after i ≡ f i
-    result i h = ap (λ (l : List ℕ). number_at l i) holds ∙ result-at f (numbersIn ts) (drop (8 * numbersIn ts) before) i h (omega (arith, (below i h).small))
+    result : (i : ℕ) → i < numbers_in ts → number_at after i ≡ f i
+    result i h = ap (λ (l : List ℕ). number_at l i) holds ∙ result-at f (numbers_in ts) (drop (8 * numbers_in ts) before) i h (omega (arith, (below i h).small))
 
     placed-right : PlacedRight ps ms ts before after
     placed-right =
         record {
-          as_long = ap length holds ∙ length-append (bytes_of f (numbersIn ts)) (drop (8 * numbersIn ts) before)
-              ∙ omega (arith, length-bytes f (numbersIn ts), length-drop (8 * numbersIn ts) before, (ladder-passed ps ms ts (length before) z).fits);
-          spare = ap (drop (8 * numbersIn ts)) holds
-              ∙ drop_at (bytes_of f (numbersIn ts)) (drop (8 * numbersIn ts) before) (8 * numbersIn ts) (length-bytes f (numbersIn ts));
-          on-any-line = λ i j h n a b. result i h
-              ∙ sym (on_line (passesOf ps ms) sound (number_at ts i) _ (record { j = j; next = n; from = a; to = b; is = refl }));
-          at-passes = λ i j h n e. result i h ∙ ap (millisAt (passesOf ps ms)) e ∙ at-a-pass (passesOf ps ms) sound j n;
+          as_long = ap length holds ∙ length-append (bytes_of f (numbers_in ts)) (drop (8 * numbers_in ts) before)
+              ∙ omega (arith, length-bytes f (numbers_in ts), length-drop (8 * numbers_in ts) before, (ladder_passed ps ms ts (length before) z).fits);
+          spare = ap (drop (8 * numbers_in ts)) holds
+              ∙ drop_at (bytes_of f (numbers_in ts)) (drop (8 * numbers_in ts) before) (8 * numbers_in ts) (length-bytes f (numbers_in ts));
+          on_any_line = λ i j h n a b. result i h
+              ∙ sym (on_line (passes_of ps ms) sound (number_at ts i) _ (record { j = j; next = n; from = a; to = b; is = refl }));
+          at_passes = λ i j h n e. result i h ∙ ap (millis_at (passes_of ps ms)) e ∙ at_a_pass (passes_of ps ms) sound j n;
           in_order = λ i i' h h' l. omega
-              (arith, result i h, result i' h', never-earlier (passesOf ps ms) sound (number_at ts i) (number_at ts i') (tick-in i h) (tick-in i' h') l);
-          near-line = λ i h. subst (JustBelow (passesOf ps ms) (number_at ts i)) (sym (result i h)) (below i h);
+              (arith, result i h, result i' h', never-earlier (passes_of ps ms) sound (number_at ts i) (number_at ts i') (tick-in i h) (tick-in i' h') l);
+          near_line = λ i h. subst (JustBelow (passes_of ps ms) (number_at ts i)) (sym (result i h)) (below i h);
         }
 
   -- from `place_ticks`'s contract: everything that document 02 asks of the call

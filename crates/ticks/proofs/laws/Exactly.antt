@@ -12,10 +12,10 @@ use borrow.Author.Tests.{leb-true, eq-eqb, ne_eqb, le-leb}
 use Rattle.refusals.specs.Outcome.{Outcome, answer, refusal, onward}
 use Rattle.ticks.specs.declared.TicksAnswer.{TicksAnswer}
 use Rattle.ticks.specs.declared.TicksAnswer.TheVariants.{Written, Refused}
-use Rattle.ticks.specs.Passes.{millisAt}
-use Rattle.ticks.specs.judging.Refusing.{number_at, numbersIn, wholeNumbers, usable, bothRising, allInside, refusedBy}
-use Rattle.ticks.specs.Ticks.{passesOf, bytes_of, placedTicks, ticksOutcome, TicksCall}
-use Rattle.ticks.proofs.judging.Ladder.{ladder-passed}
+use Rattle.ticks.specs.Passes.{millis_at}
+use Rattle.ticks.specs.judging.Refusing.{number_at, numbers_in, whole_numbers, usable, both_rising, all_inside, refused_by}
+use Rattle.ticks.specs.Ticks.{passes_of, bytes_of, placed_ticks, ticks_outcome, TicksCall}
+use Rattle.ticks.proofs.judging.Ladder.{ladder_passed}
 use Rattle.ticks.proofs.Calls.{length-bytes}
 use Rattle.ticks.specs.laws.Reasons.{WholeLists, HasPlaces, UsablePasses, RisingPasses, TicksInside, ExactlyWhen}
 use Rattle.ticks.proofs.laws.Tests.{whole-test, usable-test, rising-test, inside-test}
@@ -41,66 +41,66 @@ apart = record {
 }
 
 -- ---- the call's number
-refused-out : (r : TicksAnswer) (n : ℕ) → ticksOutcome r ≡ refusal n → r ≡ Refused n
-unfolding ticksOutcome
+refused-out : (r : TicksAnswer) (n : ℕ) → ticks_outcome r ≡ refusal n → r ≡ Refused n
+unfolding ticks_outcome
 refused-out (Written m) n e = let z : ◌≡◌ {A = ℕ} 0 1 = cc in absurd (omega arith)
 refused-out (Refused m) n e = let q : m ≡ n = cc in ap Refused q
 
-written_out : (r : TicksAnswer) (n : ℕ) → ticksOutcome r ≡ answer n → r ≡ Written n
-unfolding ticksOutcome
+written_out : (r : TicksAnswer) (n : ℕ) → ticks_outcome r ≡ answer n → r ≡ Written n
+unfolding ticks_outcome
 written_out (Written m) n e = let q : m ≡ n = cc in ap Written q
 written_out (Refused m) n e = let z : ◌≡◌ {A = ℕ} 0 1 = cc in absurd (omega arith)
 
-module _ (ps ms ts before after : List ℕ) (r : TicksAnswer) (call : TicksCall (placedTicks ps ms ts (length before)) before r after) where
+module _ (ps ms ts before after : List ℕ) (r : TicksAnswer) (call : TicksCall (placed_ticks ps ms ts (length before)) before r after) where
   abbrev bytes : List ℕ
-  bytes = bytes_of (λ i. millisAt (passesOf ps ms) (number_at ts i)) (numbersIn ts)
+  bytes = bytes_of (λ i. millis_at (passes_of ps ms) (number_at ts i)) (numbers_in ts)
 
   abbrev k : ℕ
-  k = refusedBy ps ms ts (length before)
+  k = refused_by ps ms ts (length before)
 
-  is-refused : (k ≡ 0 → ⊥) → ticksOutcome r ≡ refusal k
-  unfolding placedTicks onward
+  is-refused : (k ≡ 0 → ⊥) → ticks_outcome r ≡ refusal k
+  unfolding placed_ticks onward
   is-refused h = call.says ∙ rw (ne_eqb k 0 h)
 
-  is-written : k ≡ 0 → ticksOutcome r ≡ answer (length bytes)
-  unfolding placedTicks onward
+  is-written : k ≡ 0 → ticks_outcome r ≡ answer (length bytes)
+  unfolding placed_ticks onward
   is-written h = call.says ∙ rw (eq-eqb k 0 h)
 
   called : (n : ℕ) → (n ≡ 0 → ⊥) → (r ≡ Refused n) ↔ (k ≡ n)
-  unfolding ticksOutcome
+  unfolding ticks_outcome
   called n nz = (to (dec_lt 0 k), fro)
     where
       to : Dec (0 < k) → r ≡ Refused n → k ≡ n
-      to (yes z) e = let w : ◌≡◌ {A = Outcome ℕ} (refusal k) (refusal n) = sym (is-refused (λ y. omega arith)) ∙ ap ticksOutcome e in cc
-      to (no z) e = let w : answer (length bytes) ≡ refusal n = sym (is-written (omega arith)) ∙ ap ticksOutcome e in let y : ◌≡◌ {A = ℕ} 0 1 =
+      to (yes z) e = let w : ◌≡◌ {A = Outcome ℕ} (refusal k) (refusal n) = sym (is-refused (λ y. omega arith)) ∙ ap ticks_outcome e in cc
+      to (no z) e = let w : answer (length bytes) ≡ refusal n = sym (is-written (omega arith)) ∙ ap ticks_outcome e in let y : ◌≡◌ {A = ℕ} 0 1 =
           cc in absurd (omega arith)
 
       fro : k ≡ n → r ≡ Refused n
       fro e = refused-out r n (is-refused (λ z. nz (sym e ∙ z)) ∙ ap refusal e)
 
   pub as_many : k ≡ 0 → length bytes ≡ length ts
-  as_many z = length-bytes (λ i. millisAt (passesOf ps ms) (number_at ts i)) (numbersIn ts)
-      ∙ eights (length ts) (ladder-passed ps ms ts (length before) z).ticks-whole
+  as_many z = length-bytes (λ i. millis_at (passes_of ps ms) (number_at ts i)) (numbers_in ts)
+      ∙ eights (length ts) (ladder_passed ps ms ts (length before) z).ticks-whole
     where
       eights : (m : ℕ) → m % 8 ≡ 0 → 8 * (m / 8) ≡ m
       eights m h = omega arith
 
   pub answered : (r ≡ Written (length ts)) ↔ (k ≡ 0)
-  unfolding ticksOutcome
+  unfolding ticks_outcome
   answered = (to (dec_lt 0 k), λ z. written_out r (length ts) (is-written z ∙ ap answer (as_many z)))
     where
       to : Dec (0 < k) → r ≡ Written (length ts) → k ≡ 0
-      to (yes z) e = let w : refusal k ≡ answer (length ts) = sym (is-refused (λ y. omega arith)) ∙ ap ticksOutcome e in let y : ◌≡◌ {A = ℕ} 0 1 =
+      to (yes z) e = let w : refusal k ≡ answer (length ts) = sym (is-refused (λ y. omega arith)) ∙ ap ticks_outcome e in let y : ◌≡◌ {A = ℕ} 0 1 =
           cc in absurd (omega arith)
       to (no z) e = omega arith
 
   all-steps : Steps 14 11 23 24 25 (WholeLists ps ms ts) (HasPlaces ts (length before)) (UsablePasses ps ms) (RisingPasses ps ms) (TicksInside ps ms ts) k
-  unfolding refusedBy
-  all-steps = steps 14 11 23 24 25 apart (wholeNumbers ps && (wholeNumbers ms && wholeNumbers ts)) (leb (numbersIn ts) (length before / 8))
-      (usable ps ms) (bothRising ps ms)
-      (allInside ps ts)
+  unfolding refused_by
+  all-steps = steps 14 11 23 24 25 apart (whole_numbers ps && (whole_numbers ms && whole_numbers ts)) (leb (numbers_in ts) (length before / 8))
+      (usable ps ms) (both_rising ps ms)
+      (all_inside ps ts)
       (whole-test ps ms ts)
-      (leb-true (numbersIn ts) (length before / 8), le-leb (numbersIn ts) (length before / 8))
+      (leb-true (numbers_in ts) (length before / 8), le-leb (numbers_in ts) (length before / 8))
       (usable-test ps ms ts)
       (rising-test ps ms ts)
       (inside-test ps ms ts)
@@ -109,10 +109,10 @@ module _ (ps ms ts before after : List ℕ) (r : TicksAnswer) (call : TicksCall 
   pub exactly-when : ExactlyWhen ps ms ts (length before) r
   exactly-when =
       record {
-        is-14 = through (called 14 (λ z. omega arith)) all-steps.at_a;
-        is-11 = through (called 11 (λ z. omega arith)) all-steps.at_b;
-        is-23 = through (called 23 (λ z. omega arith)) all-steps.at_c;
-        is-24 = through (called 24 (λ z. omega arith)) all-steps.at-d;
-        is-25 = through (called 25 (λ z. omega arith)) all-steps.at-e;
-        is-answer = through answered all-steps.at-0;
+        is_14 = through (called 14 (λ z. omega arith)) all-steps.at_a;
+        is_11 = through (called 11 (λ z. omega arith)) all-steps.at_b;
+        is_23 = through (called 23 (λ z. omega arith)) all-steps.at_c;
+        is_24 = through (called 24 (λ z. omega arith)) all-steps.at_d;
+        is_25 = through (called 25 (λ z. omega arith)) all-steps.at_e;
+        is_answer = through answered all-steps.at_0;
       }

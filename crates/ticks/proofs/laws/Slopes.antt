@@ -6,12 +6,12 @@ use native.Mathlib.Nat.{le_refl, mul_comm, mul_assoc, add-mul, mul-add, mul_righ
 use native.Mathlib.Nat.{mul-lt-mul_of_pos_right, mul-pos, le_of_mul-le-mul_right, lt_of_mul-lt-mul_right}
 use native.Mathlib.Decide.{dec_lt}
 use mathlib.Core.Path.{◌≡◌, sym, ap, subst, ◌∙◌}
-use Rattle.ticks.specs.Passes.{Passes, millisAt}
+use Rattle.ticks.specs.Passes.{Passes, millis_at}
 use Rattle.ticks.specs.judging.Numbers.{RisesTo}
 use Rattle.ticks.proofs.judging.ByLast.{rises-to}
-use Rattle.ticks.specs.laws.Sound.{Sound, Inside, ticksBetween, lineRise, JustBelow}
-use Rattle.ticks.specs.laws.Slopes.{millisRise, SlopeAtMost, TimeBetween, NearTime, lineDivisor, lineDividend, NearExact}
-use Rattle.ticks.proofs.laws.Laws.{just-below}
+use Rattle.ticks.specs.laws.Sound.{Sound, Inside, ticks_between, line_rise, JustBelow}
+use Rattle.ticks.specs.laws.Slopes.{millis_rise, SlopeAtMost, TimeBetween, NearTime, line_divisor, line_dividend, NearExact}
+use Rattle.ticks.proofs.laws.Laws.{just_below}
 
 -- ---- products
 module _ (u M Q S : ℕ) (h : M * Q ≤ S) where
@@ -144,8 +144,8 @@ record On (p : Passes) (t v i : ℕ) : Type 0 where
   next : i + 1 < p.size
   from : p.tick i ≤ t
   to : t ≤ p.tick (i + 1)
-  above : v * ticksBetween p i ≤ p.milli i * ticksBetween p i + (t - p.tick i) * millisRise p i
-  below : p.milli i * ticksBetween p i + (t - p.tick i) * millisRise p i < (v + 1) * ticksBetween p i
+  above : v * ticks_between p i ≤ p.milli i * ticks_between p i + (t - p.tick i) * millis_rise p i
+  below : p.milli i * ticks_between p i + (t - p.tick i) * millis_rise p i < (v + 1) * ticks_between p i
   least : p.milli i ≤ v
   most : v ≤ p.milli (i + 1)
 
@@ -155,8 +155,8 @@ module _ (p : Passes) (s : Sound p) where
     next = b.next;
     from = b.from;
     to = b.to;
-    above = b.not-above;
-    below = b.less-than-one;
+    above = b.not_above;
+    below = b.less_than_one;
     least = b.least;
     most = b.most;
   }
@@ -165,16 +165,16 @@ module _ (p : Passes) (s : Sound p) where
   milli-up x y a b = rises-to p.milli (p.size - 1) (λ i h. s.millis-rise i (omega arith)) x y a (omega arith)
 
   tick-up : (x y : ℕ) → x ≤ y → y < p.size → p.tick x ≤ p.tick y
-  tick-up x y a b = rises-to p.tick (p.size - 1) (λ i h. s.ticks-rise i (omega arith)) x y a (omega arith)
+  tick-up x y a b = rises-to p.tick (p.size - 1) (λ i h. s.ticks_rise i (omega arith)) x y a (omega arith)
 
   module _ (rise run : ℕ) (slope : SlopeAtMost p rise run) where
     step : (j : ℕ) → j + 1 < p.size → p.milli (j + 1) * run + rise * p.tick j ≤ p.milli j * run + rise * p.tick (j + 1)
     step j h =
-        let a : p.milli (j + 1) ≡ p.milli j + millisRise p j = omega (arith, s.millis-rise j h) in
-        let b : p.tick (j + 1) ≡ p.tick j + ticksBetween p j = omega (arith, s.ticks-rise j h) in
-        let c : p.milli (j + 1) * run ≡ p.milli j * run + millisRise p j * run = ap (λ (x : ℕ). x * run) a ∙ add-mul (p.milli j) (millisRise p j) run in
-        let e : rise * p.tick (j + 1) ≡ rise * p.tick j + rise * ticksBetween p j =
-        ap (λ (x : ℕ). rise * x) b ∙ mul-add rise (p.tick j) (ticksBetween p j) in
+        let a : p.milli (j + 1) ≡ p.milli j + millis_rise p j = omega (arith, s.millis-rise j h) in
+        let b : p.tick (j + 1) ≡ p.tick j + ticks_between p j = omega (arith, s.ticks_rise j h) in
+        let c : p.milli (j + 1) * run ≡ p.milli j * run + millis_rise p j * run = ap (λ (x : ℕ). x * run) a ∙ add-mul (p.milli j) (millis_rise p j) run in
+        let e : rise * p.tick (j + 1) ≡ rise * p.tick j + rise * ticks_between p j =
+        ap (λ (x : ℕ). rise * x) b ∙ mul-add rise (p.tick j) (ticks_between p j) in
         omega (arith, slope.each j h)
 
     climb : (i n : ℕ) → i + n < p.size → p.milli (i + n) * run + rise * p.tick i ≤ p.milli i * run + rise * p.tick (i + n)
@@ -192,8 +192,8 @@ module _ (p : Passes) (s : Sound p) where
         subst (λ (x : ℕ). p.milli x * run + rise * p.tick i ≤ p.milli i * run + rise * p.tick x) e (climb i (k - i) (omega arith))
 
     module _ (t v i : ℕ) (o : On p t v i) where
-      some : 0 < ticksBetween p i
-      some = omega (arith, s.ticks-rise i o.next)
+      some : 0 < ticks_between p i
+      some = omega (arith, s.ticks_rise i o.next)
 
       up : v * run + rise * p.tick i ≤ p.milli i * run + rise * t
       up =
@@ -202,32 +202,32 @@ module _ (p : Passes) (s : Sound p) where
           omega (
             arith,
             mul_comm rise (t - p.tick i),
-            by-start (p.milli i) (millisRise p i) (ticksBetween p i) run rise some (slope.each i o.next) v (t - p.tick i) o.above,
+            by-start (p.milli i) (millis_rise p i) (ticks_between p i) run rise some (slope.each i o.next) v (t - p.tick i) o.above,
           )
 
       down : p.milli (i + 1) * run + rise * t < (v + 1) * run + rise * p.tick (i + 1)
       down =
           let a : p.tick (i + 1) ≡ t + (p.tick (i + 1) - t) = omega (arith, o.to) in
           let b : rise * p.tick (i + 1) ≡ rise * t + rise * (p.tick (i + 1) - t) = ap (λ (x : ℕ). rise * x) a ∙ mul-add rise t (p.tick (i + 1) - t) in
-          let c : p.milli i + millisRise p i ≡ p.milli (i + 1) = omega (arith, s.millis-rise i o.next) in
-          let e : (p.milli i + millisRise p i) * run ≡ p.milli (i + 1) * run = ap (λ (x : ℕ). x * run) c in
+          let c : p.milli i + millis_rise p i ≡ p.milli (i + 1) = omega (arith, s.millis-rise i o.next) in
+          let e : (p.milli i + millis_rise p i) * run ≡ p.milli (i + 1) * run = ap (λ (x : ℕ). x * run) c in
           omega (
             arith,
             mul_comm rise (p.tick (i + 1) - t),
-            by_end (p.milli i) (millisRise p i) (ticksBetween p i) run rise some (slope.each i o.next) (v + 1) (t - p.tick i) (p.tick (i + 1) - t)
+            by_end (p.milli i) (millis_rise p i) (ticks_between p i) run rise some (slope.each i o.next) (v + 1) (t - p.tick i) (p.tick (i + 1) - t)
                 slope.some (omega (arith, o.from, o.to)) o.below,
           )
 
     -- ---- a millisecond near an exact time
     module _ (t v a d e j : ℕ) (ds : 0 < d) (x : TimeBetween p a d j) (near : NearTime t a d e) where
       abbrev T : ℕ
-      T = ticksBetween p j
+      T = ticks_between p j
 
       abbrev M : ℕ
-      M = millisRise p j
+      M = millis_rise p j
 
       long : 0 < d * T
-      long = mul-pos ds (omega (arith, s.ticks-rise j x.next))
+      long = mul-pos ds (omega (arith, s.ticks_rise j x.next))
 
       begun : p.tick j * d + (a - p.tick j * d) ≡ a
       begun = omega (arith, x.from)
@@ -236,12 +236,12 @@ module _ (p : Passes) (s : Sound p) where
       left = omega (arith, x.to)
 
       -- the end of the piece, seen from the exact time
-      its-end : p.milli (j + 1) * (d * T) ≡ lineDividend p j a d + (p.tick (j + 1) * d - a) * M
-      its-end =
+      its_end : p.milli (j + 1) * (d * T) ≡ line_dividend p j a d + (p.tick (j + 1) * d - a) * M
+      its_end =
           let u = a - p.tick j * d in
           let w = p.tick (j + 1) * d - a in
           let b : p.milli (j + 1) ≡ p.milli j + M = omega (arith, s.millis-rise j x.next) in
-          let c : p.tick (j + 1) ≡ p.tick j + T = omega (arith, s.ticks-rise j x.next) in
+          let c : p.tick (j + 1) ≡ p.tick j + T = omega (arith, s.ticks_rise j x.next) in
           let f : p.tick (j + 1) * d ≡ p.tick j * d + T * d = ap (λ (y : ℕ). y * d) c ∙ add-mul (p.tick j) T d in
           let g : d * T ≡ u + w = omega (arith, mul_comm d T, x.from, x.to) in
           let h : M * (d * T) ≡ u * M + w * M = ap (λ (y : ℕ). M * y) g ∙ mul_comm M (u + w) ∙ add-mul u w M in
@@ -250,12 +250,12 @@ module _ (p : Passes) (s : Sound p) where
       -- in an earlier piece
       earlier : (i : ℕ) → On p t v i → i < j → NearExact p rise run a d e j v
       earlier i o h = record {
-        not-above = omega (arith, mul-le-mul_right run first);
-        not-below = earlier-below M T run rise d a e (slope.each j x.next) (v + 1) (p.tick j) (p.milli j) t (a - p.tick j * d) long
-            (omega (arith, down t v i o, hop (i + 1) j (omega arith) (omega (arith, x.next)))) begun near.not-early;
+        not_above = omega (arith, mul-le-mul_right run first);
+        not_below = earlier-below M T run rise d a e (slope.each j x.next) (v + 1) (p.tick j) (p.milli j) t (a - p.tick j * d) long
+            (omega (arith, down t v i o, hop (i + 1) j (omega arith) (omega (arith, x.next)))) begun near.not_early;
       }
         where
-          first : v * (d * T) ≤ lineDividend p j a d
+          first : v * (d * T) ≤ line_dividend p j a d
           first = omega (
             arith,
             mul-le-mul_right {m = v} {n = p.milli j} (d * T) (omega (arith, o.most, milli-up (i + 1) j (omega arith) (omega (arith, x.next)))),
@@ -264,16 +264,16 @@ module _ (p : Passes) (s : Sound p) where
       -- in a later piece
       later : (i : ℕ) → On p t v i → j < i → NearExact p rise run a d e j v
       later i o h = record {
-        not-above = later-above M T run rise d a e (slope.each j x.next) v (p.tick (j + 1)) (p.milli (j + 1)) t (p.tick (j + 1) * d - a)
-            (lineDividend p j a d)
-            (omega (arith, up t v i o, hop (j + 1) i (omega arith) (omega (arith, o.next)))) left near.not_late its-end;
-        not-below = omega (arith, mul-lt-mul_of_pos_right last slope.some);
+        not_above = later-above M T run rise d a e (slope.each j x.next) v (p.tick (j + 1)) (p.milli (j + 1)) t (p.tick (j + 1) * d - a)
+            (line_dividend p j a d)
+            (omega (arith, up t v i o, hop (j + 1) i (omega arith) (omega (arith, o.next)))) left near.not_late its_end;
+        not_below = omega (arith, mul-lt-mul_of_pos_right last slope.some);
       }
         where
-          last : lineDividend p j a d < (v + 1) * (d * T)
+          last : line_dividend p j a d < (v + 1) * (d * T)
           last = omega (
             arith,
-            its-end,
+            its_end,
             long,
             add-mul v 1 (d * T),
             mul-le-mul_right {m = p.milli (j + 1)} {n = v} (d * T) (omega (arith, o.least, milli-up (j + 1) i (omega arith) (omega (arith, o.next)))),
@@ -282,11 +282,11 @@ module _ (p : Passes) (s : Sound p) where
       -- in the same piece
       same : On p t v j → NearExact p rise run a d e j v
       same o = record {
-        not-above = same_above (p.milli j) M T run (rise * T) d (a - p.tick j * d) e (slope.each j x.next) v (t - p.tick j) o.above
+        not_above = same_above (p.milli j) M T run (rise * T) d (a - p.tick j * d) e (slope.each j x.next) v (t - p.tick j) o.above
             (omega (arith, far, near.not_late, x.from));
-        not-below = same-below (p.milli j) M T run (rise * T) d (a - p.tick j * d) e (slope.each j x.next) (v + 1) (t - p.tick j) ds
+        not_below = same-below (p.milli j) M T run (rise * T) d (a - p.tick j * d) e (slope.each j x.next) (v + 1) (t - p.tick j) ds
             slope.some o.below
-            (omega (arith, far, near.not-early, x.from));
+            (omega (arith, far, near.not_early, x.from));
       }
         where
           far : t * d ≡ p.tick j * d + (t - p.tick j) * d
@@ -294,8 +294,8 @@ module _ (p : Passes) (s : Sound p) where
               let b : t ≡ p.tick j + (t - p.tick j) = omega (arith, o.from) in
               ap (λ (y : ℕ). y * d) b ∙ add-mul (p.tick j) (t - p.tick j) d
 
-      near-line : (i : ℕ) → On p t v i → NearExact p rise run a d e j v
-      near-line i o = by (dec_lt i j) (dec_lt j i)
+      near_line : (i : ℕ) → On p t v i → NearExact p rise run a d e j v
+      near_line i o = by (dec_lt i j) (dec_lt j i)
         where
           by : Dec (i < j) → Dec (j < i) → NearExact p rise run a d e j v
           by (yes h) g = earlier i o h
@@ -304,35 +304,35 @@ module _ (p : Passes) (s : Sound p) where
 
     -- THE PLACE of a millisecond that is at most e / d from time a / d: at most e / d * rise / run above the exact line at that time, and less than 1 mm more
     -- below it
-    pub near-exact : (t : ℕ) → Inside p t → (a d e j : ℕ) → 0 < d → TimeBetween p a d j → NearTime t a d e → NearExact p rise run a d e j (millisAt p t)
-    near-exact t i a d e j ds x near = let b = just-below p s t i in near-line t (millisAt p t) a d e j ds x near b.j (on t (millisAt p t) b)
+    pub near-exact : (t : ℕ) → Inside p t → (a d e j : ℕ) → 0 < d → TimeBetween p a d j → NearTime t a d e → NearExact p rise run a d e j (millis_at p t)
+    near-exact t i a d e j ds x near = let b = just_below p s t i in near_line t (millis_at p t) a d e j ds x near b.j (on t (millis_at p t) b)
 
     -- TWO MILLISECONDS: the later's place is less than 1 mm and the slope times the time between them further
-    pub near-each-other : (t t' : ℕ) → Inside p t → Inside p t' → t ≤ t' → millisAt p t' * run + rise * t < (millisAt p t + 1) * run + rise * t'
-    near-each-other t t' i i' h = let b = just-below p s t i in let b' = just-below p s t' i' in go b.j b'.j (on t _ b) (on t' _ b')
+    pub near-each-other : (t t' : ℕ) → Inside p t → Inside p t' → t ≤ t' → millis_at p t' * run + rise * t < (millis_at p t + 1) * run + rise * t'
+    near-each-other t t' i i' h = let b = just_below p s t i in let b' = just_below p s t' i' in go b.j b'.j (on t _ b) (on t' _ b')
       where
-        go : (k k' : ℕ) → On p t (millisAt p t) k → On p t' (millisAt p t') k' → millisAt p t' * run + rise * t < (millisAt p t + 1) * run + rise * t'
+        go : (k k' : ℕ) → On p t (millis_at p t) k → On p t' (millis_at p t') k' → millis_at p t' * run + rise * t < (millis_at p t + 1) * run + rise * t'
         go k k' o o' = by (dec_lt k k') (dec_lt k' k)
           where
-            by : Dec (k < k') → Dec (k' < k) → millisAt p t' * run + rise * t < (millisAt p t + 1) * run + rise * t'
-            by (yes l) g = omega (arith, down t (millisAt p t) k o, up t' (millisAt p t') k' o', hop (k + 1) k' (omega arith) (omega (arith, o'.next)))
+            by : Dec (k < k') → Dec (k' < k) → millis_at p t' * run + rise * t < (millis_at p t + 1) * run + rise * t'
+            by (yes l) g = omega (arith, down t (millis_at p t) k o, up t' (millis_at p t') k' o', hop (k + 1) k' (omega arith) (omega (arith, o'.next)))
             by (no l) (yes g) =
                 let q : t' ≡ t = omega (arith, o'.to, o.from, tick-up (k' + 1) k (omega arith) (omega (arith, o.next))) in
-                let w : millisAt p t' ≡ millisAt p t = ap (millisAt p) q in
-                let z : millisAt p t' * run ≡ millisAt p t * run = ap (λ (y : ℕ). y * run) w in
-                omega (arith, slope.some, add-mul (millisAt p t) 1 run, ap (λ (y : ℕ). rise * y) q)
+                let w : millis_at p t' ≡ millis_at p t = ap (millis_at p) q in
+                let z : millis_at p t' * run ≡ millis_at p t * run = ap (λ (y : ℕ). y * run) w in
+                omega (arith, slope.some, add-mul (millis_at p t) 1 run, ap (λ (y : ℕ). rise * y) q)
             by (no l) (no g) =
                 let q : k' ≡ k = omega arith in
-                let o₂ : On p t' (millisAt p t') k = subst (On p t' (millisAt p t')) q o' in
+                let o₂ : On p t' (millis_at p t') k = subst (On p t' (millis_at p t')) q o' in
                 let a : t' ≡ t + (t' - t) = omega arith in
                 let b : rise * t' ≡ rise * t + rise * (t' - t) = ap (λ (y : ℕ). rise * y) a ∙ mul-add rise t (t' - t) in
                 let c : t' - p.tick k ≡ t - p.tick k + (t' - t) = omega (arith, o.from) in
                 omega (
                   arith,
                   mul_comm rise (t' - t),
-                  by_both (p.milli k) (millisRise p k) (ticksBetween p k) run rise (some t (millisAt p t) k o) (slope.each k o.next) (millisAt p t')
-                      (millisAt p t + 1) (t - p.tick k) (t' - t) slope.some
+                  by_both (p.milli k) (millis_rise p k) (ticks_between p k) run rise (some t (millis_at p t) k o) (slope.each k o.next) (millis_at p t')
+                      (millis_at p t + 1) (t - p.tick k) (t' - t) slope.some
                       (subst
-                      (λ (y : ℕ). millisAt p t' * ticksBetween p k ≤ p.milli k * ticksBetween p k + y * millisRise p k) c o₂.above)
+                      (λ (y : ℕ). millis_at p t' * ticks_between p k ≤ p.milli k * ticks_between p k + y * millis_rise p k) c o₂.above)
                       o.below,
                 )

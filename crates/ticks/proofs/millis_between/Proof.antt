@@ -20,7 +20,7 @@ add-result c =
         arith,
         line-under n1.result n2.result n3.result n4.result s.args.t c.along.result c.along.ensures
             (omega (arith, s.requires.to, n2.ensures)) (omega (arith, s.requires.millis-rise, n3.ensures, n4.ensures)),
-        s.requires.millis-small,
+        s.requires.millis_small,
         n4.ensures,
       );
     }

@@ -2,16 +2,16 @@
 use Prim.Native.Nat.{◌+◌, ◌-◌, ◌≤◌}
 use native.Mathlib.Omega.{arith}
 use mathlib.Core.Path.{ap, ◌∙◌}
-use Rattle.ticks.specs.Passes.{millisAt}
+use Rattle.ticks.specs.Passes.{millis_at}
 use Rattle.ticks.specs.judging.Refusing.{number_at}
-use Rattle.ticks.specs.Ticks.{passesOf}
-use Rattle.ticks.proofs.Puts.{Placing, placing-starts, placing-goes, placing-ends}
-use Rattle.ticks.proofs.Neighbours.{near, still-near, holds, millis-is}
+use Rattle.ticks.specs.Ticks.{passes_of}
+use Rattle.ticks.proofs.Puts.{Placing, placing_starts, placing_goes, placing_ends}
+use Rattle.ticks.proofs.Neighbours.{near, still_near, holds, millis-is}
 use Rattle.ticks.proofs.place_all.Statement.{statement}
 use Rattle.ticks.proofs.place_all.Tie as tie
 
 abbrev invariant-loop : tie.invariant-loop
-invariant-loop passes millis k ticks n out₀ j₀ i₀ out j i = (i ≤ n) × Placing (λ x. millisAt (passesOf passes millis) (number_at ticks x)) k out₀ out i j
+invariant-loop passes millis k ticks n out₀ j₀ i₀ out j i = (i ≤ n) × Placing (λ x. millis_at (passes_of passes millis) (number_at ticks x)) k out₀ out i j
 
 abbrev decreases-loop : tie.decreases-loop
 decreases-loop passes millis k ticks n out₀ j₀ i₀ out j i = n - i
@@ -20,7 +20,7 @@ loop-holds : tie.Need-loop-init invariant-loop decreases-loop
 loop-holds c =
     let s = c.before.before.before.before in
     let a = s.args in
-    (omega arith, placing-starts (λ x. millisAt (passesOf a.passes.now a.millis.now) (number_at a.ticks.now x)) a.k a.out.now)
+    (omega arith, placing_starts (λ x. millis_at (passes_of a.passes.now a.millis.now) (number_at a.ticks.now x)) a.k a.out.now)
 
 number-at-requires : tie.Need-number-at-requires invariant-loop decreases-loop
 number-at-requires c κs = omega (arith, c.loop-test.true, c.before.before.before.before.before.before.requires.0.there)
@@ -101,12 +101,12 @@ loop-again c =
     let j = c.before.before.before.before.before.neighbour.result in
     let e = c.before.before.before.before.before.neighbour.ensures in (
       omega (arith, h),
-      placing-goes (λ x. millisAt (passesOf a.passes.now a.millis.now) (number_at a.ticks.now x)) a.k a.out.now l.loop.out _
+      placing_goes (λ x. millis_at (passes_of a.passes.now a.millis.now) (number_at a.ticks.now x)) a.k a.out.now l.loop.out _
           l.loop.i l.loop.j j c.before.before.before.before.millis-between.result a.n l.loop.invariant.1 h s.requires.1
-          (still-near a.passes.now a.millis.now a.k s.requires.0.passes m (low t) (high t) j e)
+          (still_near a.passes.now a.millis.now a.k s.requires.0.passes m (low t) (high t) j e)
           (c.before.before.before.before.millis-between.ensures
           ∙ millis-is a.passes.now a.millis.now a.k s.requires.0.passes m (low t) (high t) j e
-          ∙ ap (millisAt (passesOf a.passes.now a.millis.now)) t.number-at.ensures)
+          ∙ ap (millis_at (passes_of a.passes.now a.millis.now)) t.number-at.ensures)
           c.before.before.put-number.ensures,
     )
 
@@ -118,7 +118,7 @@ returns c =
     let l = c.before in
     let s = c.before.before.before.before.before.before in
     let a = s.args in
-    placing-ends (λ x. millisAt (passesOf a.passes.now a.millis.now) (number_at a.ticks.now x)) a.k a.out.now l.loop.out l.loop.i
+    placing_ends (λ x. millis_at (passes_of a.passes.now a.millis.now) (number_at a.ticks.now x)) a.k a.out.now l.loop.out l.loop.i
     l.loop.j a.n l.loop.invariant.1 (omega (arith, l.loop.invariant.0, c.loop-test.false))
 
 pub place-all-spec : {M : Type 1} → statement M

@@ -2,7 +2,7 @@
 use native.Mathlib.Omega.{arith}
 use mathlib.Core.Path.{refl, sym, ◌∙◌}
 use lib.ListN.{length}
-use Rattle.ticks.proofs.judging.Ladder.{ladder-passed, passes-two, all-good}
+use Rattle.ticks.proofs.judging.Ladder.{ladder_passed, passes-two, all-good}
 use Rattle.ticks.proofs.Calls.{refused-call, written-call}
 use borrow.Author.Rules.{rules}
 use Rattle.ticks.proofs.place_ticks.Statement.{statement}
@@ -20,13 +20,13 @@ sub-k c =
     omega (
       arith,
       passes-two a.passes.now a.millis.now a.ticks.now (length a.out.now)
-          (ladder-passed a.passes.now a.millis.now a.ticks.now (length a.out.now) (sym c.before.refused-by.ensures ∙ c.if1.false)),
+          (ladder_passed a.passes.now a.millis.now a.ticks.now (length a.out.now) (sym c.before.refused-by.ensures ∙ c.if1.false)),
     )
 
 place-all-requires : tie.Need-place-all-requires
 place-all-requires c κs =
     let a = c.before.before.before.before.before.before.before.args in
-    let z = ladder-passed a.passes.now a.millis.now a.ticks.now (length a.out.now)
+    let z = ladder_passed a.passes.now a.millis.now a.ticks.now (length a.out.now)
     (sym c.before.before.refused-by.ensures ∙ c.before.if1.false) in
     (all-good a.passes.now a.millis.now a.ticks.now (length a.out.now) z _ refl, omega (arith, z.fits))
 

@@ -4,9 +4,9 @@
 use Rattle.std.specs.Prelude.{ℕ, ◌+◌, ◌-◌, ◌*◌, ◌/◌, ◌%◌, ◌≤◌, ◌<◌, ◌≡◌, ◌↔◌, List, length, drop}
 use Rattle.ticks.specs.declared.TicksAnswer.{TicksAnswer}
 use Rattle.ticks.specs.declared.TicksAnswer.TheVariants.{Written, Refused}
-use Rattle.ticks.specs.Passes.{millisBetween}
-use Rattle.ticks.specs.judging.Refusing.{number_at, numbersIn}
-use Rattle.ticks.specs.Ticks.{passesOf}
+use Rattle.ticks.specs.Passes.{millis_between}
+use Rattle.ticks.specs.judging.Refusing.{number_at, numbers_in}
+use Rattle.ticks.specs.Ticks.{passes_of}
 use Rattle.ticks.specs.laws.Sound.{Inside, JustBelow}
 
 -- the lists are made of numbers of eight bytes; else 14
@@ -17,44 +17,44 @@ pub record WholeLists (ps ms ts : List ℕ) : Type 0 where
 
 -- every tick has a place for its result; else 11
 abbrev pub HasPlaces : List ℕ → ℕ → Type 0
-HasPlaces ts room = numbersIn ts ≤ room / 8
+HasPlaces ts room = numbers_in ts ≤ room / 8
 
 -- as many milliseconds as ticks, 2 to 2,000, all below 2^40; else 23
 pub record UsablePasses (ps ms : List ℕ) : Type 0 where
-  pub equal : numbersIn ps ≡ numbersIn ms
-  pub two : 2 ≤ numbersIn ps
-  pub most : numbersIn ps ≤ 2000
-  pub ticks-small : (i : ℕ) → i < numbersIn ps → number_at ps i < 0x100_0000_0000
-  pub millis-small : (i : ℕ) → i < numbersIn ps → number_at ms i < 0x100_0000_0000
+  pub equal : numbers_in ps ≡ numbers_in ms
+  pub two : 2 ≤ numbers_in ps
+  pub most : numbers_in ps ≤ 2000
+  pub ticks_small : (i : ℕ) → i < numbers_in ps → number_at ps i < 0x100_0000_0000
+  pub millis_small : (i : ℕ) → i < numbers_in ps → number_at ms i < 0x100_0000_0000
 
 -- both rise strictly; else 24
 pub record RisingPasses (ps ms : List ℕ) : Type 0 where
-  pub ticks-rise : (i : ℕ) → i + 1 < numbersIn ps → number_at ps i < number_at ps (i + 1)
-  pub millis-rise : (i : ℕ) → i + 1 < numbersIn ps → number_at ms i < number_at ms (i + 1)
+  pub ticks_rise : (i : ℕ) → i + 1 < numbers_in ps → number_at ps i < number_at ps (i + 1)
+  pub millis-rise : (i : ℕ) → i + 1 < numbers_in ps → number_at ms i < number_at ms (i + 1)
 
 -- every tick lies from the first pass to the last; else 25
 abbrev pub TicksInside : List ℕ → List ℕ → List ℕ → Type 0
-TicksInside ps ms ts = (i : ℕ) → i < numbersIn ts → Inside (passesOf ps ms) (number_at ts i)
+TicksInside ps ms ts = (i : ℕ) → i < numbers_in ts → Inside (passes_of ps ms) (number_at ts i)
 
 -- r is each refusal exactly where its reason holds and none before it, and the answer exactly where none holds
 pub record ExactlyWhen (ps ms ts : List ℕ) (room : ℕ) (r : TicksAnswer) : Type 0 where
-  pub is-14 : (r ≡ Refused 14) ↔ (WholeLists ps ms ts → ⊥)
-  pub is-11 : (r ≡ Refused 11) ↔ (WholeLists ps ms ts × (HasPlaces ts room → ⊥))
-  pub is-23 : (r ≡ Refused 23) ↔ (WholeLists ps ms ts × HasPlaces ts room × (UsablePasses ps ms → ⊥))
-  pub is-24 : (r ≡ Refused 24) ↔ (WholeLists ps ms ts × HasPlaces ts room × UsablePasses ps ms × (RisingPasses ps ms → ⊥))
-  pub is-25 : (r ≡ Refused 25) ↔ (WholeLists ps ms ts × HasPlaces ts room × UsablePasses ps ms × RisingPasses ps ms × (TicksInside ps ms ts → ⊥))
-  pub is-answer : (r ≡ Written (length ts)) ↔ (WholeLists ps ms ts × HasPlaces ts room × UsablePasses ps ms × RisingPasses ps ms × TicksInside ps ms ts)
+  pub is_14 : (r ≡ Refused 14) ↔ (WholeLists ps ms ts → ⊥)
+  pub is_11 : (r ≡ Refused 11) ↔ (WholeLists ps ms ts × (HasPlaces ts room → ⊥))
+  pub is_23 : (r ≡ Refused 23) ↔ (WholeLists ps ms ts × HasPlaces ts room × (UsablePasses ps ms → ⊥))
+  pub is_24 : (r ≡ Refused 24) ↔ (WholeLists ps ms ts × HasPlaces ts room × UsablePasses ps ms × (RisingPasses ps ms → ⊥))
+  pub is_25 : (r ≡ Refused 25) ↔ (WholeLists ps ms ts × HasPlaces ts room × UsablePasses ps ms × RisingPasses ps ms × (TicksInside ps ms ts → ⊥))
+  pub is_answer : (r ≡ Written (length ts)) ↔ (WholeLists ps ms ts × HasPlaces ts room × UsablePasses ps ms × RisingPasses ps ms × TicksInside ps ms ts)
 
 -- The results in the lent list, which held `before`: each is on the line of any two neighbours that hold its tick, rounded down; at a pass it is the pass's
 -- millisecond; a later tick's is never earlier; each is less than 1 ms below the exact line; and the bytes behind them stay.
 pub record PlacedRight (ps ms ts before after : List ℕ) : Type 0 where
   pub as_long : length after ≡ length before
-  pub spare : drop (8 * numbersIn ts) after ≡ drop (8 * numbersIn ts) before
-  pub on-any-line : (i j : ℕ) → i < numbersIn ts → j + 1 < numbersIn ps → number_at ps j ≤ number_at ts i → number_at ts i ≤ number_at ps (j + 1)
-      → number_at after i ≡ millisBetween (passesOf ps ms) j (number_at ts i)
-  pub at-passes : (i j : ℕ) → i < numbersIn ts → j < numbersIn ps → number_at ts i ≡ number_at ps j → number_at after i ≡ number_at ms j
-  pub in_order : (i i' : ℕ) → i < numbersIn ts → i' < numbersIn ts → number_at ts i ≤ number_at ts i' → number_at after i ≤ number_at after i'
-  pub near-line : (i : ℕ) → i < numbersIn ts → JustBelow (passesOf ps ms) (number_at ts i) (number_at after i)
+  pub spare : drop (8 * numbers_in ts) after ≡ drop (8 * numbers_in ts) before
+  pub on_any_line : (i j : ℕ) → i < numbers_in ts → j + 1 < numbers_in ps → number_at ps j ≤ number_at ts i → number_at ts i ≤ number_at ps (j + 1)
+      → number_at after i ≡ millis_between (passes_of ps ms) j (number_at ts i)
+  pub at_passes : (i j : ℕ) → i < numbers_in ts → j < numbers_in ps → number_at ts i ≡ number_at ps j → number_at after i ≡ number_at ms j
+  pub in_order : (i i' : ℕ) → i < numbers_in ts → i' < numbers_in ts → number_at ts i ≤ number_at ts i' → number_at after i ≤ number_at after i'
+  pub near_line : (i : ℕ) → i < numbers_in ts → JustBelow (passes_of ps ms) (number_at ts i) (number_at after i)
 
 -- the whole call: its answer, and the lent list before and after
 pub record TicksMeaning (ps ms ts before : List ℕ) (r : TicksAnswer) (after : List ℕ) : Type 0 where

@@ -5,18 +5,18 @@
 use Rattle.std.specs.Prelude.{ℕ, ◌+◌, ◌-◌, ◌*◌, ◌≤◌, ◌<◌, List}
 use Rattle.ticks.specs.Passes.{Passes}
 use Rattle.ticks.specs.judging.Refusing.{number_at}
-use Rattle.ticks.specs.Ticks.{passesOf}
-use Rattle.ticks.specs.laws.Sound.{ticksBetween}
+use Rattle.ticks.specs.Ticks.{passes_of}
+use Rattle.ticks.specs.laws.Sound.{ticks_between}
 use Rattle.ticks.specs.laws.Readings.{IsPlaced}
 
 -- the millimetres between pass j and the next
-abbrev pub millisRise : Passes → ℕ → ℕ
-millisRise p j = p.milli (j + 1) - p.milli j
+abbrev pub millis_rise : Passes → ℕ → ℕ
+millis_rise p j = p.milli (j + 1) - p.milli j
 
 -- from each pass to the next at most rise / run millimetres a millisecond
 pub record SlopeAtMost (p : Passes) (rise run : ℕ) : Type 0 where
   pub some : 0 < run
-  pub each : (j : ℕ) → j + 1 < p.size → millisRise p j * run ≤ rise * ticksBetween p j
+  pub each : (j : ℕ) → j + 1 < p.size → millis_rise p j * run ≤ rise * ticks_between p j
 
 -- time a / d lies from pass j to the next
 pub record TimeBetween (p : Passes) (a d j : ℕ) : Type 0 where
@@ -27,24 +27,24 @@ pub record TimeBetween (p : Passes) (a d j : ℕ) : Type 0 where
 -- the whole millisecond t is at most e / d from time a / d
 pub record NearTime (t a d e : ℕ) : Type 0 where
   pub not_late : t * d ≤ a + e
-  pub not-early : a ≤ t * d + e
+  pub not_early : a ≤ t * d + e
 
--- the exact line at time a / d, between pass j and the next, is at lineDividend / lineDivisor
-abbrev pub lineDivisor : Passes → ℕ → ℕ → ℕ
-lineDivisor p j d = d * ticksBetween p j
+-- the exact line at time a / d, between pass j and the next, is at line_dividend / line_divisor
+abbrev pub line_divisor : Passes → ℕ → ℕ → ℕ
+line_divisor p j d = d * ticks_between p j
 
-abbrev pub lineDividend : Passes → ℕ → ℕ → ℕ → ℕ
-lineDividend p j a d = p.milli j * lineDivisor p j d + (a - p.tick j * d) * millisRise p j
+abbrev pub line_dividend : Passes → ℕ → ℕ → ℕ → ℕ
+line_dividend p j a d = p.milli j * line_divisor p j d + (a - p.tick j * d) * millis_rise p j
 
--- place r is at most e / d * rise / run above the exact line at time a / d, and less than 1 more below it: both sides are multiplied by lineDivisor and run
+-- place r is at most e / d * rise / run above the exact line at time a / d, and less than 1 more below it: both sides are multiplied by line_divisor and run
 pub record NearExact (p : Passes) (rise run a d e j r : ℕ) : Type 0 where
-  pub not-above : r * lineDivisor p j d * run ≤ lineDividend p j a d * run + e * (rise * ticksBetween p j)
-  pub not-below : lineDividend p j a d * run < (r + 1) * lineDivisor p j d * run + e * (rise * ticksBetween p j)
+  pub not_above : r * line_divisor p j d * run ≤ line_dividend p j a d * run + e * (rise * ticks_between p j)
+  pub not_below : line_dividend p j a d * run < (r + 1) * line_divisor p j d * run + e * (rise * ticks_between p j)
 
 -- Over both steps, for the places of a call: reading i, whose stamp is at time a / d and whose millisecond is at most e / d from it, has a place near the exact
 -- line at that time; and of two readings the later's place is less than 1 mm and the slope times the milliseconds between them further.
 pub record ReadingsNear (ps ls ms ns' after : List ℕ) (rise run : ℕ) : Type 0 where
-  pub each : (i : ℕ) → IsPlaced ms ns' i → (a d e j : ℕ) → 0 < d → TimeBetween (passesOf ps ls) a d j → NearTime (number_at ms i) a d e
-      → NearExact (passesOf ps ls) rise run a d e j (number_at after i)
+  pub each : (i : ℕ) → IsPlaced ms ns' i → (a d e j : ℕ) → 0 < d → TimeBetween (passes_of ps ls) a d j → NearTime (number_at ms i) a d e
+      → NearExact (passes_of ps ls) rise run a d e j (number_at after i)
   pub two : (i i' : ℕ) → IsPlaced ms ns' i → IsPlaced ms ns' i' → number_at ms i ≤ number_at ms i'
       → number_at after i' * run + rise * number_at ms i < (number_at after i + 1) * run + rise * number_at ms i'

@@ -6,10 +6,10 @@ use Rattle.ticks.specs.Passes.{Passes}
 pub record Sound (p : Passes) : Type 0 where
   pub two : 2 ≤ p.size
   pub most : p.size ≤ 2000
-  pub ticks-rise : (i : ℕ) → i + 1 < p.size → p.tick i < p.tick (i + 1)
+  pub ticks_rise : (i : ℕ) → i + 1 < p.size → p.tick i < p.tick (i + 1)
   pub millis-rise : (i : ℕ) → i + 1 < p.size → p.milli i < p.milli (i + 1)
-  pub ticks-small : (i : ℕ) → i < p.size → p.tick i < 0x100_0000_0000
-  pub millis-small : (i : ℕ) → i < p.size → p.milli i < 0x100_0000_0000
+  pub ticks_small : (i : ℕ) → i < p.size → p.tick i < 0x100_0000_0000
+  pub millis_small : (i : ℕ) → i < p.size → p.milli i < 0x100_0000_0000
 
 -- the tick lies from the first pass to the last
 pub record Inside (p : Passes) (t : ℕ) : Type 0 where
@@ -19,19 +19,19 @@ pub record Inside (p : Passes) (t : ℕ) : Type 0 where
 -- The passes j and j + 1 hold tick t, and r is at most the exact line there and less than 1 ms below it. With d ticks between the passes, the line is at (milli
 -- j * d + (t - tick j) * (milli (j + 1) - milli j)) / d, a fraction: r * d is at most the dividend and (r + 1) * d above it. And r lies between their
 -- milliseconds.
-abbrev pub lineRise : Passes → ℕ → ℕ → ℕ
-lineRise p j t = (t - p.tick j) * (p.milli (j + 1) - p.milli j)
+abbrev pub line_rise : Passes → ℕ → ℕ → ℕ
+line_rise p j t = (t - p.tick j) * (p.milli (j + 1) - p.milli j)
 
-abbrev pub ticksBetween : Passes → ℕ → ℕ
-ticksBetween p j = p.tick (j + 1) - p.tick j
+abbrev pub ticks_between : Passes → ℕ → ℕ
+ticks_between p j = p.tick (j + 1) - p.tick j
 
 pub record JustBelow (p : Passes) (t r : ℕ) : Type 0 where
   pub j : ℕ
   pub next : j + 1 < p.size
   pub from : p.tick j ≤ t
   pub to : t ≤ p.tick (j + 1)
-  pub not-above : r * ticksBetween p j ≤ p.milli j * ticksBetween p j + lineRise p j t
-  pub less-than-one : p.milli j * ticksBetween p j + lineRise p j t < (r + 1) * ticksBetween p j
+  pub not_above : r * ticks_between p j ≤ p.milli j * ticks_between p j + line_rise p j t
+  pub less_than_one : p.milli j * ticks_between p j + line_rise p j t < (r + 1) * ticks_between p j
   pub least : p.milli j ≤ r
   pub most : r ≤ p.milli (j + 1)
   pub small : r < 0x100_0000_0000

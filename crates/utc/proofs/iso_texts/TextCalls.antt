@@ -9,24 +9,24 @@ use Rattle.calendar.specs.declared.CalendarDate.{CalendarDate}
 use Rattle.calendar.specs.Refusals.{next_of}
 use Rattle.julian.specs.declared.JulianDate.{JulianDate}
 use Rattle.julian.specs.declared.CalendarFields.{CalendarFields}
-use Rattle.julian.specs.Calendar.{julianToCalendar}
+use Rattle.julian.specs.Calendar.{julian_to_calendar}
 use Rattle.leap_table.specs.rows.Table.{Row}
-use Rattle.leap_table.specs.offsets.Leap.{leapAtEndOfDay}
+use Rattle.leap_table.specs.offsets.Leap.{leap_at_end_of_day}
 use Rattle.time_of_day.specs.declared.TimeOfDay.{TimeOfDay}
-use Rattle.time_of_day.specs.TimeShown.{shownBy}
+use Rattle.time_of_day.specs.TimeShown.{shown_by}
 use Rattle.utc.specs.declared.text.TextAnswer.{TextAnswer}
 use Rattle.utc.specs.declared.text.TextAnswer.TheVariants.{Refused}
-use Rattle.utc.specs.text.Answer.{textOutcome, TextPut}
+use Rattle.utc.specs.text.Answer.{text_outcome, TextPut}
 use Rattle.utc.specs.iso_texts.TextForm.{TextForm}
-use Rattle.utc.specs.iso_texts.IsoText.{midnight, nextMidnightTextBy, shownTextBy, dayTextBy, dayText, isoTextBy, isoText, standardForm}
-use Rattle.utc.specs.iso_texts.TextCall.{written, bufferHolds, TextCall}
+use Rattle.utc.specs.iso_texts.IsoText.{midnight, next_midnight_text_by, shown_text_by, day_text_by, day_text, iso_text_by, iso_text, standard_form}
+use Rattle.utc.specs.iso_texts.TextCall.{written, buffer_holds, TextCall}
 
 pub call-refused : (o : Outcome (List ℕ)) (n : ℕ) (l : List ℕ) → o ≡ refusal n → TextCall o l (Refused n) l
-unfolding written bufferHolds textOutcome onward
+unfolding written buffer_holds text_outcome onward
 call-refused o n l e = subst (λ (x : Outcome (List ℕ)). TextCall x l (Refused n) l) (sym e) (record { says = refl; holds = refl })
 
 pub call-put : (o : Outcome (List ℕ)) (t l out : List ℕ) (r : TextAnswer) → o ≡ answer t → TextPut t l r out → TextCall o l r out
-unfolding written bufferHolds onward
+unfolding written buffer_holds onward
 call-put o t l out r e p = subst (λ (x : Outcome (List ℕ)). TextCall x l r out) (sym e) (record { says = p.says; holds = p.holds })
 
 pub call-as : (o x : Outcome (List ℕ)) (l out : List ℕ) (r : TextAnswer) → o ≡ x → TextCall x l r out → TextCall o l r out
@@ -34,38 +34,38 @@ call-as o x l out r e p = subst (λ (x : Outcome (List ℕ)). TextCall x l r out
 
 -- ---- the next date's midnight, by a way to write a date and a time
 module _ (write : CalendarDate → TimeOfDay → List ℕ) (d : CalendarDate) where
-  pub next-refused : (k : ℕ) → next_of d.year (pos d.month) (pos d.day) ≡ refusal k → nextMidnightTextBy write d ≡ refusal k
-  unfolding nextMidnightTextBy onward
+  pub next-refused : (k : ℕ) → next_of d.year (pos d.month) (pos d.day) ≡ refusal k → next_midnight_text_by write d ≡ refusal k
+  unfolding next_midnight_text_by onward
   next-refused k e = rw e
 
-  pub next-given : (t : CalendarDate) → next_of d.year (pos d.month) (pos d.day) ≡ answer t → nextMidnightTextBy write d ≡ answer (write t midnight)
-  unfolding nextMidnightTextBy onward
+  pub next-given : (t : CalendarDate) → next_of d.year (pos d.month) (pos d.day) ≡ answer t → next_midnight_text_by write d ≡ answer (write t midnight)
+  unfolding next_midnight_text_by onward
   next-given t e = rw e
 
 -- ---- in any form
 module _ (textForm : TextForm) (rows : List Row) where
   -- the day's leap
   module _ (d : CalendarDate) (f : Float) where
-    pub leap-refused : (k : ℕ) → leapAtEndOfDay rows d.year (pos d.month) (pos d.day) ≡ refusal k → dayTextBy textForm rows d f ≡ refusal k
-    unfolding dayTextBy onward
+    pub leap-refused : (k : ℕ) → leap_at_end_of_day rows d.year (pos d.month) (pos d.day) ≡ refusal k → day_text_by textForm rows d f ≡ refusal k
+    unfolding day_text_by onward
     leap-refused k e = rw e
 
-    pub leap-given : (x : Float) → leapAtEndOfDay rows d.year (pos d.month) (pos d.day) ≡ answer x
-        → dayTextBy textForm rows d f ≡ shownTextBy textForm.write d (shownBy textForm.count f x)
-    unfolding dayTextBy onward
+    pub leap-given : (x : Float) → leap_at_end_of_day rows d.year (pos d.month) (pos d.day) ≡ answer x
+        → day_text_by textForm rows d f ≡ shown_text_by textForm.write d (shown_by textForm.count f x)
+    unfolding day_text_by onward
     leap-given x e = rw e
 
   -- the calendar's fields
-  pub fields-refused-by : (jd : JulianDate) (k : ℕ) → julianToCalendar jd.jd1 jd.jd2 ≡ refusal k → isoTextBy textForm rows jd ≡ refusal k
-  unfolding isoTextBy onward
+  pub fields-refused-by : (jd : JulianDate) (k : ℕ) → julian_to_calendar jd.jd1 jd.jd2 ≡ refusal k → iso_text_by textForm rows jd ≡ refusal k
+  unfolding iso_text_by onward
   fields-refused-by jd k e = rw e
 
-  pub fields-given-by : (jd : JulianDate) (c : CalendarFields) → julianToCalendar jd.jd1 jd.jd2 ≡ answer c
-      → isoTextBy textForm rows jd ≡ dayTextBy textForm rows c.date c.fraction
-  unfolding isoTextBy onward
+  pub fields-given-by : (jd : JulianDate) (c : CalendarFields) → julian_to_calendar jd.jd1 jd.jd2 ≡ answer c
+      → iso_text_by textForm rows jd ≡ day_text_by textForm rows c.date c.fraction
+  unfolding iso_text_by onward
   fields-given-by jd c e = rw e
 
 -- ---- by document 01's
 module _ (rows : List Row) (jd : JulianDate) where
-  pub fields-given : (c : CalendarFields) → julianToCalendar jd.jd1 jd.jd2 ≡ answer c → isoText rows jd ≡ dayText rows c.date c.fraction
-  fields-given c e = fields-given-by standardForm rows jd c e
+  pub fields-given : (c : CalendarFields) → julian_to_calendar jd.jd1 jd.jd2 ≡ answer c → iso_text rows jd ≡ day_text rows c.date c.fraction
+  fields-given c e = fields-given-by standard_form rows jd c e

@@ -10,30 +10,30 @@ use lib.ListN.{length, take, drop}
 use lib.Seq.{take_at, drop_at}
 use lib.Ieee.{Float, binary64, fits}
 use Rattle.refusals.specs.Outcome.{Outcome, answer, refusal, onward}
-use Rattle.julian.specs.day_number.ExactDay.{OnGrid, gridSum}
+use Rattle.julian.specs.day_number.ExactDay.{OnGrid, grid_sum}
 use Rattle.julian.specs.declared.CalendarFields.{CalendarFields}
 use Rattle.julian.specs.JulianDate.{julian}
 use Rattle.julian.proofs.laws.CalendarDays.{one-outcome}
 use Rattle.leap_table.specs.rows.Table.{Row}
 use Rattle.utc.specs.declared.text.TextAnswer.{TextAnswer}
 use Rattle.utc.specs.declared.text.TextAnswer.TheVariants.{Written, Refused}
-use Rattle.utc.specs.text.Answer.{textOutcome, textWritten, bufferAfter}
+use Rattle.utc.specs.text.Answer.{text_outcome, text_written, buffer_after}
 use Rattle.utc.specs.iso_texts.TextForm.{TextForm}
-use Rattle.utc.specs.iso_texts.IsoText.{dayTextBy, isoTextBy, isoText, standardForm}
-use Rattle.utc.specs.iso_texts.TextCall.{written, bufferHolds, TextCall, Alike}
-use Rattle.utc.specs.laws.Shows.{Promise, tooEarly, TextDemand}
+use Rattle.utc.specs.iso_texts.IsoText.{day_text_by, iso_text_by, iso_text, standard_form}
+use Rattle.utc.specs.iso_texts.TextCall.{written, buffer_holds, TextCall, Alike}
+use Rattle.utc.specs.laws.Shows.{Promise, too_early, TextDemand}
 
 -- ---- one text, or one refusal, for all divisions
 pub one-text : (textForm : TextForm) (rows : List Row) (x y x' y' : Float) → T (fits binary64 x) → T (fits binary64 y) → T (fits binary64 x')
     → T (fits binary64 y') → (a : OnGrid x) (b : OnGrid y) (a' : OnGrid x') (b' : OnGrid y')
-    → gridSum a b ≡ gridSum a' b' → isoTextBy textForm rows (julian x y) ≡ isoTextBy textForm rows (julian x' y')
-unfolding isoTextBy
+    → grid_sum a b ≡ grid_sum a' b' → iso_text_by textForm rows (julian x y) ≡ iso_text_by textForm rows (julian x' y')
+unfolding iso_text_by
 one-text textForm rows x y x' y' fx fy fx' fy' a b a' b' e =
-    ap (λ (o : Outcome CalendarFields). onward o (λ c. dayTextBy textForm rows c.date c.fraction)) (one-outcome x y x' y' fx fy fx' fy' a b a' b' e)
+    ap (λ (o : Outcome CalendarFields). onward o (λ c. day_text_by textForm rows c.date c.fraction)) (one-outcome x y x' y' fx fy fx' fy' a b a' b' e)
 
 -- ---- a call, by its outcome
-same_answer : (r s : TextAnswer) → textOutcome r ≡ textOutcome s → r ≡ s
-unfolding textOutcome
+same_answer : (r s : TextAnswer) → text_outcome r ≡ text_outcome s → r ≡ s
+unfolding text_outcome
 same_answer (Written m) (Written n) e = ap Written (let p : m ≡ n = cc in p)
 same_answer (Written m) (Refused n) e = cc
 same_answer (Refused m) (Written n) e = cc
@@ -42,7 +42,7 @@ same_answer (Refused m) (Refused n) e = ap Refused (let p : m ≡ n = cc in p)
 -- where n bytes are written they are the text, and the rest of the buffer stays
 module _ (o : Outcome (List ℕ)) (l out : List ℕ) (n : ℕ) (c : TextCall o l (Written n) out) where
   pub text-put : (t : List ℕ) × (o ≡ answer t) × (n ≡ length t) × (out ≡ t ++ drop (length t) l)
-  unfolding textOutcome written bufferHolds textWritten bufferAfter onward
+  unfolding text_outcome written buffer_holds text_written buffer_after onward
   text-put = go o refl c.says c.holds
     where
       fits_in : (t : List ℕ) (b : Bool) → o ≡ answer t → answer n ≡ cond b (answer (length t)) (refusal 11) → out ≡ cond b (t ++ drop (length t) l) l
@@ -50,21 +50,21 @@ module _ (o : Outcome (List ℕ)) (l out : List ℕ) (n : ℕ) (c : TextCall o l
       fits_in t true p e q = (t, p, (let k : n ≡ length t = cc in k), q)
       fits_in t false p e q = let z : ◌≡◌ {A = ℕ} 0 1 = cc in absurd (omega arith)
 
-      go : (x : Outcome (List ℕ)) → o ≡ x → answer n ≡ onward x (λ t. textWritten t (length l)) → out ≡ bufferHolds x l → (s : List ℕ) × (o ≡ answer s)
+      go : (x : Outcome (List ℕ)) → o ≡ x → answer n ≡ onward x (λ t. text_written t (length l)) → out ≡ buffer_holds x l → (s : List ℕ) × (o ≡ answer s)
           × (n ≡ length s) × (out ≡ s ++ drop (length s) l)
       go (answer t) p e q = fits_in t (leb (length t) (length l)) p e q
       go (refusal k) p e q = let z : ◌≡◌ {A = ℕ} 0 1 = cc in absurd (omega arith)
 
 -- A REFUSED CALL changes no byte of its buffer
 pub nothing_written : (o : Outcome (List ℕ)) (l out : List ℕ) (k : ℕ) → TextCall o l (Refused k) out → out ≡ l
-unfolding textOutcome written bufferHolds textWritten bufferAfter onward
+unfolding text_outcome written buffer_holds text_written buffer_after onward
 nothing_written o l out k c = go o c.says c.holds
   where
     longer : (t : List ℕ) (b : Bool) → refusal k ≡ cond b (answer (length t)) (refusal 11) → out ≡ cond b (t ++ drop (length t) l) l → out ≡ l
     longer t true e q = let z : ◌≡◌ {A = ℕ} 0 1 = cc in absurd (omega arith)
     longer t false e q = q
 
-    go : (x : Outcome (List ℕ)) → refusal k ≡ onward x (λ t. textWritten t (length l)) → out ≡ bufferHolds x l → out ≡ l
+    go : (x : Outcome (List ℕ)) → refusal k ≡ onward x (λ t. text_written t (length l)) → out ≡ buffer_holds x l → out ≡ l
     go (answer t) e q = longer t (leb (length t) (length l)) e q
     go (refusal j) e q = q
 
@@ -98,20 +98,20 @@ alike o l out l' out' r r' e c c' = record {
 -- ---- THE REFUSALS of a call, exactly: 1 where the year is before -4799, else 11 where the text is longer than the buffer, else none
 module _ (p : Promise) (rows : List Row) (sum : ℤ) (o : Outcome (List ℕ)) (l out : List ℕ) (r : TextAnswer) (d : TextDemand p rows sum o)
     (c : TextCall o l r out) where
-  pub exactly : textOutcome r ≡ cond (tooEarly sum) (refusal 1) (cond (leb (length d.text) (length l)) (answer (length d.text)) (refusal 11))
-  unfolding written textWritten onward
-  exactly = c.says ∙ ap (λ (x : Outcome (List ℕ)). onward x (λ t. textWritten t (length l))) d.is ∙ go (tooEarly sum)
+  pub exactly : text_outcome r ≡ cond (too_early sum) (refusal 1) (cond (leb (length d.text) (length l)) (answer (length d.text)) (refusal 11))
+  unfolding written text_written onward
+  exactly = c.says ∙ ap (λ (x : Outcome (List ℕ)). onward x (λ t. text_written t (length l))) d.is ∙ go (too_early sum)
     where
-      go : (b : Bool) → onward (cond b (refusal 1) (answer d.text)) (λ t. textWritten t (length l)) ≡ cond b (refusal 1)
+      go : (b : Bool) → onward (cond b (refusal 1) (answer d.text)) (λ t. text_written t (length l)) ≡ cond b (refusal 1)
           (cond (leb (length d.text) (length l)) (answer (length d.text)) (refusal 11))
       go true = refl
       go false = refl
 
-  pub buffer : out ≡ cond (tooEarly sum) l (cond (leb (length d.text) (length l)) (d.text ++ drop (length d.text) l) l)
-  unfolding bufferHolds bufferAfter
-  buffer = c.holds ∙ ap (λ (x : Outcome (List ℕ)). bufferHolds x l) d.is ∙ go (tooEarly sum)
+  pub buffer : out ≡ cond (too_early sum) l (cond (leb (length d.text) (length l)) (d.text ++ drop (length d.text) l) l)
+  unfolding buffer_holds buffer_after
+  buffer = c.holds ∙ ap (λ (x : Outcome (List ℕ)). buffer_holds x l) d.is ∙ go (too_early sum)
     where
-      go : (b : Bool) → bufferHolds (cond b (refusal 1) (answer d.text)) l ≡ cond b l
+      go : (b : Bool) → buffer_holds (cond b (refusal 1) (answer d.text)) l ≡ cond b l
           (cond (leb (length d.text) (length l)) (d.text ++ drop (length d.text) l) l)
       go true = refl
       go false = refl
@@ -119,16 +119,16 @@ module _ (p : Promise) (rows : List Row) (sum : ℤ) (o : Outcome (List ℕ)) (l
 -- ---- DEMAND 3: all divisions of one date on the grid are alike in text for buffers of one length, in any form
 module _ (textForm : TextForm) (rows : List Row) (x y x' y' : Float) (fx : T (fits binary64 x)) (fy : T (fits binary64 y)) (fx' : T (fits binary64 x'))
     (fy' : T (fits binary64 y'))
-    (a : OnGrid x) (b : OnGrid y) (a' : OnGrid x') (b' : OnGrid y') (e : gridSum a b ≡ gridSum a' b') (l out l' out' : List ℕ) (r r' : TextAnswer)
+    (a : OnGrid x) (b : OnGrid y) (a' : OnGrid x') (b' : OnGrid y') (e : grid_sum a b ≡ grid_sum a' b') (l out l' out' : List ℕ) (r r' : TextAnswer)
     (h : length l ≡ length l') where
-  pub divisions-alike-by : TextCall (isoTextBy textForm rows (julian x y)) l r out → TextCall (isoTextBy textForm rows (julian x' y')) l' r' out'
+  pub divisions_alike_by : TextCall (iso_text_by textForm rows (julian x y)) l r out → TextCall (iso_text_by textForm rows (julian x' y')) l' r' out'
       → Alike l r out l' r' out'
-  divisions-alike-by c c' =
-      alike (isoTextBy textForm rows (julian x y)) l out l' out' r r' h c
+  divisions_alike_by c c' =
+      alike (iso_text_by textForm rows (julian x y)) l out l' out' r r' h c
       (subst (λ (o : Outcome (List ℕ)). TextCall o l' r' out') (sym (one-text textForm rows x y x' y' fx fy fx' fy' a b a' b' e)) c')
 
-pub divisions-alike : (rows : List Row) (x y x' y' : Float) → T (fits binary64 x) → T (fits binary64 y) → T (fits binary64 x') → T (fits binary64 y')
+pub divisions_alike : (rows : List Row) (x y x' y' : Float) → T (fits binary64 x) → T (fits binary64 y) → T (fits binary64 x') → T (fits binary64 y')
     → (a : OnGrid x) (b : OnGrid y) (a' : OnGrid x') (b' : OnGrid y')
-    → gridSum a b ≡ gridSum a' b' → (l out l' out' : List ℕ) (r r' : TextAnswer) → length l ≡ length l'
-    → TextCall (isoText rows (julian x y)) l r out → TextCall (isoText rows (julian x' y')) l' r' out' → Alike l r out l' r' out'
-divisions-alike = divisions-alike-by standardForm
+    → grid_sum a b ≡ grid_sum a' b' → (l out l' out' : List ℕ) (r r' : TextAnswer) → length l ≡ length l'
+    → TextCall (iso_text rows (julian x y)) l r out → TextCall (iso_text rows (julian x' y')) l' r' out' → Alike l r out l' r' out'
+divisions_alike = divisions_alike_by standard_form

@@ -7,33 +7,33 @@ use lib.Dec.{lit<}
 use lib.Ieee.{Float, of_bits, lt, eq}
 use Rattle.floats.specs.Whole.{abs, nought, half, one}
 use Rattle.rounding.specs.Value.{Val}
-use Rattle.time_of_day.specs.Milliseconds.{wholeLeap}
-use Rattle.time_of_day.specs.ExactTime.{minus-one-f, leap1959, Leap, little, second, first, minus-second, DayLength}
+use Rattle.time_of_day.specs.Milliseconds.{whole_leap}
+use Rattle.time_of_day.specs.ExactTime.{minus_one_f, leap1959, Leap, little, second, first, minus_second, DayLength}
 
 zero_val : Val nought 0 0 1
 unfolding of_bits
 zero_val = record { sign = false; size = 0; has = (refl, refl); is = refl }
 
-pub of-86400 : (x : Float) → lt half (abs x) ≡ false → DayLength x 86400 1
-unfolding wholeLeap
-of-86400 x e = record { p = 0; n = 0; leap-is = subst (λ (z : Float). Val z 0 0 1) (sym (ap (λ (b : Bool). cond b x nought) e)) zero_val; is = refl }
+pub of_86400 : (x : Float) → lt half (abs x) ≡ false → DayLength x 86400 1
+unfolding whole_leap
+of_86400 x e = record { p = 0; n = 0; leap_is = subst (λ (z : Float). Val z 0 0 1) (sym (ap (λ (b : Bool). cond b x nought) e)) zero_val; is = refl }
 
-pub of-86401 : DayLength one 86401 1
-unfolding wholeLeap of_bits lt eq abs
-of-86401 = record { p = 1; n = 0; leap-is = record { sign = false; size = 1; has = (refl, refl); is = refl }; is = refl }
+pub of_86401 : DayLength one 86401 1
+unfolding whole_leap of_bits lt eq abs
+of_86401 = record { p = 1; n = 0; leap_is = record { sign = false; size = 1; has = (refl, refl); is = refl }; is = refl }
 
 -- 0.9434819999999999 is 2124532591815385 / 2 ^ 51
-pub of-1959 : DayLength leap1959 (86400 * 2 ^ 51 + 2124532591815385) (2 ^ 51)
-unfolding wholeLeap of_bits lt eq abs
-of-1959 = record { p = 2124532591815385; n = 0; leap-is = record { sign = false; size = 2124532591815385; has = (refl, refl); is = refl }; is = refl }
+pub of_1959 : DayLength leap1959 (86400 * 2 ^ 51 + 2124532591815385) (2 ^ 51)
+unfolding whole_leap of_bits lt eq abs
+of_1959 = record { p = 2124532591815385; n = 0; leap_is = record { sign = false; size = 2124532591815385; has = (refl, refl); is = refl }; is = refl }
 
-of-86399 : DayLength minus-one-f 86399 1
-unfolding wholeLeap of_bits lt eq abs
-of-86399 = record { p = 0; n = 1; leap-is = record { sign = true; size = 1; has = (refl, refl); is = refl }; is = refl }
+of_86399 : DayLength minus_one_f 86399 1
+unfolding whole_leap of_bits lt eq abs
+of_86399 = record { p = 0; n = 1; leap_is = record { sign = true; size = 1; has = (refl, refl); is = refl }; is = refl }
 
 -- every day has a length
 pub a-length : (x : Float) → Leap x → (W : ℕ) × (E : ℕ) × (0 < E) × DayLength x W E
-a-length x (little e) = (86400, 1, lit< tt, of-86400 x e)
-a-length x second = (86401, 1, lit< tt, of-86401)
-a-length x first = (86400 * 2 ^ 51 + 2124532591815385, 2 ^ 51, lit< tt, of-1959)
-a-length x minus-second = (86399, 1, lit< tt, of-86399)
+a-length x (little e) = (86400, 1, lit< tt, of_86400 x e)
+a-length x second = (86401, 1, lit< tt, of_86401)
+a-length x first = (86400 * 2 ^ 51 + 2124532591815385, 2 ^ 51, lit< tt, of_1959)
+a-length x minus_second = (86399, 1, lit< tt, of_86399)

@@ -13,24 +13,24 @@ use mir.Syntax.{w32}
 use mir.Val.{SFits}
 use Rattle.refusals.specs.Outcome.{answer}
 use Rattle.floats.specs.Whole.{nought}
-use Rattle.constants.specs.Constants.{decimal, secondsPerDay, mjdZeroPoint}
+use Rattle.constants.specs.Constants.{decimal, seconds_per_day, mjd_zero_point}
 use Rattle.rounding.specs.Value.{Val, L, Rounds}
 use Rattle.rounding.proofs.Value.{L-pos, rounds-move, add_rounds}
 use Rattle.rounding.proofs.Signed.{signed-dist}
 use Rattle.rounding.proofs.Own.{Rep, val-rep, val-small}
 use Rattle.rounding.proofs.Sterbenz.{rounds-rep}
-use Rattle.rounding.proofs.Casts.{plusZ, minusZ}
-use Rattle.calendar.specs.DayCount.{mjdNumber, mjdOf}
+use Rattle.rounding.proofs.Casts.{plus_z, minus_z}
+use Rattle.calendar.specs.DayCount.{mjd_number, mjd_of}
 use Rattle.calendar.proofs.Mjd.{mjd-valid, mjd-given, same_answer}
-use Rattle.julian.specs.day_number.MinusZero.{minusZero}
-use Rattle.julian.proofs.day_number.MinusZero.{add-unsigned}
+use Rattle.julian.specs.day_number.MinusZero.{minus_zero}
+use Rattle.julian.proofs.day_number.MinusZero.{add_unsigned}
 use Rattle.julian.specs.declared.JulianDate.{JulianDate}
 use Rattle.julian.specs.JulianDate.{julian}
-use Rattle.julian.specs.DayFraction.{timeInDay}
+use Rattle.julian.specs.DayFraction.{time_in_day}
 use Rattle.julian.proofs.Midnights.{mjd-in-42-bits, midnight-sum}
 use Rattle.leap_table.specs.rows.Table.{Row}
-use Rattle.leap_table.specs.offsets.Leap.{leapAtEndOfDay}
-use Rattle.utc.specs.FromCalendar.{utcFromCalendar}
+use Rattle.leap_table.specs.offsets.Leap.{leap_at_end_of_day}
+use Rattle.utc.specs.FromCalendar.{utc_from_calendar}
 use Rattle.utc.proofs.laws.FromCalendars.{time-given}
 
 -- ---- 0.0 and a float
@@ -49,34 +49,34 @@ quotient-kept {f} {p} {n} t v =
     same : (p n : ℕ) → 0 + p + n ≡ p + (0 + n)
     same p n = omega arith
 
-not-minus-zero : (f : Float) → T (fits binary64 f) → minusZero (add binary64 nought f) ≡ false
-unfolding minusZero fits
-not-minus-zero f t = (add-unsigned f t (record { fit = tt; sign = refl })).sign
+not_minus_zero : (f : Float) → T (fits binary64 f) → minus_zero (add binary64 nought f) ≡ false
+unfolding minus_zero fits
+not_minus_zero f t = (add_unsigned f t (record { fit = tt; sign = refl })).sign
 
 -- ---- the parts
 abbrev quotient : ℕ → ℕ → Float → Float → Float
 quotient hour minute second leap =
-    div binary64 (add binary64 (mul binary64 (decimal 60 0) (of_int binary64 (pos (60 * hour + minute)))) second) (add binary64 secondsPerDay leap)
+    div binary64 (add binary64 (mul binary64 (decimal 60 0) (of_int binary64 (pos (60 * hour + minute)))) second) (add binary64 seconds_per_day leap)
 
 -- j is midnight of Modified Julian Date n, exactly, and the part q of its day
 pub record MidnightAnd (n : ℤ) (q : Float) (j : JulianDate) : Type 0 where
-  pub first : Val j.jd1 (4800001 + plusZ n * 2) (minusZ n * 2) 2
+  pub first : Val j.jd1 (4800001 + plus_z n * 2) (minus_z n * 2) 2
   pub second : (p m : ℕ) → Val q p m L → Val j.jd2 p m L
-  pub not-minus : minusZero j.jd2 ≡ false
+  pub not_minus : minus_zero j.jd2 ≡ false
 
 -- THE MEANING of UTC from the calendar: midnight of the date, and the seconds of the day over its length, 86,400 s plus leap, rounded once
-pub meaning : (rows : List Row) (y : ℤ) (m d hour minute : ℕ) (second : Float) (n : ℤ) (leap : Float) → SFits w32 y → mjdOf y (pos m) (pos d) ≡ answer n
-    → leapAtEndOfDay rows y (pos m) (pos d) ≡ answer leap
-    → timeInDay hour minute second leap ≡ true → (j : JulianDate) × (utcFromCalendar rows y m d hour minute second ≡ answer j)
+pub meaning : (rows : List Row) (y : ℤ) (m d hour minute : ℕ) (second : Float) (n : ℤ) (leap : Float) → SFits w32 y → mjd_of y (pos m) (pos d) ≡ answer n
+    → leap_at_end_of_day rows y (pos m) (pos d) ≡ answer leap
+    → time_in_day hour minute second leap ≡ true → (j : JulianDate) × (utc_from_calendar rows y m d hour minute second ≡ answer j)
     × MidnightAnd n (quotient hour minute second leap) j
 meaning rows y m d hour minute second n leap f e l h =
     let v = mjd-valid y (pos m) (pos d) n e in
     let q = quotient hour minute second leap in
-    let is : mjdNumber y (pos m) (pos d) ≡ n = same_answer (sym (mjd-given y (pos m) (pos d) v) ∙ e) in
+    let is : mjd_number y (pos m) (pos d) ≡ n = same_answer (sym (mjd-given y (pos m) (pos d) v) ∙ e) in
     let t = div-fits binary64 (add binary64 (mul binary64 (decimal 60 0) (of_int binary64 (pos (60 * hour + minute)))) second)
-    (add binary64 secondsPerDay leap) in (
-      julian (add binary64 mjdZeroPoint (of_int binary64 n)) (add binary64 nought q),
+    (add binary64 seconds_per_day leap) in (
+      julian (add binary64 mjd_zero_point (of_int binary64 n)) (add binary64 nought q),
       time-given rows y m d hour minute second v leap l h
-          ∙ ap (λ (k : ℤ). answer (julian (add binary64 mjdZeroPoint (of_int binary64 k)) (add binary64 nought q))) is,
-      record { first = midnight-sum n (mjd-in-42-bits y (pos m) (pos d) n f e); second = λ p m. quotient-kept t; not-minus = not-minus-zero q t },
+          ∙ ap (λ (k : ℤ). answer (julian (add binary64 mjd_zero_point (of_int binary64 k)) (add binary64 nought q))) is,
+      record { first = midnight-sum n (mjd-in-42-bits y (pos m) (pos d) n f e); second = λ p m. quotient-kept t; not_minus = not_minus_zero q t },
     )

@@ -11,15 +11,15 @@ use mir.Syntax.{w32, w64}
 use mir.Val.{to_z, of_z}
 use mir.Facts.{to_z-of_z}
 use Rattle.refusals.specs.Outcome.{answer}
-use Rattle.constants.specs.Constants.{unixEpochJd}
+use Rattle.constants.specs.Constants.{unix_epoch_jd}
 use Rattle.constants.proofs.Bits.{unix-epoch-jd}
-use Rattle.julian.specs.Calendar.{calendarOutcome, julianToCalendar}
-use Rattle.scales.specs.Scales.{utcOutcome}
+use Rattle.julian.specs.Calendar.{calendar_outcome, julian_to_calendar}
+use Rattle.scales.specs.Scales.{utc_outcome}
 use Rattle.leap_table.specs.rows.Table.{Row}
-use Rattle.leap_table.specs.rows.Announced.{rowsIn}
-use Rattle.utc.specs.UnixTime.{unixDay, secondOfUnixDay}
+use Rattle.leap_table.specs.rows.Announced.{rows_in}
+use Rattle.utc.specs.UnixTime.{unix_day, second_of_unix_day}
 use Rattle.julian.proofs.Dates.{date-in-range}
-use Rattle.utc.proofs.UnixDays.{day-fits, day-in-float}
+use Rattle.utc.proofs.UnixDays.{day_fits, day-in-float}
 use Rattle.utc.proofs.UnixTimes.{nanos-refused, day-refused, day-given}
 use mathlib.Core.List.{List}
 use borrow.Author.Rules.{rules}
@@ -28,28 +28,28 @@ use Rattle.utc.proofs.new_by_arrays.Tie as tie
 
 -- the rows that are read
 abbrev rows : tie.Start → List Row
-rows s = rowsIn s.args.size s.args.months.now s.args.seconds.now
+rows s = rows_in s.args.size s.args.months.now s.args.seconds.now
 
 -- the nanoseconds are those of a second
 few : (e : tie.Else1) → ltb e.before.args.nanos 1000000000 ≡ true
 few e = let h : e.before.args.nanos < 1000000000 = omega arith in lt-ltb e.before.args.nanos 1000000000 h
 
-read-day : (u : tie.After-unix-day) → to_z w64 (of_z w64 u.unix-day.result) ≡ unixDay u.before.before.args.unix
+read-day : (u : tie.After-unix-day) → to_z w64 (of_z w64 u.unix-day.result) ≡ unix_day u.before.before.args.unix
 read-day u =
     let s = u.before.before in
-    ap (λ (x : ℤ). to_z w64 (of_z w64 x)) (u.unix-day.ensures ∙ ap unixDay (to_z-of_z s.ranges.unix)) ∙ to_z-of_z (day-fits s.args.unix s.ranges.unix)
+    ap (λ (x : ℤ). to_z w64 (of_z w64 x)) (u.unix-day.ensures ∙ ap unix_day (to_z-of_z s.ranges.unix)) ∙ to_z-of_z (day_fits s.args.unix s.ranges.unix)
 
 called : (v : tie.After-julian-to-calendar)
-    → calendarOutcome v.julian-to-calendar.result ≡ julianToCalendar unixEpochJd (of_int binary64 (unixDay v.before.before.before.before.args.unix))
-called v = v.julian-to-calendar.ensures ∙ (λ i. julianToCalendar (unix-epoch-jd i) (of_int binary64 (read-day v.before.before i)))
+    → calendar_outcome v.julian-to-calendar.result ≡ julian_to_calendar unix_epoch_jd (of_int binary64 (unix_day v.before.before.before.before.args.unix))
+called v = v.julian-to-calendar.ensures ∙ (λ i. julian_to_calendar (unix-epoch-jd i) (of_int binary64 (read-day v.before.before i)))
 
 answered : (k : tie.After-fields)
-    → julianToCalendar unixEpochJd (of_int binary64 (unixDay k.before.before.before.before.before.before.args.unix)) ≡ answer k.fields.given.0.0
-unfolding calendarOutcome
-answered k = sym (called k.before.before) ∙ ap calendarOutcome k.fields.given.1
+    → julian_to_calendar unix_epoch_jd (of_int binary64 (unix_day k.before.before.before.before.before.before.args.unix)) ≡ answer k.fields.given.0.0
+unfolding calendar_outcome
+answered k = sym (called k.before.before) ∙ ap calendar_outcome k.fields.given.1
 
 returns : tie.Need-returns
-unfolding utcOutcome
+unfolding utc_outcome
 returns c =
     let s = c.before in
     let h : 1000000000 ≤ s.args.nanos = omega arith in
@@ -71,12 +71,12 @@ cast-utc-from-calendar-by-arrays-2 c =
     record { fits = omega (arith, (date-in-range _ _ k.fields.given.0.0 (answered k)).day-high) }
 
 returns-2 : tie.Need-returns-2
-unfolding utcOutcome calendarOutcome
+unfolding utc_outcome calendar_outcome
 returns-2 c =
     let v = c.before.before.before in
     let s = v.before.before.before.before in
     sym (day-refused (rows c.before.before.before.before.before.before.before) s.args.unix s.args.nanos (few v.before.before.before) _
-    (sym (called v) ∙ ap calendarOutcome c.before.number.given.1))
+    (sym (called v) ∙ ap calendar_outcome c.before.number.given.1))
 
 returns-3 : tie.Need-returns-3
 returns-3 c =
@@ -90,7 +90,7 @@ returns-3 c =
     ∙ day-given (rows s) s.args.unix
     s.args.nanos (few v.before.before.before) f (answered k) _ d.second-of-unix-day.result n.second-with-nanos.result
     (to_z-of_z {w = w32} {z = f.date.year} (record { sfits = c.before.struct_told.given.0.1 }))
-    (d.second-of-unix-day.ensures.0 ∙ ap secondOfUnixDay (to_z-of_z s.ranges.unix)) n.second-with-nanos.ensures
+    (d.second-of-unix-day.ensures.0 ∙ ap second_of_unix_day (to_z-of_z s.ranges.unix)) n.second-with-nanos.ensures
 
 pub new-by-arrays-spec : {M : Type 1} → statement M
 new-by-arrays-spec =

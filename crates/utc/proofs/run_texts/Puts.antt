@@ -12,39 +12,39 @@ use borrow.Rule.Slice.PartMut.{mid_of, post_of, put_mid}
 use borrow.Author.Tests.{le-leb}
 use Rattle.refusals.specs.Outcome.{Outcome, answer, refusal, onward}
 use Rattle.julian.specs.declared.JulianDate.{JulianDate}
-use Rattle.julian.specs.stamp_lists.Stamps.{stampOf}
+use Rattle.julian.specs.stamp_lists.Stamps.{stamp_of}
 use Rattle.leap_table.specs.declared.offsets.Rule.{Rule}
 use Rattle.leap_table.specs.rows.Table.{Row}
-use Rattle.leap_table.specs.offsets.Rule.{withRule, forget}
-use Rattle.utc.specs.text.Answer.{textWritten, bufferAfter}
+use Rattle.leap_table.specs.offsets.Rule.{with_rule, forget}
+use Rattle.utc.specs.text.Answer.{text_written, buffer_after}
 use Rattle.utc.specs.declared.iso_texts.TextByRule.{TextByRule}
 use Rattle.utc.specs.declared.iso_texts.TextByRule.TheVariants.{Written, Refused}
 use Rattle.utc.specs.declared.iso_texts.NamedForm.{NamedForm}
-use Rattle.utc.specs.iso_texts.IsoText.{isoTextBy}
-use Rattle.utc.specs.iso_texts.TextCall.{bufferHolds}
-use Rattle.utc.specs.iso_texts.ByRule.{textByRule, textByRuleOutcome, writtenByRule, TextRuleCall}
-use Rattle.utc.specs.iso_texts.Named.{formNamed}
+use Rattle.utc.specs.iso_texts.IsoText.{iso_text_by}
+use Rattle.utc.specs.iso_texts.TextCall.{buffer_holds}
+use Rattle.utc.specs.iso_texts.ByRule.{text_by_rule, text_by_rule_outcome, written_by_rule, TextRuleCall}
+use Rattle.utc.specs.iso_texts.Named.{form_named}
 use Rattle.utc.specs.declared.run_texts.Beside.{Beside}
-use Rattle.utc.specs.run_texts.RunTexts.{stampText, lengthByte, refusalByte, withText, withTexts, withBytes, textsRefused}
+use Rattle.utc.specs.run_texts.RunTexts.{stamp_text, length_byte, refusal_byte, with_text, with_texts, with_bytes, texts_refused}
 use Rattle.utc.specs.run_texts.Asked.{TextBeside, TextPlaced, TextsPlaced}
 use Rattle.utc.proofs.iso_texts.TextRules.{text-forgets}
 use Rattle.utc.proofs.laws.NamedTexts.{named-text-few}
 
 -- ---- lengths
-pub text-kept : (o : Outcome (List ℕ)) (i : ℕ) (l : List ℕ) → length (withText o i l) ≡ length l
-unfolding withText
+pub text-kept : (o : Outcome (List ℕ)) (i : ℕ) (l : List ℕ) → length (with_text o i l) ≡ length l
+unfolding with_text
 text-kept (answer t) i l = length-sets l (27 * i) t
 text-kept (refusal k) i l = refl
 
-pub texts-kept : (f : ℕ → Outcome (List ℕ)) (n : ℕ) (l : List ℕ) → length (withTexts f n l) ≡ length l
-unfolding withTexts
+pub texts-kept : (f : ℕ → Outcome (List ℕ)) (n : ℕ) (l : List ℕ) → length (with_texts f n l) ≡ length l
+unfolding with_texts
 texts-kept f zero l = refl
-texts-kept f (suc n) l = text-kept (f n) n (withTexts f n l) ∙ texts-kept f n l
+texts-kept f (suc n) l = text-kept (f n) n (with_texts f n l) ∙ texts-kept f n l
 
-pub bytes-kept : (byte : Outcome (List ℕ) → ℕ) (f : ℕ → Outcome (List ℕ)) (n : ℕ) (l : List ℕ) → length (withBytes byte f n l) ≡ length l
-unfolding withBytes
+pub bytes-kept : (byte : Outcome (List ℕ) → ℕ) (f : ℕ → Outcome (List ℕ)) (n : ℕ) (l : List ℕ) → length (with_bytes byte f n l) ≡ length l
+unfolding with_bytes
 bytes-kept byte f zero l = refl
-bytes-kept byte f (suc n) l = length-set (withBytes byte f n l) n (byte (f n)) ∙ bytes-kept byte f n l
+bytes-kept byte f (suc n) l = length-set (with_bytes byte f n l) n (byte (f n)) ∙ bytes-kept byte f n l
 
 -- ---- a text in a part of 27 bytes from `at` on
 module _ (l t : List ℕ) (at : ℕ) (h : at + 27 ≤ length l) (few : length t ≤ 27) where
@@ -56,9 +56,9 @@ module _ (l t : List ℕ) (at : ℕ) (h : at + 27 ≤ length l) (few : length t 
       sym (drop-append-le (length t) (mid_of at 27 l) (post_of at 27 l) (omega (arith, part_length)))
       ∙ ap (drop (length t)) (take-append-drop 27 (drop at l)) ∙ drop-drop (length t) at l
 
-  pub text_in-part : put_mid at 27 l (bufferAfter t (mid_of at 27 l)) ≡ sets l at t
-  unfolding bufferAfter
-  text_in-part =
+  pub text_in_part : put_mid at 27 l (buffer_after t (mid_of at 27 l)) ≡ sets l at t
+  unfolding buffer_after
+  text_in_part =
       simp (le-leb (length t) (length (mid_of at 27 l)) (omega (arith, part_length)))
       (ap (λ (x : List ℕ). take at l ++ x) (append_assoc t (drop (length t) (mid_of at 27 l)) (post_of at 27 l))
       ∙ ap (λ (x : List ℕ). take at l ++ (t ++ x)) rest
@@ -77,22 +77,22 @@ pub part_room : (l : List ℕ) (at k : ℕ) → k ≡ 27 → at + 27 ≤ length 
 part_room l at k ek h = subst (λ (x : ℕ). 27 ≤ length (mid_of at x l)) (sym ek) (omega (arith, length-take-le 27 (drop at l) (omega (arith, length-drop at l))))
 
 -- ---- one stamp: what stands beside its text, by what the text call answers
-unfoldable pub besideOf : TextByRule → Beside
-besideOf (Written n rule) = record { length = n % 256; number = 0 }
-besideOf (Refused k) = record { length = 0; number = k % 256 }
+unfoldable pub beside_of : TextByRule → Beside
+beside_of (Written n rule) = record { length = n % 256; number = 0 }
+beside_of (Refused k) = record { length = 0; number = k % 256 }
 
-beside-refused : (r : TextByRule) (k : ℕ) → textByRuleOutcome r ≡ refusal k → besideOf r ≡ record { length = 0; number = k % 256 }
-unfolding besideOf textByRuleOutcome
+beside-refused : (r : TextByRule) (k : ℕ) → text_by_rule_outcome r ≡ refusal k → beside_of r ≡ record { length = 0; number = k % 256 }
+unfolding beside_of text_by_rule_outcome
 beside-refused (Written n rule) k e = let z : ◌≡◌ {A = ℕ} 0 1 = cc e in let w : ⊥ = omega arith in absurd w
-beside-refused (Refused j) k e = let z : j ≡ k = cc e in ap (λ (x : ℕ). besideOf (Refused x)) z
+beside-refused (Refused j) k e = let z : j ≡ k = cc e in ap (λ (x : ℕ). beside_of (Refused x)) z
 
 -- the bytes that are said to be written
 abbrev written_count : Outcome (ℕ × Rule) → ℕ
 written_count (answer p) = p.0
 written_count (refusal k) = 0
 
-beside-written : (r : TextByRule) (n : ℕ) (rule : Rule) → n ≤ 27 → textByRuleOutcome r ≡ answer (n, rule) → besideOf r ≡ record { length = n; number = 0 }
-unfolding besideOf textByRuleOutcome
+beside-written : (r : TextByRule) (n : ℕ) (rule : Rule) → n ≤ 27 → text_by_rule_outcome r ≡ answer (n, rule) → beside_of r ≡ record { length = n; number = 0 }
+unfolding beside_of text_by_rule_outcome
 beside-written (Refused j) n rule h e = let z : ◌≡◌ {A = ℕ} 0 1 = cc e in let w : ⊥ = omega arith in absurd w
 beside-written (Written m rule') n rule h e =
     let z : m ≡ n = ap written_count e in
@@ -101,36 +101,36 @@ beside-written (Written m rule') n rule h e =
 
 -- the call writes into a buffer of 27 bytes or more; o is the text with the rule of its day
 pub text-beside : (l : List ℕ) → 27 ≤ length l → (o : Outcome (List ℕ × Rule)) (r : TextByRule) (out : List ℕ)
-    → ((t : List ℕ) → forget o ≡ answer t → length t ≤ 27) → TextRuleCall o l r out → TextBeside (forget o) l (besideOf r) out
-unfolding writtenByRule withRule textWritten forget onward lengthByte refusalByte
+    → ((t : List ℕ) → forget o ≡ answer t → length t ≤ 27) → TextRuleCall o l r out → TextBeside (forget o) l (beside_of r) out
+unfolding written_by_rule with_rule text_written forget onward length_byte refusal_byte
 text-beside l h (refusal k) r out few p =
     let e = beside-refused r k p.says in
     record { length = ap (λ (b : Beside). b.length) e; number = ap (λ (b : Beside). b.number) e; holds = p.holds }
 text-beside l h (answer u) r out few p =
     let most : length u.0 ≤ 27 = few u.0 refl in
     let room : length u.0 ≤ length l = omega arith in
-    let says : textByRuleOutcome r ≡ answer (length u.0, u.1) = p.says ∙ rw (le-leb (length u.0) (length l) room) in
+    let says : text_by_rule_outcome r ≡ answer (length u.0, u.1) = p.says ∙ rw (le-leb (length u.0) (length l) room) in
     let e = beside-written r (length u.0) u.1 most says in
     record { length = ap (λ (b : Beside). b.length) e; number = ap (λ (b : Beside). b.number) e; holds = p.holds }
 
 -- in the part of stamp i
 pub beside_placed : (l : List ℕ) (i : ℕ) → 27 * i + 27 ≤ length l → (o : Outcome (List ℕ)) (b : Beside) (out : List ℕ)
     → ((t : List ℕ) → o ≡ answer t → length t ≤ 27) → TextBeside o (mid_of (27 * i) 27 l) b out → TextPlaced o i l b (put_mid (27 * i) 27 l out)
-unfolding bufferHolds withText
+unfolding buffer_holds with_text
 beside_placed l i h (refusal k) b out few p =
     record { length = p.length; number = p.number; text = ap (put_mid (27 * i) 27 l) p.holds ∙ part-as-it-was l (27 * i) }
 beside_placed l i h (answer t) b out few p =
-    record { length = p.length; number = p.number; text = ap (put_mid (27 * i) 27 l) p.holds ∙ text_in-part l t (27 * i) h (few t refl) }
+    record { length = p.length; number = p.number; text = ap (put_mid (27 * i) 27 l) p.holds ∙ text_in_part l t (27 * i) h (few t refl) }
 
 -- ---- a run
 one_at_most : (b : Bool) → cond b 0 1 ≤ 1
 one_at_most true = omega arith
 one_at_most false = omega arith
 
-pub at_most : (f : ℕ → Outcome (List ℕ)) (n : ℕ) → textsRefused f n ≤ n
-unfolding textsRefused
+pub at_most : (f : ℕ → Outcome (List ℕ)) (n : ℕ) → texts_refused f n ≤ n
+unfolding texts_refused
 at_most f zero = omega arith
-at_most f (suc n) = omega (arith, at_most f n, one_at_most (eqb (refusalByte (f n)) 0))
+at_most f (suc n) = omega (arith, at_most f n, one_at_most (eqb (refusal_byte (f n)) 0))
 
 -- i stamps of n are put
 pub record Putting (f : ℕ → Outcome (List ℕ)) (n : ℕ) (texts₀ lengths₀ numbers₀ texts lengths numbers : List ℕ) (refused i : ℕ) : Type 0 where
@@ -138,68 +138,68 @@ pub record Putting (f : ℕ → Outcome (List ℕ)) (n : ℕ) (texts₀ lengths�
   pub put : TextsPlaced f i texts₀ lengths₀ numbers₀ refused texts lengths numbers
 
 module _ (f : ℕ → Outcome (List ℕ)) (n : ℕ) (texts₀ lengths₀ numbers₀ : List ℕ) where
-  pub putting-starts : Putting f n texts₀ lengths₀ numbers₀ texts₀ lengths₀ numbers₀ 0 0
-  unfolding withTexts withBytes textsRefused
-  putting-starts = record { high = omega arith; put = record { count = refl; first = refl; second = refl; third = refl } }
+  pub putting_starts : Putting f n texts₀ lengths₀ numbers₀ texts₀ lengths₀ numbers₀ 0 0
+  unfolding with_texts with_bytes texts_refused
+  putting_starts = record { high = omega arith; put = record { count = refl; first = refl; second = refl; third = refl } }
 
   module _ (texts lengths numbers : List ℕ) (refused i : ℕ) (p : Putting f n texts₀ lengths₀ numbers₀ texts lengths numbers refused i) where
     pub len1 : length texts ≡ length texts₀
     len1 = ap length p.put.first ∙ texts-kept f i texts₀
 
     pub len2 : length lengths ≡ length lengths₀
-    len2 = ap length p.put.second ∙ bytes-kept lengthByte f i lengths₀
+    len2 = ap length p.put.second ∙ bytes-kept length_byte f i lengths₀
 
     pub len3 : length numbers ≡ length numbers₀
-    len3 = ap length p.put.third ∙ bytes-kept refusalByte f i numbers₀
+    len3 = ap length p.put.third ∙ bytes-kept refusal_byte f i numbers₀
 
     pub few : refused ≤ i
     few = omega (arith, p.put.count, at_most f i)
 
-    pub putting-goes : (texts' : List ℕ) (r : Beside) (one : ℕ) → i < n → TextPlaced (f i) i texts r texts' → one ≡ cond (eqb r.number 0) 0 1
+    pub putting_goes : (texts' : List ℕ) (r : Beside) (one : ℕ) → i < n → TextPlaced (f i) i texts r texts' → one ≡ cond (eqb r.number 0) 0 1
         → Putting f n texts₀ lengths₀ numbers₀ texts' (set lengths i r.length) (set numbers i r.number) (refused + one) (i + 1)
-    unfolding withTexts withBytes textsRefused
-    putting-goes texts' r one h s e =
+    unfolding with_texts with_bytes texts_refused
+    putting_goes texts' r one h s e =
         subst (λ (j : ℕ). Putting f n texts₀ lengths₀ numbers₀ texts' (set lengths i r.length) (set numbers i r.number) (refused + one) j)
         (sym (add-one i))
         (record {
           high = omega arith;
           put = record {
             count = (λ k. p.put.count k + (e ∙ ap (λ (x : ℕ). cond (eqb x 0) 0 1) s.number) k);
-            first = s.text ∙ ap (withText (f i) i) p.put.first;
+            first = s.text ∙ ap (with_text (f i) i) p.put.first;
             second = (λ k. set (p.put.second k) i (s.length k));
             third = (λ k. set (p.put.third k) i (s.number k));
           };
         })
 
-    pub putting-ends : n ≤ i → TextsPlaced f n texts₀ lengths₀ numbers₀ refused texts lengths numbers
-    putting-ends h =
+    pub putting_ends : n ≤ i → TextsPlaced f n texts₀ lengths₀ numbers₀ refused texts lengths numbers
+    putting_ends h =
         let e : i ≡ n = omega (arith, p.high) in
         subst (λ (j : ℕ). TextsPlaced f j texts₀ lengths₀ numbers₀ refused texts lengths numbers) e p.put
 
 -- ---- a date by the text call of its form
 pub date-beside : (textForm : NamedForm) (rows : List Row) (d : JulianDate) (l : List ℕ) (r : TextByRule) (out : List ℕ) (b : Beside) → 27 ≤ length l
-    → b ≡ besideOf r → TextRuleCall (textByRule (formNamed textForm) rows d) l r out → TextBeside (isoTextBy (formNamed textForm) rows d) l b out
+    → b ≡ beside_of r → TextRuleCall (text_by_rule (form_named textForm) rows d) l r out → TextBeside (iso_text_by (form_named textForm) rows d) l b out
 date-beside textForm rows d l r out b h e p =
-    let f = text-forgets (formNamed textForm) rows d in
-    subst (λ (x : Beside). TextBeside (isoTextBy (formNamed textForm) rows d) l x out) (sym e)
-    (subst (λ (x : Outcome (List ℕ)). TextBeside x l (besideOf r) out) f
-    (text-beside l h (textByRule (formNamed textForm) rows d) r out (λ t g. named-text-few textForm rows d t (sym f ∙ g)) p))
+    let f = text-forgets (form_named textForm) rows d in
+    subst (λ (x : Beside). TextBeside (iso_text_by (form_named textForm) rows d) l x out) (sym e)
+    (subst (λ (x : Outcome (List ℕ)). TextBeside x l (beside_of r) out) f
+    (text-beside l h (text_by_rule (form_named textForm) rows d) r out (λ t g. named-text-few textForm rows d t (sym f ∙ g)) p))
 
 -- ---- the stamp at place i: d is its date, k the bytes of its part
 pub stamp-placed : (textForm : NamedForm) (rows : List Row) (js ks l : List ℕ) (i k : ℕ) (d : JulianDate) (b : Beside) (out : List ℕ)
-    → k ≡ 27 → d ≡ stampOf js ks i → 27 * i + 27 ≤ length l → TextBeside (isoTextBy (formNamed textForm) rows d) (mid_of (27 * i) k l) b out
-    → TextPlaced (stampText (formNamed textForm) rows js ks i) i l b (put_mid (27 * i) k l out)
+    → k ≡ 27 → d ≡ stamp_of js ks i → 27 * i + 27 ≤ length l → TextBeside (iso_text_by (form_named textForm) rows d) (mid_of (27 * i) k l) b out
+    → TextPlaced (stamp_text (form_named textForm) rows js ks i) i l b (put_mid (27 * i) k l out)
 stamp-placed textForm rows js ks l i k d b out ek ed h p =
-    subst (λ (x : ℕ). TextPlaced (stampText (formNamed textForm) rows js ks i) i l b (put_mid (27 * i) x l out)) (sym ek)
-    (subst (λ (x : JulianDate). TextPlaced (isoTextBy (formNamed textForm) rows x) i l b (put_mid (27 * i) 27 l out)) ed
-    (beside_placed l i h (isoTextBy (formNamed textForm) rows d) b out (λ t e. named-text-few textForm rows d t e)
-    (subst (λ (x : ℕ). TextBeside (isoTextBy (formNamed textForm) rows d) (mid_of (27 * i) x l) b out) ek p)))
+    subst (λ (x : ℕ). TextPlaced (stamp_text (form_named textForm) rows js ks i) i l b (put_mid (27 * i) x l out)) (sym ek)
+    (subst (λ (x : JulianDate). TextPlaced (iso_text_by (form_named textForm) rows x) i l b (put_mid (27 * i) 27 l out)) ed
+    (beside_placed l i h (iso_text_by (form_named textForm) rows d) b out (λ t e. named-text-few textForm rows d t e)
+    (subst (λ (x : ℕ). TextBeside (iso_text_by (form_named textForm) rows d) (mid_of (27 * i) x l) b out) ek p)))
 
 -- the same after a part that was lent and came back as it was
 pub stamp-placed-again : (textForm : NamedForm) (rows : List Row) (js ks l l' : List ℕ) (i k : ℕ) (d : JulianDate) (b : Beside) (out : List ℕ)
-    → k ≡ 27 → d ≡ stampOf js ks i → 27 * i + 27 ≤ length l → l' ≡ l → TextBeside (isoTextBy (formNamed textForm) rows d) (mid_of (27 * i) k l') b out
-    → TextPlaced (stampText (formNamed textForm) rows js ks i) i l b (put_mid (27 * i) k l' out)
+    → k ≡ 27 → d ≡ stamp_of js ks i → 27 * i + 27 ≤ length l → l' ≡ l → TextBeside (iso_text_by (form_named textForm) rows d) (mid_of (27 * i) k l') b out
+    → TextPlaced (stamp_text (form_named textForm) rows js ks i) i l b (put_mid (27 * i) k l' out)
 stamp-placed-again textForm rows js ks l l' i k d b out ek ed h e p =
-    subst (λ (x : List ℕ). TextPlaced (stampText (formNamed textForm) rows js ks i) i l b (put_mid (27 * i) k x out)) (sym e)
+    subst (λ (x : List ℕ). TextPlaced (stamp_text (form_named textForm) rows js ks i) i l b (put_mid (27 * i) k x out)) (sym e)
     (stamp-placed textForm rows js ks l i k d b out ek ed h
-    (subst (λ (x : List ℕ). TextBeside (isoTextBy (formNamed textForm) rows d) (mid_of (27 * i) k x) b out) e p))
+    (subst (λ (x : List ℕ). TextBeside (iso_text_by (form_named textForm) rows d) (mid_of (27 * i) k x) b out) e p))

@@ -8,27 +8,27 @@ use mir.Syntax.{w64}
 use mir.Val.{SFits, to_z, of_z}
 use mir.Facts.{to_z-of_z}
 use Rattle.calendar.proofs.Signs.{cast_fits}
-use Rattle.utc.specs.UnixTime.{secondOfUnixDay}
+use Rattle.utc.specs.UnixTime.{second_of_unix_day}
 use Rattle.utc.proofs.UnixDays.{divides, read_left, seconds-most, from-midnight-before, from-midnight}
 use Rattle.utc.proofs.second_of_unix_day.Statement.{statement}
 use Rattle.utc.proofs.second_of_unix_day.Tie as tie
 
 sum_is : (c : tie.Then1) → to_z w64 (of_z w64 (rem_z (to_z w64 (of_z w64 c.before.args.seconds)) (pos 86400))) +ℤ pos 86400 ≡ pos
-    (secondOfUnixDay c.before.args.seconds)
+    (second_of_unix_day c.before.args.seconds)
 sum_is c =
     let s = c.before in
     let e = read_left s.args.seconds s.ranges.seconds in
     ap (λ (x : ℤ). x +ℤ pos 86400) e ∙ from-midnight-before s.args.seconds (ap (λ (x : ℤ). lt_z x (pos 0)) (sym e) ∙ c.if1.true)
 
 read-sum : (c : tie.Then1) → to_z w64 (of_z w64 (to_z w64 (of_z w64 (rem_z (to_z w64 (of_z w64 c.before.args.seconds)) (pos 86400))) +ℤ pos 86400)) ≡ pos
-    (secondOfUnixDay c.before.args.seconds)
+    (second_of_unix_day c.before.args.seconds)
 read-sum c =
     let s = c.before in
-    let f : SFits w64 (pos (secondOfUnixDay s.args.seconds)) = record { sfits = omega (arith, seconds-most s.args.seconds) } in
+    let f : SFits w64 (pos (second_of_unix_day s.args.seconds)) = record { sfits = omega (arith, seconds-most s.args.seconds) } in
     ap (λ (x : ℤ). to_z w64 (of_z w64 x)) (sum_is c) ∙ to_z-of_z f
 
 read-rest : (c : tie.Else1) → to_z w64 (of_z w64 (rem_z (to_z w64 (of_z w64 c.before.args.seconds)) (pos 86400))) ≡ pos
-    (secondOfUnixDay c.before.args.seconds)
+    (second_of_unix_day c.before.args.seconds)
 read-rest c =
     let s = c.before in
     let e = read_left s.args.seconds s.ranges.seconds in

@@ -4,13 +4,13 @@ use lib.IntN.{pos}
 use lib.Ieee.{Float, binary64, of_int, add, div}
 use Prim.Native.Nat.{◌%◌}
 use Rattle.constants.proofs.Bits.{nanoseconds-per-second}
-use Rattle.utc.specs.UnixTime.{secondWithNanos}
+use Rattle.utc.specs.UnixTime.{second_with_nanos}
 use borrow.Author.Rules.{rules}
 use Rattle.utc.proofs.second_with_nanos.Statement.{statement}
 use Rattle.utc.proofs.second_with_nanos.Tie as tie
 
 returns : tie.Need-returns
-unfolding secondWithNanos
+unfolding second_with_nanos
 returns c =
     let s = c.before.before in
     ap (λ (x : Float). add binary64 (of_int binary64 (pos (s.args.second % 60))) (div binary64 (of_int binary64 (pos s.args.nanos)) x))

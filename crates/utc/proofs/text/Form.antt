@@ -10,8 +10,8 @@ use lib.Dec.{ltb}
 use borrow.Author.Tests.{ne_eqb}
 use Rattle.calendar.specs.declared.CalendarDate.{CalendarDate}
 use Rattle.time_of_day.specs.declared.TimeOfDay.{TimeOfDay}
-use Rattle.utc.specs.text.Text.{last, two, three, four, five, six, seven, afterYear, yearText, utcText}
-use Rattle.utc.specs.text.ReadBack.{fromEnd}
+use Rattle.utc.specs.text.Text.{last, two, three, four, five, six, seven, after_year, year_text, utc_text}
+use Rattle.utc.specs.text.ReadBack.{from_end}
 use Rattle.utc.specs.text.WellFormed.{AllDigits, Digits, unsigned, RestFormed, WellFormed}
 use Rattle.utc.proofs.text.ReadBack.{part_of, front_of}
 
@@ -59,40 +59,40 @@ unfolding unsigned
 before n true = (omega arith, three-digits n)
 before n false = (omega arith, four-digits n)
 
-year-form : (y : ℤ) → YearForm (yearText y)
-unfolding yearText
+year-form : (y : ℤ) → YearForm (year_text y)
+unfolding year_text
 year-form (pos n) = after n (ltb n 10000) (ltb n 100000) (ltb n 1000000)
 year-form (negsuc n) = before (suc n) (ltb (suc n) 1000)
 
 -- ---- what stands behind the year, whatever the year is
 module _ (y : List ℕ) (d : CalendarDate) (u : TimeOfDay) where
   abbrev t : List ℕ
-  t = afterYear d u
+  t = after_year d u
 
-  pair : (k : ℕ) → k ≤ 19 → (n : ℕ) → take 2 (drop (19 - k) t) ≡ two n → Digits 2 (fromEnd k 2 (y ++ t))
+  pair : (k : ℕ) → k ≤ 19 → (n : ℕ) → take 2 (drop (19 - k) t) ≡ two n → Digits 2 (from_end k 2 (y ++ t))
   pair k h n e = subst (Digits 2) (sym (part_of y t k 2 h refl ∙ e)) (record { many = refl; all = two_digits n })
 
-  pub rest-formed : RestFormed (y ++ afterYear d u)
+  pub rest-formed : RestFormed (y ++ after_year d u)
   rest-formed = record {
     after-year = part_of y t 19 1 (omega arith) refl;
     month = pair 18 (omega arith) d.month refl;
-    after-month = part_of y t 16 1 (omega arith) refl;
+    after_month = part_of y t 16 1 (omega arith) refl;
     day = pair 15 (omega arith) d.day refl;
-    after-day = part_of y t 13 1 (omega arith) refl;
+    after_day = part_of y t 13 1 (omega arith) refl;
     hour = pair 12 (omega arith) u.hour refl;
-    after-hour = part_of y t 10 1 (omega arith) refl;
+    after_hour = part_of y t 10 1 (omega arith) refl;
     minute = pair 9 (omega arith) u.minute refl;
-    after-minute = part_of y t 7 1 (omega arith) refl;
+    after_minute = part_of y t 7 1 (omega arith) refl;
     second = pair 6 (omega arith) u.second refl;
-    after-second = part_of y t 4 1 (omega arith) refl;
+    after_second = part_of y t 4 1 (omega arith) refl;
     milli = subst (Digits 3) (sym (part_of y t 3 3 (omega arith) refl)) (record { many = refl; all = three-digits u.milli });
   }
 
 -- ---- the whole
-pub well-formed : (d : CalendarDate) (u : TimeOfDay) → WellFormed (utcText d u)
-unfolding utcText
-well-formed d u = record {
-  year-length = subst (λ (x : List ℕ). 4 ≤ length x) (sym (front_of (yearText d.year) (afterYear d u) refl)) (year-form d.year).0;
-  year = subst (λ (x : List ℕ). AllDigits (unsigned x)) (sym (front_of (yearText d.year) (afterYear d u) refl)) (year-form d.year).1;
-  rest = rest-formed (yearText d.year) d u;
+pub well_formed : (d : CalendarDate) (u : TimeOfDay) → WellFormed (utc_text d u)
+unfolding utc_text
+well_formed d u = record {
+  year_length = subst (λ (x : List ℕ). 4 ≤ length x) (sym (front_of (year_text d.year) (after_year d u) refl)) (year-form d.year).0;
+  year = subst (λ (x : List ℕ). AllDigits (unsigned x)) (sym (front_of (year_text d.year) (after_year d u) refl)) (year-form d.year).1;
+  rest = rest-formed (year_text d.year) d u;
 }

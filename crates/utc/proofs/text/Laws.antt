@@ -18,75 +18,75 @@ use Rattle.calendar.specs.declared.CalendarDate.{CalendarDate}
 use Rattle.time_of_day.specs.declared.TimeOfDay.{TimeOfDay}
 use Rattle.utc.specs.declared.text.TextAnswer.{TextAnswer}
 use Rattle.utc.specs.declared.text.TextAnswer.TheVariants.{Written, Refused}
-use Rattle.utc.specs.text.Text.{last, three, four, five, six, seven, afterYear, yearText, utcText}
-use Rattle.utc.specs.text.Answer.{textOutcome, textWritten, bufferAfter, TextPut}
-use Rattle.utc.specs.text.Layout.{signed, basicYear, third, fourth, skipped, wide}
+use Rattle.utc.specs.text.Text.{last, three, four, five, six, seven, after_year, year_text, utc_text}
+use Rattle.utc.specs.text.Answer.{text_outcome, text_written, buffer_after, TextPut}
+use Rattle.utc.specs.text.Layout.{signed, basic_year, third, fourth, skipped, wide}
 
 -- ---- the year
-pub year-is : (y : ℤ) → signed (not (non_neg y)) (nat_abs y) ≡ yearText y
-unfolding signed yearText
-year-is (pos n) = refl
-year-is (negsuc n) = refl
+pub year_is : (y : ℤ) → signed (not (non_neg y)) (nat_abs y) ≡ year_text y
+unfolding signed year_text
+year_is (pos n) = refl
+year_is (negsuc n) = refl
 
-pub basic-is : (neg : Bool) (n : ℕ) → basicYear neg n ≡ true → four n ≡ signed neg n
-unfolding basicYear signed
+pub basic-is : (neg : Bool) (n : ℕ) → basic_year neg n ≡ true → four n ≡ signed neg n
+unfolding basic_year signed
 basic-is true n e = cc
 basic-is false n e = sym (ap (λ (b : Bool). cond b (four n) (cond (ltb n 100000) (five n) (cond (ltb n 1000000) (six n) (seven n)))) e)
 
 -- ---- the 26 bytes, less those that are skipped
 module _ (y : ℕ) (d : CalendarDate) (u : TimeOfDay) where
-  with-sign : (b : Bool) → drop (cond b 3 2) (wide 45 (cond b 45 (last (y / 1000))) y ++ afterYear d u) ≡ (45 ∷ cond b (three y) (four y)) ++ afterYear d u
-  with-sign true = refl
-  with-sign false = refl
+  with_sign : (b : Bool) → drop (cond b 3 2) (wide 45 (cond b 45 (last (y / 1000))) y ++ after_year d u) ≡ (45 ∷ cond b (three y) (four y)) ++ after_year d u
+  with_sign true = refl
+  with_sign false = refl
 
   no_sign : (a b c : Bool)
-      → drop (cond a 3 (cond b 2 (cond c 1 0))) (wide (last (y / 10000)) (last (y / 1000)) y ++ afterYear d u)
-      ≡ cond a (four y) (cond b (five y) (cond c (six y) (seven y))) ++ afterYear d u
+      → drop (cond a 3 (cond b 2 (cond c 1 0))) (wide (last (y / 10000)) (last (y / 1000)) y ++ after_year d u)
+      ≡ cond a (four y) (cond b (five y) (cond c (six y) (seven y))) ++ after_year d u
   no_sign true b c = refl
   no_sign false true c = refl
   no_sign false false true = refl
   no_sign false false false = refl
 
-  text-is : (neg : Bool) → drop (skipped neg y) (wide (third neg y) (fourth neg y) y ++ afterYear d u) ≡ signed neg y ++ afterYear d u
+  text-is : (neg : Bool) → drop (skipped neg y) (wide (third neg y) (fourth neg y) y ++ after_year d u) ≡ signed neg y ++ after_year d u
   unfolding skipped third fourth signed
-  text-is true = with-sign (ltb y 1000)
+  text-is true = with_sign (ltb y 1000)
   text-is false = no_sign (ltb y 10000) (ltb y 100000) (ltb y 1000000)
 
-  pub wide-length : (neg : Bool) → length (signed neg y ++ afterYear d u) ≡ 26 - skipped neg y
+  pub wide-length : (neg : Bool) → length (signed neg y ++ after_year d u) ≡ 26 - skipped neg y
   wide-length neg = ap length (sym (text-is neg)) ∙ simp length-drop
 
   -- what the code lends to `bytes::copy`
-  pub source : (neg : Bool) (all : List ℕ) (c2 c3 k : ℕ) → c2 ≡ third neg y → c3 ≡ fourth neg y → k ≡ skipped neg y → all ≡ wide c2 c3 y ++ afterYear d u
-      → take (26 - k) (drop k all) ≡ signed neg y ++ afterYear d u
+  pub source : (neg : Bool) (all : List ℕ) (c2 c3 k : ℕ) → c2 ≡ third neg y → c3 ≡ fourth neg y → k ≡ skipped neg y → all ≡ wide c2 c3 y ++ after_year d u
+      → take (26 - k) (drop k all) ≡ signed neg y ++ after_year d u
   source neg all c2 c3 k e2 e3 ek e =
-      let it : drop k all ≡ signed neg y ++ afterYear d u = cc (text-is neg) in
-      let n : length (signed neg y ++ afterYear d u) ≡ 26 - skipped neg y = wide-length neg in
+      let it : drop k all ≡ signed neg y ++ after_year d u = cc (text-is neg) in
+      let n : length (signed neg y ++ after_year d u) ≡ 26 - skipped neg y = wide-length neg in
       ap (take (26 - k)) it ∙ take_all (26 - k) _ (rw (n, ek) (le_refl _))
 
-  pub basic-source : (all : List ℕ) (c2 c3 : ℕ) → c3 ≡ fourth false y → all ≡ wide c2 c3 y ++ afterYear d u → take 23 (drop 3 all) ≡ four y ++ afterYear d u
+  pub basic-source : (all : List ℕ) (c2 c3 : ℕ) → c3 ≡ fourth false y → all ≡ wide c2 c3 y ++ after_year d u → take 23 (drop 3 all) ≡ four y ++ after_year d u
   unfolding fourth
-  basic-source all c2 c3 e3 e = ap (λ (x : List ℕ). take 23 (drop 3 x)) (e ∙ ap (λ (c : ℕ). wide c2 c y ++ afterYear d u) e3)
+  basic-source all c2 c3 e3 e = ap (λ (x : List ℕ). take 23 (drop 3 x)) (e ∙ ap (λ (c : ℕ). wide c2 c y ++ after_year d u) e3)
 
 -- ---- a text put, or refused
 pub short : (t l : List ℕ) → length l < length t → TextPut t l (Refused 11) l
-unfolding textOutcome textWritten bufferAfter
+unfolding text_outcome text_written buffer_after
 short t l h = record { says = simp (lt-leb _ _ h); holds = simp (lt-leb _ _ h) }
 
 -- after the copy of src, which is the text
 pub put-done : (src t l out : List ℕ) (r : ℕ) → src ≡ t → r ≡ length src → out ≡ take (length src) src ++ drop (length src) l → length t ≤ length l
     → TextPut t l (Written r) out
-unfolding textOutcome textWritten bufferAfter
+unfolding text_outcome text_written buffer_after
 put-done src t l out r e er eo h = record {
   says = ap answer (er ∙ ap length e) ∙ simp (le-leb _ _ h);
   holds = eo ∙ ap (λ (x : List ℕ). x ++ drop (length src) l) (take-length src) ∙ ap (λ (x : List ℕ). x ++ drop (length x) l) e ∙ simp (le-leb _ _ h);
 }
 
 -- by a date and a time
-pub of-date : (d : CalendarDate) (u : TimeOfDay) (neg : Bool) (n : ℕ) (y l out : List ℕ) (r : TextAnswer) → SFits w32 d.year
+pub of_date : (d : CalendarDate) (u : TimeOfDay) (neg : Bool) (n : ℕ) (y l out : List ℕ) (r : TextAnswer) → SFits w32 d.year
     → neg ≡ not (non_neg (to_z w32 (of_z w32 d.year)))
-    → n ≡ nat_abs (to_z w32 (of_z w32 d.year)) → y ≡ signed neg n → TextPut (y ++ afterYear d u) l r out → TextPut (utcText d u) l r out
-unfolding utcText
-of-date d u neg n y l out r fit en es ey p =
+    → n ≡ nat_abs (to_z w32 (of_z w32 d.year)) → y ≡ signed neg n → TextPut (y ++ after_year d u) l r out → TextPut (utc_text d u) l r out
+unfolding utc_text
+of_date d u neg n y l out r fit en es ey p =
     let e : to_z w32 (of_z w32 d.year) ≡ d.year = to_z-of_z fit in
-    subst (λ (x : List ℕ). TextPut (x ++ afterYear d u) l r out)
-    (ey ∙ ap (λ (b : Bool). signed b n) (en ∙ ap (λ (z : ℤ). not (non_neg z)) e) ∙ ap (signed (not (non_neg d.year))) (es ∙ ap nat_abs e) ∙ year-is d.year) p
+    subst (λ (x : List ℕ). TextPut (x ++ after_year d u) l r out)
+    (ey ∙ ap (λ (b : Bool). signed b n) (en ∙ ap (λ (z : ℤ). not (non_neg z)) e) ∙ ap (signed (not (non_neg d.year))) (es ∙ ap nat_abs e) ∙ year_is d.year) p

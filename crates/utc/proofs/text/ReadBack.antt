@@ -13,12 +13,12 @@ use lib.Dec.{T, ltb, ltb→lt}
 use borrow.Author.Tests.{ne_eqb, ltb-false}
 use Rattle.calendar.specs.declared.CalendarDate.{CalendarDate}
 use Rattle.time_of_day.specs.declared.TimeOfDay.{TimeOfDay}
-use Rattle.time_of_day.specs.ExactTime.{timeMs}
-use Rattle.utc.specs.text.Text.{last, two, three, four, five, six, seven, afterYear, yearText, utcText}
-use Rattle.utc.specs.text.ReadBack.{value, number, signedNumber, fromEnd, readYear, readMonth, readDay, readHour, readMinute, readSecond}
-use Rattle.utc.specs.text.ReadBack.{readMilli, readMs, ReadsAs, Writable}
+use Rattle.time_of_day.specs.ExactTime.{time_ms}
+use Rattle.utc.specs.text.Text.{last, two, three, four, five, six, seven, after_year, year_text, utc_text}
+use Rattle.utc.specs.text.ReadBack.{value, number, signed_number, from_end, read_year, read_month, read_day, read_hour, read_minute, read_second}
+use Rattle.utc.specs.text.ReadBack.{read_milli, read_ms, ReadsAs, Writable}
 use Rattle.utc.specs.text.Layout.{skipped}
-use Rattle.utc.proofs.text.Laws.{year-is, wide-length}
+use Rattle.utc.proofs.text.Laws.{year_is, wide-length}
 
 -- ---- digits
 step : (n : ℕ) (cs : List ℕ) → value (n / 10) (last n ∷ cs) ≡ value n cs
@@ -65,33 +65,33 @@ seven_is n h = let z : n / 10000000 ≡ 0 = omega arith in rw z at (all-seven n)
 
 -- ---- the year
 -- a digit is no sign
-pub no_sign : (x n : ℕ) (cs : List ℕ) → number (last x ∷ cs) ≡ n → signedNumber (last x ∷ cs) ≡ pos n
-unfolding signedNumber
+pub no_sign : (x n : ℕ) (cs : List ℕ) → number (last x ∷ cs) ≡ n → signed_number (last x ∷ cs) ≡ pos n
+unfolding signed_number
 no_sign x n cs e = rw (ne_eqb (last x) 45 (λ h. omega arith), ne_eqb (last x) 43 (λ h. omega arith)) (ap pos e)
 
-pub with-sign : (n : ℕ) (cs : List ℕ) → number cs ≡ suc n → signedNumber (45 ∷ cs) ≡ negsuc n
-unfolding signedNumber
-with-sign n cs e = ap (λ (k : ℕ). neg_ℤ (pos k)) e
+pub with_sign : (n : ℕ) (cs : List ℕ) → number cs ≡ suc n → signed_number (45 ∷ cs) ≡ negsuc n
+unfolding signed_number
+with_sign n cs e = ap (λ (k : ℕ). neg_ℤ (pos k)) e
 
 after : (n : ℕ) → n < 10000000 → (a b c : Bool) → (T a → n < 10000) → (T b → n < 100000) → (T c → n < 1000000)
-    → signedNumber (cond a (four n) (cond b (five n) (cond c (six n) (seven n)))) ≡ pos n
+    → signed_number (cond a (four n) (cond b (five n) (cond c (six n) (seven n)))) ≡ pos n
 after n h true b c p q r = no_sign (n / 1000) n (three n) (four_is n (p tt))
 after n h false true c p q r = no_sign (n / 10000) n (four n) (five-is n (q tt))
 after n h false false true p q r = no_sign (n / 100000) n (five n) (six-is n (r tt))
 after n h false false false p q r = no_sign (n / 1000000) n (six n) (seven_is n h)
 
-before : (n : ℕ) → suc n < 10000 → (b : Bool) → (T b → suc n < 1000) → signedNumber (45 ∷ cond b (three (suc n)) (four (suc n))) ≡ negsuc n
-before n h true p = with-sign n (three (suc n)) (three-is (suc n) (p tt))
-before n h false p = with-sign n (four (suc n)) (four_is (suc n) h)
+before : (n : ℕ) → suc n < 10000 → (b : Bool) → (T b → suc n < 1000) → signed_number (45 ∷ cond b (three (suc n)) (four (suc n))) ≡ negsuc n
+before n h true p = with_sign n (three (suc n)) (three-is (suc n) (p tt))
+before n h false p = with_sign n (four (suc n)) (four_is (suc n) h)
 
-pub year-read : (y : ℤ) → lt_z y (negsuc 4899) ≡ false → lt_z (pos 2733194) y ≡ false → signedNumber (yearText y) ≡ y
-unfolding yearText
+pub year-read : (y : ℤ) → lt_z y (negsuc 4899) ≡ false → lt_z (pos 2733194) y ≡ false → signed_number (year_text y) ≡ y
+unfolding year_text
 year-read (pos n) l h = let k : n ≤ 2733194 =
     ltb-false 2733194 n h in after n (omega arith) (ltb n 10000) (ltb n 100000) (ltb n 1000000) (ltb→lt n 10000) (ltb→lt n 100000) (ltb→lt n 1000000)
 year-read (negsuc n) l h = let k : n ≤ 4899 = ltb-false 4899 n l in before n (omega arith) (ltb (suc n) 1000) (ltb→lt (suc n) 1000)
 
 -- ---- the places, counted from the end, whatever the year's width
-pub part_of : (y t : List ℕ) (k n : ℕ) → k ≤ 19 → length t ≡ 19 → fromEnd k n (y ++ t) ≡ take n (drop (19 - k) t)
+pub part_of : (y t : List ℕ) (k n : ℕ) → k ≤ 19 → length t ≡ 19 → from_end k n (y ++ t) ≡ take n (drop (19 - k) t)
 part_of y t k n h e = ap (take n)
     (ap (λ (m : ℕ). drop m (y ++ t)) (ap (λ (m : ℕ). m - k) (length-append y t) ∙ places (length y) (length t) e) ∙ drop-append-add y t (19 - k))
   where
@@ -105,10 +105,10 @@ front_of y t e = take_at y t (length (y ++ t) - 19) (places (length y) (length t
     places a b n g h = omega arith
 
 -- behind a year that reads back the rest does
-pub year-and-rest : (y : List ℕ) (d : CalendarDate) (u : TimeOfDay) → signedNumber y ≡ d.year → Writable d u → ReadsAs (y ++ afterYear d u) d u
-unfolding readYear readMonth readDay readHour readMinute readSecond readMilli
+pub year-and-rest : (y : List ℕ) (d : CalendarDate) (u : TimeOfDay) → signed_number y ≡ d.year → Writable d u → ReadsAs (y ++ after_year d u) d u
+unfolding read_year read_month read_day read_hour read_minute read_second read_milli
 year-and-rest y d u e w = record {
-  year = ap signedNumber (front_of y t refl) ∙ e;
+  year = ap signed_number (front_of y t refl) ∙ e;
   month = ap number (part_of y t 18 2 (omega arith) refl) ∙ two_is d.month (omega (arith, w.month));
   day = ap number (part_of y t 15 2 (omega arith) refl) ∙ two_is d.day (omega (arith, w.day));
   hour = ap number (part_of y t 12 2 (omega arith) refl) ∙ two_is u.hour (omega (arith, w.hour));
@@ -118,16 +118,16 @@ year-and-rest y d u e w = record {
 }
   where
     t : List ℕ
-    t = afterYear d u
+    t = after_year d u
 
-pub reads-back : (d : CalendarDate) (u : TimeOfDay) → Writable d u → ReadsAs (utcText d u) d u
-unfolding utcText
-reads-back d u w = year-and-rest (yearText d.year) d u (year-read d.year w.year-low w.year-high) w
+pub reads_back : (d : CalendarDate) (u : TimeOfDay) → Writable d u → ReadsAs (utc_text d u) d u
+unfolding utc_text
+reads_back d u w = year-and-rest (year_text d.year) d u (year-read d.year w.year_low w.year_high) w
 
 -- the milliseconds that a text shows are those of the time that its digits say
-pub said-ms : {t : List ℕ} {d : CalendarDate} {u : TimeOfDay} → ReadsAs t d u → readMs t ≡ timeMs u
-unfolding readMs
-said-ms r = rw (r.hour, r.minute, r.second, r.milli)
+pub said_ms : {t : List ℕ} {d : CalendarDate} {u : TimeOfDay} → ReadsAs t d u → read_ms t ≡ time_ms u
+unfolding read_ms
+said_ms r = rw (r.hour, r.minute, r.second, r.milli)
 
 -- ---- the length
 few : (b : Bool) (n : ℕ) → skipped b n ≤ 3
@@ -145,13 +145,13 @@ few false n = four-ways (ltb n 10000) (ltb n 100000) (ltb n 1000000)
     four-ways false false true = omega arith
     four-ways false false false = omega arith
 
-pub written-length : (d : CalendarDate) (u : TimeOfDay) → (23 ≤ length (utcText d u)) × (length (utcText d u) ≤ 26)
-unfolding utcText
+pub written-length : (d : CalendarDate) (u : TimeOfDay) → (23 ≤ length (utc_text d u)) × (length (utc_text d u) ≤ 26)
+unfolding utc_text
 written-length d u =
     let n = nat_abs d.year in
     let b = not (non_neg d.year) in
-    go (length (yearText d.year ++ afterYear d u)) (skipped b n)
-    (ap (λ (y : List ℕ). length (y ++ afterYear d u)) (sym (year-is d.year))
+    go (length (year_text d.year ++ after_year d u)) (skipped b n)
+    (ap (λ (y : List ℕ). length (y ++ after_year d u)) (sym (year_is d.year))
     ∙ wide-length n d u b)
     (few b n)
   where

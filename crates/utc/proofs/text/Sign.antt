@@ -1,5 +1,5 @@
 -- The sign and the size of a signed number of 32 bits, as the code finds them. Assumes nothing.
-use Prim.Native.Nat.{ℕ, ◌<◌, zero-le}
+use Prim.Native.Nat.{ℕ, ◌<◌, zero_le}
 use native.Mathlib.Omega.{arith}
 use mathlib.Core.Path.{◌≡◌, refl, sym, ap, subst, ◌∙◌}
 use mathlib.Core.Bool.{true, false, not}
@@ -29,7 +29,7 @@ more-cast (pos n) f t = (tt, record { fits = omega (arith, f.sfits) })
 more-cast (negsuc k) f t = let z : ◌≡◌ {A = ℕ} 0 1 = cc in elim (let no : ⊥ = omega arith in no) [ ]
 
 below-zero : (z : ℤ) → lt_z z (pos 0) ≡ not (non_neg z)
-below-zero (pos n) = le-ltb n 0 zero-le
+below-zero (pos n) = le-ltb n 0 zero_le
 below-zero (negsuc k) = refl
 
 -- as the code has them: a signed local is its bits, read back
@@ -50,18 +50,18 @@ module _ (z : ℤ) (f : SFits w32 z) where
     t' : lt_z z (pos 0) ≡ true
     t' = subst (λ (x : ℤ). lt_z x (pos 0) ≡ true) back t
 
-    pub sub-fits : SFits w64 (pos 0 -ℤ to_z w64 (of_z w64 (to_z w32 (of_z w32 z))))
-    sub-fits = subst (λ (x : ℤ). SFits w64 (pos 0 -ℤ x)) (sym back64) (less-fits z f t')
+    pub sub_fits : SFits w64 (pos 0 -ℤ to_z w64 (of_z w64 (to_z w32 (of_z w32 z))))
+    sub_fits = subst (λ (x : ℤ). SFits w64 (pos 0 -ℤ x)) (sym back64) (less-fits z f t')
 
     back0 : to_z w64 (of_z w64 (pos 0 -ℤ to_z w64 (of_z w64 (to_z w32 (of_z w32 z))))) ≡ pos 0 -ℤ z
-    back0 = to_z-of_z {w = w64} sub-fits ∙ ap (λ (x : ℤ). pos 0 -ℤ x) back64
+    back0 = to_z-of_z {w = w64} sub_fits ∙ ap (λ (x : ℤ). pos 0 -ℤ x) back64
 
-    pub cast-less : T (non_neg (to_z w64 (of_z w64 (pos 0 -ℤ to_z w64 (of_z w64 (to_z w32 (of_z w32 z)))))))
+    pub cast_less : T (non_neg (to_z w64 (of_z w64 (pos 0 -ℤ to_z w64 (of_z w64 (to_z w32 (of_z w32 z)))))))
         × Fits w32 (nat_abs (to_z w64 (of_z w64 (pos 0 -ℤ to_z w64 (of_z w64 (to_z w32 (of_z w32 z)))))))
-    cast-less = subst (λ (x : ℤ). T (non_neg x) × Fits w32 (nat_abs x)) (sym back0) (less-cast z f t')
+    cast_less = subst (λ (x : ℤ). T (non_neg x) × Fits w32 (nat_abs x)) (sym back0) (less-cast z f t')
 
     pub size_less : nat_abs (to_z w64 (of_z w64 (pos 0 -ℤ to_z w64 (of_z w64 (to_z w32 (of_z w32 z)))))) ≡ nat_abs z
     size_less = ap nat_abs back0 ∙ less-size z f t'
 
-  pub cast-more : lt_z (to_z w32 (of_z w32 z)) (pos 0) ≡ false → T (non_neg (to_z w32 (of_z w32 z))) × Fits w32 (nat_abs (to_z w32 (of_z w32 z)))
-  cast-more t = subst (λ (x : ℤ). T (non_neg x) × Fits w32 (nat_abs x)) (sym back) (more-cast z f (subst (λ (x : ℤ). lt_z x (pos 0) ≡ false) back t))
+  pub cast_more : lt_z (to_z w32 (of_z w32 z)) (pos 0) ≡ false → T (non_neg (to_z w32 (of_z w32 z))) × Fits w32 (nat_abs (to_z w32 (of_z w32 z)))
+  cast_more t = subst (λ (x : ℤ). T (non_neg x) × Fits w32 (nat_abs x)) (sym back) (more-cast z f (subst (λ (x : ℤ). lt_z x (pos 0) ≡ false) back t))

@@ -11,7 +11,7 @@ use lib.Dec.{ltb}
 use borrow.Author.Tests.{ne_eqb, ltb-true, ltb-false}
 use Rattle.calendar.specs.declared.CalendarDate.{CalendarDate}
 use Rattle.time_of_day.specs.declared.TimeOfDay.{TimeOfDay}
-use Rattle.utc.specs.text.Text.{last, three, four, five, six, seven, afterYear, yearText, utcText}
+use Rattle.utc.specs.text.Text.{last, three, four, five, six, seven, after_year, year_text, utc_text}
 use Rattle.utc.specs.text.ReadBack.{Writable}
 use Rattle.utc.specs.text.WellFormed.{unsigned, NoZeroFirst, YearFilledToFour}
 use Rattle.utc.proofs.text.ReadBack.{front_of}
@@ -36,11 +36,11 @@ unfolding unsigned NoZeroFirst
 before n h true p k = let z : ⊥ = omega arith in absurd z
 before n h false p k = λ e. let lo = ltb-false n 1000 p in omega arith
 
-filled : (y : ℤ) → lt_z y (negsuc 4899) ≡ false → lt_z (pos 2733194) y ≡ false → Filled (yearText y)
-unfolding yearText
+filled : (y : ℤ) → lt_z y (negsuc 4899) ≡ false → lt_z (pos 2733194) y ≡ false → Filled (year_text y)
+unfolding year_text
 filled (pos n) low high = after n (ltb-false 2733194 n high) (ltb n 10000) (ltb n 100000) (ltb n 1000000) refl refl refl
 filled (negsuc n) low high = let h = ltb-false 4899 n low in before (suc n) (omega arith) (ltb (suc n) 1000) refl
 
-pub year-filled-to-four : (d : CalendarDate) (u : TimeOfDay) → Writable d u → YearFilledToFour (utcText d u)
-unfolding utcText
-year-filled-to-four d u w = subst Filled (sym (front_of (yearText d.year) (afterYear d u) refl)) (filled d.year w.year-low w.year-high)
+pub year-filled-to-four : (d : CalendarDate) (u : TimeOfDay) → Writable d u → YearFilledToFour (utc_text d u)
+unfolding utc_text
+year-filled-to-four d u w = subst Filled (sym (front_of (year_text d.year) (after_year d u) refl)) (filled d.year w.year_low w.year_high)

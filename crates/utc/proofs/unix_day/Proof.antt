@@ -5,12 +5,12 @@ use lib.Signed.{quot_z, lt_z}
 use mir.Syntax.{w64}
 use mir.Val.{SFits, to_z, of_z}
 use mir.Facts.{to_z-of_z}
-use Rattle.utc.specs.UnixTime.{unixDay}
-use Rattle.utc.proofs.UnixDays.{divides, read-days, read_left, day-before, same-day, day-fits}
+use Rattle.utc.specs.UnixTime.{unix_day}
+use Rattle.utc.proofs.UnixDays.{divides, read-days, read_left, day-before, same-day, day_fits}
 use Rattle.utc.proofs.unix_day.Statement.{statement}
 use Rattle.utc.proofs.unix_day.Tie as tie
 
-one_less : (c : tie.Then1) → to_z w64 (of_z w64 (quot_z (to_z w64 (of_z w64 c.before.args.seconds)) (pos 86400))) -ℤ pos 1 ≡ unixDay c.before.args.seconds
+one_less : (c : tie.Then1) → to_z w64 (of_z w64 (quot_z (to_z w64 (of_z w64 c.before.args.seconds)) (pos 86400))) -ℤ pos 1 ≡ unix_day c.before.args.seconds
 one_less c =
     let s = c.before in
     ap (λ (x : ℤ). x -ℤ pos 1) (read-days s.args.seconds s.ranges.seconds)
@@ -19,12 +19,12 @@ one_less c =
 sub-result : tie.Need-overflow-sub-result
 sub-result c =
     let s = c.before in
-    subst (SFits w64) (sym (one_less c)) (day-fits s.args.seconds s.ranges.seconds)
+    subst (SFits w64) (sym (one_less c)) (day_fits s.args.seconds s.ranges.seconds)
 
 returns : tie.Need-returns
 returns c =
     let s = c.before in
-    ap (λ (x : ℤ). to_z w64 (of_z w64 x)) (one_less c) ∙ to_z-of_z (day-fits s.args.seconds s.ranges.seconds)
+    ap (λ (x : ℤ). to_z w64 (of_z w64 x)) (one_less c) ∙ to_z-of_z (day_fits s.args.seconds s.ranges.seconds)
 
 returns-2 : tie.Need-returns-2
 returns-2 c =

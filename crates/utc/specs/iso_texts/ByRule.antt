@@ -3,45 +3,45 @@
 use Rattle.std.specs.Prelude.{ℕ, ◌≡◌, List, length}
 use Rattle.refusals.specs.Outcome.{Outcome, answer, refusal, onward}
 use Rattle.julian.specs.declared.JulianDate.{JulianDate}
-use Rattle.julian.specs.Calendar.{julianToCalendar}
+use Rattle.julian.specs.Calendar.{julian_to_calendar}
 use Rattle.leap_table.specs.declared.offsets.Rule.{Rule}
 use Rattle.leap_table.specs.rows.Table.{Row}
-use Rattle.leap_table.specs.offsets.Rule.{withRule, forget}
-unfoldable pub use Rattle.leap_table.specs.offsets.Rule.{ruleOn}
-use Rattle.utc.specs.text.Answer.{textWritten}
+use Rattle.leap_table.specs.offsets.Rule.{with_rule, forget}
+unfoldable pub use Rattle.leap_table.specs.offsets.Rule.{rule_on}
+use Rattle.utc.specs.text.Answer.{text_written}
 use Rattle.utc.specs.declared.iso_texts.TextByRule.{TextByRule}
 use Rattle.utc.specs.declared.iso_texts.TextByRule.TheVariants as Ruled
 use Rattle.utc.specs.iso_texts.TextForm.{TextForm}
-use Rattle.utc.specs.iso_texts.IsoText.{standardForm, dayTextBy}
-use Rattle.utc.specs.iso_texts.Expanded.{expandedForm}
-use Rattle.utc.specs.iso_texts.HalfEven.{halfEvenForm}
-use Rattle.utc.specs.iso_texts.TextCall.{bufferHolds}
+use Rattle.utc.specs.iso_texts.IsoText.{standard_form, day_text_by}
+use Rattle.utc.specs.iso_texts.Expanded.{expanded_form}
+use Rattle.utc.specs.iso_texts.HalfEven.{half_even_form}
+use Rattle.utc.specs.iso_texts.TextCall.{buffer_holds}
 
 -- in any form
-unfoldable pub textByRule : TextForm → List Row → JulianDate → Outcome (List ℕ × Rule)
-textByRule textForm rows jd = onward (julianToCalendar jd.jd1 jd.jd2)
-    (λ c. withRule (dayTextBy textForm rows c.date c.fraction) (ruleOn rows c.date))
+unfoldable pub text_by_rule : TextForm → List Row → JulianDate → Outcome (List ℕ × Rule)
+text_by_rule textForm rows jd = onward (julian_to_calendar jd.jd1 jd.jd2)
+    (λ c. with_rule (day_text_by textForm rows c.date c.fraction) (rule_on rows c.date))
 
 -- document 01's text, and those of document 02's items 4 and 6
-abbrev pub isoTextByRule : List Row → JulianDate → Outcome (List ℕ × Rule)
-isoTextByRule rows jd = textByRule standardForm rows jd
+abbrev pub iso_text_by_rule : List Row → JulianDate → Outcome (List ℕ × Rule)
+iso_text_by_rule rows jd = text_by_rule standard_form rows jd
 
-abbrev pub halfEvenByRule : List Row → JulianDate → Outcome (List ℕ × Rule)
-halfEvenByRule rows jd = textByRule halfEvenForm rows jd
+abbrev pub half_even_by_rule : List Row → JulianDate → Outcome (List ℕ × Rule)
+half_even_by_rule rows jd = text_by_rule half_even_form rows jd
 
-abbrev pub expandedByRule : List Row → JulianDate → Outcome (List ℕ × Rule)
-expandedByRule rows jd = textByRule expandedForm rows jd
+abbrev pub expanded_by_rule : List Row → JulianDate → Outcome (List ℕ × Rule)
+expanded_by_rule rows jd = text_by_rule expanded_form rows jd
 
 -- ---- a call that writes it
-unfoldable pub textByRuleOutcome : TextByRule → Outcome (ℕ × Rule)
-textByRuleOutcome (Ruled.Written n rule) = answer (n, rule)
-textByRuleOutcome (Ruled.Refused number) = refusal number
+unfoldable pub text_by_rule_outcome : TextByRule → Outcome (ℕ × Rule)
+text_by_rule_outcome (Ruled.Written n rule) = answer (n, rule)
+text_by_rule_outcome (Ruled.Refused number) = refusal number
 
 -- into a buffer of n bytes: 11 only where there is a text
-unfoldable pub writtenByRule : Outcome (List ℕ × Rule) → ℕ → Outcome (ℕ × Rule)
-writtenByRule text n = onward text (λ t. withRule (textWritten t.0 n) t.1)
+unfoldable pub written_by_rule : Outcome (List ℕ × Rule) → ℕ → Outcome (ℕ × Rule)
+written_by_rule text n = onward text (λ t. with_rule (text_written t.0 n) t.1)
 
 -- r answers the text and the rule, and the buffer, which held `before`, holds `after`
 pub record TextRuleCall (text : Outcome (List ℕ × Rule)) (before : List ℕ) (r : TextByRule) (after : List ℕ) : Type 0 where
-  pub says : textByRuleOutcome r ≡ writtenByRule text (length before)
-  pub holds : after ≡ bufferHolds (forget text) before
+  pub says : text_by_rule_outcome r ≡ written_by_rule text (length before)
+  pub holds : after ≡ buffer_holds (forget text) before

@@ -22,4 +22,4 @@ pub record Decided {A : Type 0} (o : Outcome A) (l : Ladder) : Type 0 where
   pub refuses : (k : ℕ) → FirstReason k l → o ≡ refusal k
   pub only : (k : ℕ) → o ≡ refusal k → FirstReason k l
   pub answers : NoReason l → (a : A) × (o ≡ answer a)
-  pub no-reason : (a : A) → o ≡ answer a → NoReason l
+  pub no_reason : (a : A) → o ≡ answer a → NoReason l

@@ -2,8 +2,8 @@
 -- from include/celestial_time.h. Assumes nothing.
 use Rattle.std.specs.Prelude.{ℕ, zero, suc, ◌+◌, ◌*◌, ◌<◌, ◌≤◌, ◌≡◌, ◌⊎◌, cond, List, eqb, length, get_or}
 use Rattle.refusals.specs.Outcome.{Outcome, answer, refusal}
-use Rattle.floats.specs.ExponentField.{exponentField}
-use Rattle.numerals.specs.little_endian.LittleEndian.{u64At}
+use Rattle.floats.specs.ExponentField.{exponent_field}
+use Rattle.numerals.specs.little_endian.LittleEndian.{u64_at}
 use Rattle.utc.specs.run_texts.RunTexts.{TextsCall}
 
 -- the stamp at place i, whose text is o, after the call c; before it the places held `texts`
@@ -23,13 +23,13 @@ pub record BehindStays (n : ℕ) (texts lengths numbers : List ℕ) (c : TextsCa
   pub third : (j : ℕ) → n ≤ j → get_or c.numbers j 0 ≡ get_or numbers j 0
 
 -- how many of the first n numbers are not 0
-unfoldable pub numbersNotZero : ℕ → List ℕ → ℕ
-numbersNotZero zero l = 0
-numbersNotZero (suc n) l = numbersNotZero n l + cond (eqb (get_or l n 0) 0) 0 1
+unfoldable pub numbers_not_zero : ℕ → List ℕ → ℕ
+numbers_not_zero zero l = 0
+numbers_not_zero (suc n) l = numbers_not_zero n l + cond (eqb (get_or l n 0) 0) 0 1
 
 -- a part of the stamp at place i has the exponent field all ones: an infinity or a NaN of any sign and payload (IEEE 754)
 abbrev pub StampPartNotFinite : List ℕ → List ℕ → ℕ → Type 0
-StampPartNotFinite js ks i = (exponentField (u64At js (8 * i)) ≡ 2047) ⊎ (exponentField (u64At ks (8 * i)) ≡ 2047)
+StampPartNotFinite js ks i = (exponent_field (u64_at js (8 * i)) ≡ 2047) ⊎ (exponent_field (u64_at ks (8 * i)) ≡ 2047)
 
 -- the lengths in bytes with which a call on n stamps is answered
 pub record TextsDue (n size1 size2 room1 room2 room3 : ℕ) : Type 0 where

@@ -6,19 +6,19 @@ use Rattle.utc.specs.declared.text.TextAnswer.{TextAnswer}
 use Rattle.utc.specs.declared.text.TextAnswer.TheVariants.{Written, Refused}
 
 -- the outcome that each case of the enum is: the number of bytes written, or a refusal
-unfoldable pub textOutcome : TextAnswer → Outcome ℕ
-textOutcome (Written n) = answer n
-textOutcome (Refused k) = refusal k
+unfoldable pub text_outcome : TextAnswer → Outcome ℕ
+text_outcome (Written n) = answer n
+text_outcome (Refused k) = refusal k
 
 -- the outcome of asking for the text t in a buffer of n bytes: its length, or 11 exactly where the text is longer than the buffer
-unfoldable pub textWritten : List ℕ → ℕ → Outcome ℕ
-textWritten t n = cond (leb (length t) n) (answer (length t)) (refusal 11)
+unfoldable pub text_written : List ℕ → ℕ → Outcome ℕ
+text_written t n = cond (leb (length t) n) (answer (length t)) (refusal 11)
 
 -- what the buffer l then holds: t at its start and the rest as it was, or, where t does not fit, l
-unfoldable pub bufferAfter : List ℕ → List ℕ → List ℕ
-bufferAfter t l = cond (leb (length t) (length l)) (t ++ drop (length t) l) l
+unfoldable pub buffer_after : List ℕ → List ℕ → List ℕ
+buffer_after t l = cond (leb (length t) (length l)) (t ++ drop (length t) l) l
 
 -- r answers the text t, and the buffer, which held `before`, holds `after`
 pub record TextPut (t before : List ℕ) (r : TextAnswer) (after : List ℕ) : Type 0 where
-  pub says : textOutcome r ≡ textWritten t (length before)
-  pub holds : after ≡ bufferAfter t before
+  pub says : text_outcome r ≡ text_written t (length before)
+  pub holds : after ≡ buffer_after t before

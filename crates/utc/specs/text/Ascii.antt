@@ -4,6 +4,6 @@ use Prim.Native.Char.{code}
 use Prim.Native.String.{String}
 use Prim.Native.String as Native
 
-abbrev pub asciiBytes : String → List ℕ
-asciiBytes Native.[] = []
-asciiBytes (Native.◌∷◌ c s) = code c ∷ asciiBytes s
+abbrev pub ascii_bytes : String → List ℕ
+ascii_bytes Native.[] = []
+ascii_bytes (Native.◌∷◌ c s) = code c ∷ ascii_bytes s

@@ -3,15 +3,15 @@
 use Rattle.std.specs.Prelude.{ℕ, suc, List, ◌∷◌, ◌++◌, cond, ℤ, pos, negsuc, ltb}
 use Rattle.calendar.specs.declared.CalendarDate.{CalendarDate}
 use Rattle.time_of_day.specs.declared.TimeOfDay.{TimeOfDay}
-use Rattle.utc.specs.text.Text.{four, seven, afterYear}
+use Rattle.utc.specs.text.Text.{four, seven, after_year}
 
 -- Years 0000 to 9999 have four digits and no sign, 0 too. Of a year with more than seven digits the last seven are shown; no caller has one: the calendar's
 -- years are -4900 to 2733194
-unfoldable pub expandedYear : ℤ → List ℕ
-expandedYear (pos n) = cond (ltb n 10000) (four n) (43 ∷ seven n)
-expandedYear (negsuc n) = 45 ∷ seven (suc n)
+unfoldable pub expanded_year : ℤ → List ℕ
+expanded_year (pos n) = cond (ltb n 10000) (four n) (43 ∷ seven n)
+expanded_year (negsuc n) = 45 ∷ seven (suc n)
 
 -- the text of a date and a time of day
-unfoldable pub expandedText : CalendarDate → TimeOfDay → List ℕ
-unfolding expandedYear
-expandedText d t = expandedYear d.year ++ afterYear d t
+unfoldable pub expanded_text : CalendarDate → TimeOfDay → List ℕ
+unfolding expanded_year
+expanded_text d t = expanded_year d.year ++ after_year d t

@@ -7,8 +7,8 @@ unfoldable pub signed : Bool → ℕ → List ℕ
 signed true n = 45 ∷ cond (ltb n 1000) (three n) (four n)
 signed false n = cond (ltb n 10000) (four n) (cond (ltb n 100000) (five n) (cond (ltb n 1000000) (six n) (seven n)))
 
-unfoldable pub basicYear : Bool → ℕ → Bool
-basicYear neg n = not neg && ltb n 10000
+unfoldable pub basic_year : Bool → ℕ → Bool
+basic_year neg n = not neg && ltb n 10000
 
 unfoldable pub third : Bool → ℕ → ℕ
 third true n = 45

@@ -7,58 +7,58 @@ use Rattle.calendar.specs.declared.CalendarDate.{CalendarDate}
 use Rattle.time_of_day.specs.declared.TimeOfDay.{TimeOfDay}
 
 -- with a minus sign, 45, or a plus sign, 43, in front of it or none
-unfoldable pub signedNumber : List ℕ → ℤ
-signedNumber [] = pos 0
-signedNumber (c ∷ cs) = cond (eqb c 45) (neg_ℤ (pos (number cs))) (cond (eqb c 43) (pos (number cs)) (pos (number (c ∷ cs))))
+unfoldable pub signed_number : List ℕ → ℤ
+signed_number [] = pos 0
+signed_number (c ∷ cs) = cond (eqb c 45) (neg_ℤ (pos (number cs))) (cond (eqb c 43) (pos (number cs)) (pos (number (c ∷ cs))))
 
 -- the n bytes that start k bytes before the end of t
-abbrev pub fromEnd : ℕ → ℕ → List ℕ → List ℕ
-fromEnd k n t = take n (drop (length t - k) t)
+abbrev pub from_end : ℕ → ℕ → List ℕ → List ℕ
+from_end k n t = take n (drop (length t - k) t)
 
 -- the bytes before the last 19
-abbrev pub yearBytes : List ℕ → List ℕ
-yearBytes t = take (length t - 19) t
+abbrev pub year_bytes : List ℕ → List ℕ
+year_bytes t = take (length t - 19) t
 
-unfoldable pub readYear : List ℕ → ℤ
-unfolding signedNumber
-readYear t = signedNumber (yearBytes t)
+unfoldable pub read_year : List ℕ → ℤ
+unfolding signed_number
+read_year t = signed_number (year_bytes t)
 
-unfoldable pub readMonth : List ℕ → ℕ
-readMonth t = number (fromEnd 18 2 t)
+unfoldable pub read_month : List ℕ → ℕ
+read_month t = number (from_end 18 2 t)
 
-unfoldable pub readDay : List ℕ → ℕ
-readDay t = number (fromEnd 15 2 t)
+unfoldable pub read_day : List ℕ → ℕ
+read_day t = number (from_end 15 2 t)
 
-unfoldable pub readHour : List ℕ → ℕ
-readHour t = number (fromEnd 12 2 t)
+unfoldable pub read_hour : List ℕ → ℕ
+read_hour t = number (from_end 12 2 t)
 
-unfoldable pub readMinute : List ℕ → ℕ
-readMinute t = number (fromEnd 9 2 t)
+unfoldable pub read_minute : List ℕ → ℕ
+read_minute t = number (from_end 9 2 t)
 
-unfoldable pub readSecond : List ℕ → ℕ
-readSecond t = number (fromEnd 6 2 t)
+unfoldable pub read_second : List ℕ → ℕ
+read_second t = number (from_end 6 2 t)
 
-unfoldable pub readMilli : List ℕ → ℕ
-readMilli t = number (fromEnd 3 3 t)
+unfoldable pub read_milli : List ℕ → ℕ
+read_milli t = number (from_end 3 3 t)
 
 -- the milliseconds that the digits say: document 01's 3,600 × hour + 60 × minute + second, times 1000
-unfoldable pub readMs : List ℕ → ℕ
-readMs t = 3600000 * readHour t + 60000 * readMinute t + 1000 * readSecond t + readMilli t
+unfoldable pub read_ms : List ℕ → ℕ
+read_ms t = 3600000 * read_hour t + 60000 * read_minute t + 1000 * read_second t + read_milli t
 
 -- the digits of t say the date d and the time u
 pub record ReadsAs (t : List ℕ) (d : CalendarDate) (u : TimeOfDay) : Type 0 where
-  pub year : readYear t ≡ d.year
-  pub month : readMonth t ≡ d.month
-  pub day : readDay t ≡ d.day
-  pub hour : readHour t ≡ u.hour
-  pub minute : readMinute t ≡ u.minute
-  pub second : readSecond t ≡ u.second
-  pub milli : readMilli t ≡ u.milli
+  pub year : read_year t ≡ d.year
+  pub month : read_month t ≡ d.month
+  pub day : read_day t ≡ d.day
+  pub hour : read_hour t ≡ u.hour
+  pub minute : read_minute t ≡ u.minute
+  pub second : read_second t ≡ u.second
+  pub milli : read_milli t ≡ u.milli
 
 -- the dates and times that are written: years -4900 to 2733194, all that the calendar gives
 pub record Writable (d : CalendarDate) (u : TimeOfDay) : Type 0 where
-  pub year-low : lt_z d.year (negsuc 4899) ≡ false
-  pub year-high : lt_z (pos 2733194) d.year ≡ false
+  pub year_low : lt_z d.year (negsuc 4899) ≡ false
+  pub year_high : lt_z (pos 2733194) d.year ≡ false
   pub month : d.month ≤ 12
   pub day : d.day ≤ 31
   pub hour : u.hour ≤ 23

@@ -26,18 +26,18 @@ seven n = last (n / 1000000) ∷ six n
 
 -- The year has at least four characters, the sign counted: 0 is 0000, -1 is -001. Of a year with more than seven digits, or four after a sign, the last ones
 -- are shown; no caller has one: the calendar's years are -4900 to 2733194
-unfoldable pub yearText : ℤ → List ℕ
-yearText (pos n) = cond (ltb n 10000) (four n) (cond (ltb n 100000) (five n) (cond (ltb n 1000000) (six n) (seven n)))
-yearText (negsuc n) = 45 ∷ cond (ltb (suc n) 1000) (three (suc n)) (four (suc n))
+unfoldable pub year_text : ℤ → List ℕ
+year_text (pos n) = cond (ltb n 10000) (four n) (cond (ltb n 100000) (five n) (cond (ltb n 1000000) (six n) (seven n)))
+year_text (negsuc n) = 45 ∷ cond (ltb (suc n) 1000) (three (suc n)) (four (suc n))
 
 -- -MM-DDThh:mm:ss.mmm
-abbrev pub afterYear : CalendarDate → TimeOfDay → List ℕ
-afterYear d t =
+abbrev pub after_year : CalendarDate → TimeOfDay → List ℕ
+after_year d t =
     (45 ∷ []) ++ (two d.month ++
     ((45 ∷ []) ++ (two d.day ++ ((84 ∷ [])
     ++ (two t.hour ++ ((58 ∷ []) ++ (two t.minute ++ ((58 ∷ []) ++ (two t.second ++ ((46 ∷ []) ++ three t.milli))))))))))
 
 -- the text of a date and a time of day
-unfoldable pub utcText : CalendarDate → TimeOfDay → List ℕ
-unfolding yearText
-utcText d t = yearText d.year ++ afterYear d t
+unfoldable pub utc_text : CalendarDate → TimeOfDay → List ℕ
+unfolding year_text
+utc_text d t = year_text d.year ++ after_year d t

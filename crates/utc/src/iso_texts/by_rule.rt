@@ -1,10 +1,10 @@
 // UTC text with the rule of its day.
 ghost use Rattle.std.specs.Prelude.{◌≡◌};
 ghost use Rattle.refusals.specs.Outcome.{onward};
-ghost use Rattle.leap_table.specs.rows.Announced.{rowsIn, table_of};
-ghost use Rattle.leap_table.specs.offsets.Rule.{withRule};
-ghost use Rattle.utc.specs.text.Answer.{textOutcome};
-ghost use Rattle.utc.specs.iso_texts.ByRule.{isoTextByRule, textByRuleOutcome, TextRuleCall};
+ghost use Rattle.leap_table.specs.rows.Announced.{rows_in, table_of};
+ghost use Rattle.leap_table.specs.offsets.Rule.{with_rule};
+ghost use Rattle.utc.specs.text.Answer.{text_outcome};
+ghost use Rattle.utc.specs.iso_texts.ByRule.{iso_text_by_rule, text_by_rule_outcome, TextRuleCall};
 
 use super::{DayAnswer, TextByRule, put_shown};
 use crate::shown::time_shown;
@@ -14,7 +14,7 @@ use leap_table::rows::AnnouncedRows;
 use scales::UTC;
 
 pub(crate) fn with_rule(text: TextAnswer, rule: Rule) -> TextByRule
-    ensures { textByRuleOutcome result ≡ withRule (textOutcome text) rule }
+    ensures { text_by_rule_outcome result ≡ with_rule (text_outcome text) rule }
 {
     match text {
         TextAnswer::Refused(number) => TextByRule::Refused(number),
@@ -30,7 +30,7 @@ pub fn to_iso8601_by_arrays<'a>(
     seconds: &'a [i32; 16],
     out: &mut [u8],
 ) -> TextByRule
-    ensures { TextRuleCall (isoTextByRule (rowsIn size months.now seconds.now) utc.0) out.old result out.new }
+    ensures { TextRuleCall (iso_text_by_rule (rows_in size months.now seconds.now) utc.0) out.old result out.new }
 {
     match super::day_of(utc, size, months, seconds) {
         DayAnswer::Refused(number) => TextByRule::Refused(number),
@@ -44,7 +44,7 @@ pub fn to_iso8601_by_arrays<'a>(
 // The date as ISO 8601 text, rounded to the millisecond, at the start of the buffer, and the rule of its day; in a leap second the seconds are 60. Refusals in
 // order: 20 to 22 the table, 6 the parts, 1 the year, 11 the buffer; a refused call writes nothing.
 pub fn to_iso8601(utc: UTC, table: AnnouncedRows, out: &mut [u8]) -> TextByRule
-    ensures { TextRuleCall (onward (table_of table) (λ rows. isoTextByRule rows utc.0)) out.old result out.new }
+    ensures { TextRuleCall (onward (table_of table) (λ rows. iso_text_by_rule rows utc.0)) out.old result out.new }
 {
     let number = leap_table::rows::table_refusal(table);
     if number != 0 {

@@ -1,11 +1,11 @@
 // UTC text with a sign and seven digits for a year that four digits do not hold: ISO 8601's expanded representation.
 ghost use Rattle.std.specs.Prelude.{◌≤◌};
 ghost use Rattle.refusals.specs.Outcome.{onward};
-ghost use Rattle.leap_table.specs.rows.Announced.{rowsIn, table_of};
-ghost use Rattle.utc.specs.text.Expanded.{expandedText};
-ghost use Rattle.utc.specs.iso_texts.IsoText.{nextMidnightTextBy, shownTextBy};
+ghost use Rattle.leap_table.specs.rows.Announced.{rows_in, table_of};
+ghost use Rattle.utc.specs.text.Expanded.{expanded_text};
+ghost use Rattle.utc.specs.iso_texts.IsoText.{next_midnight_text_by, shown_text_by};
 ghost use Rattle.utc.specs.iso_texts.TextCall.{TextCall};
-ghost use Rattle.utc.specs.iso_texts.ByRule.{expandedByRule, TextRuleCall};
+ghost use Rattle.utc.specs.iso_texts.ByRule.{expanded_by_rule, TextRuleCall};
 
 use super::by_rule::with_rule;
 use super::{DayAnswer, TextByRule};
@@ -24,7 +24,7 @@ pub fn to_iso8601_expanded_by_arrays<'a>(
     seconds: &'a [i32; 16],
     out: &mut [u8],
 ) -> TextByRule
-    ensures { TextRuleCall (expandedByRule (rowsIn size months.now seconds.now) utc.0) out.old result out.new }
+    ensures { TextRuleCall (expanded_by_rule (rows_in size months.now seconds.now) utc.0) out.old result out.new }
 {
     match super::day_of(utc, size, months, seconds) {
         DayAnswer::Refused(number) => TextByRule::Refused(number),
@@ -38,7 +38,7 @@ pub fn to_iso8601_expanded_by_arrays<'a>(
 // The date as ISO 8601 text of 23 or 27 bytes, rounded to the millisecond, at the start of the buffer, and the rule of its day. Refusals in order: 20 to 22 the
 // table, 6 the parts, 1 the year, 11 the buffer; a refused call writes nothing.
 pub fn to_iso8601_expanded(utc: UTC, table: AnnouncedRows, out: &mut [u8]) -> TextByRule
-    ensures { TextRuleCall (onward (table_of table) (λ rows. expandedByRule rows utc.0)) out.old result out.new }
+    ensures { TextRuleCall (onward (table_of table) (λ rows. expanded_by_rule rows utc.0)) out.old result out.new }
 {
     let number = leap_table::rows::table_refusal(table);
     if number != 0 {
@@ -55,7 +55,7 @@ pub fn to_iso8601_expanded(utc: UTC, table: AnnouncedRows, out: &mut [u8]) -> Te
 
 fn put_shown(date: CalendarDate, shown: TimeShown, out: &mut [u8]) -> TextAnswer
     requires { (date.month ≤ 12) × (date.day ≤ 31) }
-    ensures { TextCall (shownTextBy expandedText date shown) out.old result out.new }
+    ensures { TextCall (shown_text_by expanded_text date shown) out.old result out.new }
 {
     match shown {
         TimeShown::At(time) => crate::text::put_text_expanded(date, time, out),
@@ -65,7 +65,7 @@ fn put_shown(date: CalendarDate, shown: TimeShown, out: &mut [u8]) -> TextAnswer
 
 fn put_next_midnight(date: CalendarDate, out: &mut [u8]) -> TextAnswer
     requires { (date.month ≤ 12) × (date.day ≤ 31) }
-    ensures { TextCall (nextMidnightTextBy expandedText date) out.old result out.new }
+    ensures { TextCall (next_midnight_text_by expanded_text date) out.old result out.new }
 {
     match calendar::next_calendar_day(date.year, date.month as i32, date.day as i32) {
         NextDay::Refused(number) => TextAnswer::Refused(number),

@@ -1,7 +1,7 @@
 // UTC text with a half millisecond to the even one, in document 01's form.
 ghost use Rattle.refusals.specs.Outcome.{onward};
-ghost use Rattle.leap_table.specs.rows.Announced.{rowsIn, table_of};
-ghost use Rattle.utc.specs.iso_texts.ByRule.{halfEvenByRule, TextRuleCall};
+ghost use Rattle.leap_table.specs.rows.Announced.{rows_in, table_of};
+ghost use Rattle.utc.specs.iso_texts.ByRule.{half_even_by_rule, TextRuleCall};
 
 use super::by_rule::with_rule;
 use super::{DayAnswer, TextByRule, put_shown};
@@ -17,7 +17,7 @@ pub fn to_iso8601_half_even_by_arrays<'a>(
     seconds: &'a [i32; 16],
     out: &mut [u8],
 ) -> TextByRule
-    ensures { TextRuleCall (halfEvenByRule (rowsIn size months.now seconds.now) utc.0) out.old result out.new }
+    ensures { TextRuleCall (half_even_by_rule (rows_in size months.now seconds.now) utc.0) out.old result out.new }
 {
     match super::day_of(utc, size, months, seconds) {
         DayAnswer::Refused(number) => TextByRule::Refused(number),
@@ -31,7 +31,7 @@ pub fn to_iso8601_half_even_by_arrays<'a>(
 // The date as ISO 8601 text, a half millisecond to the even one, at the start of the buffer, and the rule of its day. Refusals in order: 20 to 22 the table, 6
 // the parts, 1 the year, 11 the buffer; a refused call writes nothing.
 pub fn to_iso8601_half_even(utc: UTC, table: AnnouncedRows, out: &mut [u8]) -> TextByRule
-    ensures { TextRuleCall (onward (table_of table) (λ rows. halfEvenByRule rows utc.0)) out.old result out.new }
+    ensures { TextRuleCall (onward (table_of table) (λ rows. half_even_by_rule rows utc.0)) out.old result out.new }
 {
     let number = leap_table::rows::table_refusal(table);
     if number != 0 {

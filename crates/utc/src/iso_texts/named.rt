@@ -1,7 +1,7 @@
 // UTC text by a form of text that is named.
-ghost use Rattle.leap_table.specs.rows.Announced.{rowsIn};
-ghost use Rattle.utc.specs.iso_texts.ByRule.{textByRule, TextRuleCall};
-ghost use Rattle.utc.specs.iso_texts.Named.{formNamed};
+ghost use Rattle.leap_table.specs.rows.Announced.{rows_in};
+ghost use Rattle.utc.specs.iso_texts.ByRule.{text_by_rule, TextRuleCall};
+ghost use Rattle.utc.specs.iso_texts.Named.{form_named};
 
 use super::by_rule::to_iso8601_by_arrays;
 use super::expanded::to_iso8601_expanded_by_arrays;
@@ -18,7 +18,7 @@ pub fn to_text_by_arrays<'a>(
     seconds: &'a [i32; 16],
     out: &mut [u8],
 ) -> TextByRule
-    ensures { TextRuleCall (textByRule (formNamed textForm) (rowsIn size months.now seconds.now) utc.0) out.old result
+    ensures { TextRuleCall (text_by_rule (form_named textForm) (rows_in size months.now seconds.now) utc.0) out.old result
         out.new }
 {
     match textForm {

@@ -1,9 +1,9 @@
 // The day that is kept for the stamps that follow: the characters of its date, its leap and its end. It serves the stamps whose jd1 is its midnight and whose
 // jd2 is from 0.0 to below 1.0, where the text shows a time of the day itself; every other stamp goes to the single call. The time of day is counted as there.
 ghost use Rattle.std.specs.Prelude.{◌≡◌, ◌++◌, ◌<◌, ◌≤◌, length};
-ghost use Rattle.time_of_day.specs.TimeShown.{timeOf};
-ghost use Rattle.leap_table.specs.rows.Announced.{rowsIn};
-ghost use Rattle.utc.specs.iso_texts.Named.{formNamed};
+ghost use Rattle.time_of_day.specs.TimeShown.{time_of};
+ghost use Rattle.leap_table.specs.rows.Announced.{rows_in};
+ghost use Rattle.utc.specs.iso_texts.Named.{form_named};
 ghost use Rattle.utc.specs.run_texts.Kept as K;
 
 use crate::iso_texts::NamedForm;
@@ -46,7 +46,7 @@ pub(crate) fn no_day() -> KeptDay
 }
 
 fn date_bytes(year: u32, month: u32, day: u32) -> [u8; 11]
-    ensures { result ≡ K.dateCharacters year month day }
+    ensures { result ≡ K.date_characters year month day }
 {
     [
         48 + (year / 1000 % 10) as u8,
@@ -86,7 +86,7 @@ fn kept_of(midnight: f64, date: CalendarDate, leap: f64) -> KeptDay
 
 // The day of a midnight, looked up.
 fn look_up<'a>(midnight: f64, size: usize, months: &'a [i32; 16], seconds: &'a [i32; 16]) -> KeptDay
-    ensures { K.RightKept (rowsIn size months.now seconds.now) result }
+    ensures { K.RightKept (rows_in size months.now seconds.now) result }
 {
     let w = floats::nearest_whole(midnight);
     if midnight - w.value == -0.5 {
@@ -113,8 +113,8 @@ pub(crate) fn next_day<'a>(
     months: &'a [i32; 16],
     seconds: &'a [i32; 16],
 ) -> KeptDay
-    requires { K.RightKept (rowsIn size months.now seconds.now) kept }
-    ensures { K.RightKept (rowsIn size months.now seconds.now) result }
+    requires { K.RightKept (rows_in size months.now seconds.now) kept }
+    ensures { K.RightKept (rows_in size months.now seconds.now) result }
 {
     if jd1 == kept.midnight {
         if kept.looked_up {
@@ -135,7 +135,7 @@ pub(crate) fn next_day<'a>(
 // The text of a time of a day that is kept.
 fn day_bytes(d: [u8; 11], millis: u32) -> [u8; 23]
     requires { millis < 86401000 }
-    ensures { result ≡ K.eleven d ++ K.timeCharacters (timeOf millis) }
+    ensures { result ≡ K.eleven d ++ K.time_characters (time_of millis) }
 {
     let minute = crate::shown::minute_of_day(millis);
     let rest = millis - minute * 60000;
@@ -172,7 +172,7 @@ fn day_bytes(d: [u8; 11], millis: u32) -> [u8; 23]
 
 // The milliseconds of a fraction of a day with the leap that counts, by the form of text.
 fn count_of(textForm: NamedForm, fraction: f64, leap: f64) -> u64
-    ensures { result ≡ (formNamed textForm).count fraction leap }
+    ensures { result ≡ (form_named textForm).count fraction leap }
 {
     match textForm {
         NamedForm::Standard => crate::shown::millis_shown(fraction, leap),

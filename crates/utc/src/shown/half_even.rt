@@ -1,8 +1,8 @@
 // The time of day that text shows with halves of a millisecond to the even one, decided on whole numbers where the fraction and the day allow it.
 ghost use Rattle.std.specs.Prelude.{◌≡◌, ◌*◌, ◌≤◌, ◌<◌, false};
-ghost use Rattle.time_of_day.specs.TimeShown.{shownBy};
-ghost use Rattle.time_of_day.specs.HalfEven.{nearestEven, even, gridUnits, worth as worth·of, dayIsWhole, twice, ofHalves, floatCount, inWhole};
-ghost use Rattle.time_of_day.specs.HalfEven.{evenCount};
+ghost use Rattle.time_of_day.specs.TimeShown.{shown_by};
+ghost use Rattle.time_of_day.specs.HalfEven.{nearest_even, even, grid_units, worth as worth·of, day_is_whole, twice, of_halves, float_count, in_whole};
+ghost use Rattle.time_of_day.specs.HalfEven.{even_count};
 
 use time_of_day::TimeShown;
 
@@ -16,7 +16,7 @@ const HALF_BITS: u64 = 67108864;
 
 // The units in a fraction.
 fn grid_units(fraction: f64) -> u64
-    ensures { result ≡ gridUnits fraction }
+    ensures { result ≡ grid_units fraction }
 {
     time_of_day::from_zero(floats::saturating_i64(fraction * TWO_52))
 }
@@ -32,7 +32,7 @@ fn worth(n: u64, x: f64) -> bool
 }
 
 fn whole_seconds(leap: f64) -> bool
-    ensures { result ≡ dayIsWhole leap }
+    ensures { result ≡ day_is_whole leap }
 {
     if leap == 0.0 {
         return true;
@@ -43,7 +43,7 @@ fn whole_seconds(leap: f64) -> bool
 // The nearest whole number, and of two the even one.
 fn nearest_even(whole: u64, rest: u64) -> u64
     requires { whole ≤ 86401000 }
-    ensures { result ≡ nearestEven whole rest 4503599627370496 }
+    ensures { result ≡ nearest_even whole rest 4503599627370496 }
 {
     if rest == UNITS / 2 {
         return whole + whole % 2;
@@ -73,7 +73,7 @@ fn twice_millis(fraction: f64, leap: f64) -> f64
 
 // The nearest millisecond of so many halves, which may not be all.
 fn of_halves(halves: u64, all: bool) -> u64
-    ensures { result ≡ ofHalves halves all }
+    ensures { result ≡ of_halves halves all }
 {
     let whole = halves / 2;
     if halves % 2 == 0 {
@@ -83,7 +83,7 @@ fn of_halves(halves: u64, all: bool) -> u64
 }
 
 fn float_count(fraction: f64, leap: f64) -> u64
-    ensures { result ≡ floatCount fraction leap }
+    ensures { result ≡ float_count fraction leap }
 {
     let product = twice_millis(fraction, leap);
     let halves = time_of_day::from_zero(floats::saturating_i64(product));
@@ -92,8 +92,8 @@ fn float_count(fraction: f64, leap: f64) -> u64
 
 // Whether whole numbers decide: the fraction is its units, and the day has whole seconds.
 fn in_whole(units: u64, fraction: f64, leap: f64) -> bool
-    requires { units ≡ gridUnits fraction }
-    ensures { result ≡ inWhole fraction leap }
+    requires { units ≡ grid_units fraction }
+    ensures { result ≡ in_whole fraction leap }
 {
     if worth(units, fraction * TWO_52) {
         return whole_seconds(leap);
@@ -102,7 +102,7 @@ fn in_whole(units: u64, fraction: f64, leap: f64) -> bool
 }
 
 pub(crate) fn even_count(fraction: f64, leap: f64) -> u64
-    ensures { result ≡ evenCount fraction leap }
+    ensures { result ≡ even_count fraction leap }
 {
     let units = grid_units(fraction);
     if in_whole(units, fraction, leap) {
@@ -114,7 +114,7 @@ pub(crate) fn even_count(fraction: f64, leap: f64) -> u64
 
 // The time of day that the text shows, a half millisecond to the even one.
 pub(crate) fn time_shown_half_even(fraction: f64, leap: f64) -> TimeShown
-    ensures { result ≡ shownBy evenCount fraction leap }
+    ensures { result ≡ shown_by even_count fraction leap }
 {
     let day_leap = super::whole_leap(leap);
     let count = even_count(fraction, day_leap);

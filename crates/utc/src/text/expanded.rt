@@ -1,7 +1,7 @@
 // UTC text with a sign and seven digits for a year that four digits do not hold: ISO 8601's expanded representation.
 ghost use Rattle.std.specs.Prelude.{◌≡◌, ◌++◌, ◌∷◌, cond};
-ghost use Rattle.utc.specs.text.Text.{seven, afterYear};
-ghost use Rattle.utc.specs.text.Expanded.{expandedText};
+ghost use Rattle.utc.specs.text.Text.{seven, after_year};
+ghost use Rattle.utc.specs.text.Expanded.{expanded_text};
 ghost use Rattle.utc.specs.text.Answer.{TextPut};
 
 use crate::text::{TextAnswer, year};
@@ -22,7 +22,7 @@ fn put_signed(
     time: TimeOfDay,
     out: &mut [u8],
 ) -> TextAnswer
-    ensures { TextPut ((cond negative 45 43 ∷ seven size) ++ afterYear date time) out.old result out.new }
+    ensures { TextPut ((cond negative 45 43 ∷ seven size) ++ after_year date time) out.old result out.new }
 {
     let third = year::third(false, size);
     let fourth = year::fourth(false, size);
@@ -38,7 +38,7 @@ fn put_signed(
 
 // The text at the buffer's start, 23 or 27 bytes; where it does not fit, 11 and nothing is written.
 pub fn put_text_expanded(date: CalendarDate, time: TimeOfDay, out: &mut [u8]) -> TextAnswer
-    ensures { TextPut (expandedText date time) out.old result out.new }
+    ensures { TextPut (expanded_text date time) out.old result out.new }
 {
     let negative = year::negative(date.year);
     let size = year::size(date.year);

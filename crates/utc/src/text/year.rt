@@ -1,7 +1,7 @@
 // The year of UTC text: its sign and size, and where its characters stand in seven places.
 ghost use Rattle.std.specs.Prelude.{◌≡◌, not, ◌≤◌, nat_abs};
 ghost use Rattle.std.specs.Int.Signed.{non_neg};
-ghost use Rattle.utc.specs.text.Layout.{basicYear, third as third·of, fourth as fourth·of, skipped as skipped·of};
+ghost use Rattle.utc.specs.text.Layout.{basic_year, third as third·of, fourth as fourth·of, skipped as skipped·of};
 
 pub(crate) fn negative(year: i32) -> bool
     ensures { result ≡ not (non_neg year) }
@@ -22,7 +22,7 @@ pub(crate) fn size(year: i32) -> u32
 
 // Whether four digits and no sign are the whole year.
 pub(crate) fn is_basic(negative: bool, size: u32) -> bool
-    ensures { result ≡ basicYear negative size }
+    ensures { result ≡ basic_year negative size }
 {
     !negative && size < 10000
 }

@@ -10,12 +10,12 @@ use lib.Ieee.{Float, nan, inf, fin, binary64, le, lt}
 use lib.Ieee.Scale.{finite}
 use Rattle.refusals.specs.Outcome.{answer}
 use Rattle.floats.specs.Whole.{abs, one}
-use Rattle.rounding.specs.Value.{Val, Rounds, InUnit, L, plusZ, minusZ}
+use Rattle.rounding.specs.Value.{Val, Rounds, InUnit, L, plus_z, minus_z}
 use Rattle.rounding.proofs.Value.{L-pos, val-move, val-scale, val-unique, abs-val, rounds-move}
 use Rattle.rounding.proofs.Own.{own, own_val}
-use Rattle.rounding.proofs.Compare.{le-says, lt-says, le-show}
-use Rattle.julian.specs.day_number.DayNumber.{accepted, dayNumber, fractionPassed, dayOf}
-use Rattle.julian.specs.day_number.Answer.{dayNumberAndFraction}
+use Rattle.rounding.proofs.Compare.{le_says, lt_says, le_show}
+use Rattle.julian.specs.day_number.DayNumber.{accepted, day_number, fraction_passed, day_of}
+use Rattle.julian.specs.day_number.Answer.{day_number_and_fraction}
 use Rattle.julian.specs.day_number.Ranges.{InDays}
 use Rattle.julian.proofs.day_number.Units.{H, H-L, E, E-L, one-L, nought-L}
 use Rattle.julian.proofs.day_number.JulianRange.{accepts}
@@ -31,10 +31,10 @@ pub record Located (a b : Float) (n : ℕ) : Type 0 where
   pub f : ℕ
   pub second : Val b f 0 L
   pub below : f < L
-  pub given : dayNumberAndFraction a b ≡ answer (dayOf a b)
-  pub in-days : InDays (dayOf a b).day
-  pub day : (dayOf a b).day ≡ pos n
-  pub val : Val (dayOf a b).fraction f 0 L
+  pub given : day_number_and_fraction a b ≡ answer (day_of a b)
+  pub in-days : InDays (day_of a b).day
+  pub day : (day_of a b).day ≡ pos n
+  pub val : Val (day_of a b).fraction f 0 L
 
 is_finite : (x : Float) → InUnit x → T (finite x)
 unfolding le lt
@@ -51,12 +51,12 @@ module _ (n : ℕ) {d : JulianDate} (k : DriftDate n d) where
   b = d.jd2
 
   parts : (f : ℕ) × (Val b f 0 L) × (f < L)
-  parts = go _ _ (own_val b (own b k.second-held (is_finite b k.inside)))
+  parts = go _ _ (own_val b (own b k.second_held (is_finite b k.inside)))
     where
       go : (p m : ℕ) → Val b p m L → (f : ℕ) × (Val b f 0 L) × (f < L)
       go p m v =
-          let l : 0 + m ≤ p + 0 = le-says L-pos nought-L v k.inside.low in
-          let h : p + 0 < L + m = lt-says L-pos v one-L k.inside.high in
+          let l : 0 + m ≤ p + 0 = le_says L-pos nought-L v k.inside.low in
+          let h : p + 0 < L + m = lt_says L-pos v one-L k.inside.high in
           (p - m, val-move v (omega arith), omega arith)
 
   -- the midnight, in units
@@ -71,7 +71,7 @@ module _ (n : ℕ) {d : JulianDate} (k : DriftDate n d) where
       back n g = omega arith
 
   halves : WholeHalves a
-  halves = record { held = k.first-held; halves = pos (2 * n - 1); val = k.midnight }
+  halves = record { held = k.first_held; halves = pos (2 * n - 1); val = k.midnight }
 
   days-high : n * L ≤ 2441316 * L
   days-high = mul-le-mul_right L k.high
@@ -84,10 +84,10 @@ module _ (n : ℕ) {d : JulianDate} (k : DriftDate n d) where
         go x y e h = omega (arith, E-L)
 
     small : T (le (abs b) one)
-    small = le-show L-pos (abs-val v) one-L (omega arith)
+    small = le_show L-pos (abs-val v) one-L (omega arith)
 
     found : Place a b ((2 * n - 1) * H + f) (0 + 0)
-    found = place a b halves k.second-held small taken _ _ _ _ first v
+    found = place a b halves k.second_held small taken _ _ _ _ first v
 
     -- what was rounded is held exactly
     exactly : (tp tn zp zn : ℕ) (z : Float) → Rounds binary64 z ((2 * n - 1) * H + f + H + tn * L) (0 + 0 + tp * L) L → Val z zp zn L
@@ -111,7 +111,7 @@ module _ (n : ℕ) {d : JulianDate} (k : DriftDate n d) where
         same : n + tn ≡ tp → zp + tp * L ≡ zn + (n * L + f + tn * L)
         same e =
             let q : n * L + tn * L ≡ tp * L = sym (add-mul n tn L) ∙ ap (λ (x : ℕ). x * L) e in
-            go (n * L) (tn * L) (tp * L) q (val-unique w (again k.second-held v (rounds-move r (shift ((2 * n - 1) * H) (n * L) (tn * L) (tp * L) noon q))))
+            go (n * L) (tn * L) (tp * L) q (val-unique w (again k.second_held v (rounds-move r (shift ((2 * n - 1) * H) (n * L) (tn * L) (tp * L) noon q))))
           where
             shift : (x y i j : ℕ) → x + H ≡ y → y + i ≡ j → x + f + H + i + 0 ≡ f + (0 + 0 + j)
             shift x y i j e q = omega arith
@@ -143,33 +143,33 @@ module _ (n : ℕ) {d : JulianDate} (k : DriftDate n d) where
             plain x y g h = omega arith
         which false g h = before (h tt)
 
-    sum : plusZ (dayNumber a b) * L + found.units ≡ minusZ (dayNumber a b) * L + (n * L + f)
+    sum : plus_z (day_number a b) * L + found.units ≡ minus_z (day_number a b) * L + (n * L + f)
     sum = go _ _ _ _ _ _ _ found.sum
-        (exactly found.tp found.tn found.zp found.zn found.z found.rounds found.z-val found.low found.high)
+        (exactly found.tp found.tn found.zp found.zn found.z found.rounds found.z_val found.low found.high)
       where
         go : (d e u zn tn zp tp : ℕ) → d + u + (zn + tn) ≡ e + (zp + tp) → zp + tp ≡ zn + (n * L + f + tn) → d + u ≡ e + (n * L + f)
         go d e u zn tn zp tp p q = omega arith
 
-    pub located-at : Located a b n
-    unfolding dayOf
-    located-at =
+    pub located_at : Located a b n
+    unfolding day_of
+    located_at =
         let below = plain found.units
-        (lt-says L-pos found.val one-L (fraction-range a b k.first-held k.second-held (dayOf a b) (answered a b taken)).high) in
-        let r = only (dayNumber a b) found.units below sum in
+        (lt_says L-pos found.val one-L (fraction-range a b k.first_held k.second_held (day_of a b) (answered a b taken)).high) in
+        let r = only (day_number a b) found.units below sum in
         record {
           f = f;
           second = v;
           below = l;
           given = answered a b taken;
-          in-days = day-range a b k.first-held k.second-held (dayOf a b) (answered a b taken);
+          in-days = day-range a b k.first_held k.second_held (day_of a b) (answered a b taken);
           day = r.0;
-          val = subst (λ (u : ℕ). Val (fractionPassed a b) u 0 L) r.1 found.val;
+          val = subst (λ (u : ℕ). Val (fraction_passed a b) u 0 L) r.1 found.val;
         }
       where
         plain : (u : ℕ) → u + 0 < L + 0 → u < L
         plain u h = omega arith
 
-        only : (z : ℤ) (u : ℕ) → u < L → plusZ z * L + u ≡ minusZ z * L + (n * L + f) → (z ≡ pos n) × (u ≡ f)
+        only : (z : ℤ) (u : ℕ) → u < L → plus_z z * L + u ≡ minus_z z * L + (n * L + f) → (z ≡ pos n) × (u ≡ f)
         only (negsuc m) u h e = let x : suc m * L ≡ L + m * L = ap (λ (x : ℕ). x * L) (one_more m) ∙ add-mul 1 m L
             ∙ ap (λ (x : ℕ). x + m * L) (one-mul L) in absurd (no (suc m * L) (m * L) (n * L) (0 * L) (zero-mul L) x e)
           where
@@ -207,4 +207,4 @@ module _ (n : ℕ) {d : JulianDate} (k : DriftDate n d) where
                 under x y e = omega arith
 
   pub located : Located a b n
-  located = let (f, v, l) = parts in located-at f v l
+  located = let (f, v, l) = parts in located_at f v l

@@ -14,18 +14,18 @@ use mir.Facts.{to_z-of_z}
 use borrow.Author.Tests.{leb-true}
 use Rattle.refusals.specs.Outcome.{Outcome, answer, refusal}
 use Rattle.floats.specs.Whole.{nought}
-use Rattle.calendar.specs.Calendar.{daysInMonth}
-use Rattle.calendar.specs.Refusals.{validDate}
-use Rattle.calendar.specs.Gregorian.{gregorianDate}
-use Rattle.calendar.proofs.Years.{valid_of, gregorian-in-range, gregorian-refusal}
+use Rattle.calendar.specs.Calendar.{days_in_month}
+use Rattle.calendar.specs.Refusals.{valid_date}
+use Rattle.calendar.specs.Gregorian.{gregorian_date}
+use Rattle.calendar.proofs.Years.{valid_of, gregorian_in_range, gregorian_refusal}
 use Rattle.calendar.proofs.Mjd.{mjd-given}
-use Rattle.leap_table.specs.rows.Table.{monthNumber}
-use Rattle.leap_table.specs.rows.Announced.{rowsIn}
-use Rattle.leap_table.specs.offsets.Offset.{offsetAt}
+use Rattle.leap_table.specs.rows.Table.{month_number}
+use Rattle.leap_table.specs.rows.Announced.{rows_in}
+use Rattle.leap_table.specs.offsets.Offset.{offset_at}
 use Rattle.leap_table.proofs.offsets.ByParts.{seconds-reached}
-use Rattle.leap_table.proofs.offsets.Offsets.{in-day-zero, offset-given, offset-came}
+use Rattle.leap_table.proofs.offsets.Offsets.{in_day_zero, offset-given, offset-came}
 use Rattle.utc_scales.specs.declared.from_ut1.months.KnownMonth.{KnownMonth}
-use Rattle.utc_scales.specs.days.Dates.{offsetAt0h}
+use Rattle.utc_scales.specs.days.Dates.{offset_at0h}
 use Rattle.utc_scales.specs.from_ut1.KnownMonths.{RightMonth}
 
 -- equal bits are equal years
@@ -33,48 +33,48 @@ pub same_bits : (a b : ℤ) → SFits w32 a → SFits w32 b → of_z w32 a ≡ o
 same_bits a b f g e = sym (to_z-of_z f) ∙ ap (to_z w32) e ∙ to_z-of_z g
 
 -- ---- a date of 1972 or later is not refused
-not-early : (y : ℤ) → le_z (pos 1972) y ≡ true → lt_z y (negsuc 4798) ≡ false
-not-early (pos y) e = refl
-not-early (negsuc y) e = let z : ◌≡◌ {A = ℕ} 0 1 = cc in absurd (omega arith)
+not_early : (y : ℤ) → le_z (pos 1972) y ≡ true → lt_z y (negsuc 4798) ≡ false
+not_early (pos y) e = refl
+not_early (negsuc y) e = let z : ◌≡◌ {A = ℕ} 0 1 = cc in absurd (omega arith)
 
-not-one : (y m d : ℤ) → lt_z y (negsuc 4798) ≡ false → validDate y m d ≡ refusal 1 → ⊥
-unfolding validDate
-not-one y m d e v = go (lt_z m (pos 1) || lt_z (pos 12) m) (lt_z d (pos 1) || lt_z (pos (daysInMonth y m)) d)
+not_one : (y m d : ℤ) → lt_z y (negsuc 4798) ≡ false → valid_date y m d ≡ refusal 1 → ⊥
+unfolding valid_date
+not_one y m d e v = go (lt_z m (pos 1) || lt_z (pos 12) m) (lt_z d (pos 1) || lt_z (pos (days_in_month y m)) d)
     (sym (ap (λ (b : Bool). cond b (refusal 1)
-    (cond (lt_z m (pos 1) || lt_z (pos 12) m) (refusal 2) (cond (lt_z d (pos 1) || lt_z (pos (daysInMonth y m)) d) (refusal 3) (answer tt)))) e) ∙ v)
+    (cond (lt_z m (pos 1) || lt_z (pos 12) m) (refusal 2) (cond (lt_z d (pos 1) || lt_z (pos (days_in_month y m)) d) (refusal 3) (answer tt)))) e) ∙ v)
   where
     go : (b c : Bool) → ◌≡◌ {A = Outcome Unit} (cond b (refusal 2) (cond c (refusal 3) (answer tt))) (refusal 1) → ⊥
     go true c v = let z : ◌≡◌ {A = ℕ} 2 1 = cc in absurd (omega arith)
     go false true v = let z : ◌≡◌ {A = ℕ} 3 1 = cc in absurd (omega arith)
     go false false v = let z : ◌≡◌ {A = ℕ} 0 1 = cc in absurd (omega arith)
 
-valid-late : (n : ℤ) → le_z (pos 1972) (gregorianDate n).year ≡ true → valid_of (gregorianDate n) ≡ answer tt
-valid-late n e = go (gregorian-refusal n)
+valid_late : (n : ℤ) → le_z (pos 1972) (gregorian_date n).year ≡ true → valid_of (gregorian_date n) ≡ answer tt
+valid_late n e = go (gregorian_refusal n)
   where
-    go : (valid_of (gregorianDate n) ≡ answer tt) ⊎ (valid_of (gregorianDate n) ≡ refusal 1) → valid_of (gregorianDate n) ≡ answer tt
+    go : (valid_of (gregorian_date n) ≡ answer tt) ⊎ (valid_of (gregorian_date n) ≡ refusal 1) → valid_of (gregorian_date n) ≡ answer tt
     go (inl v) = v
-    go (inr v) = absurd (not-one (gregorianDate n).year (pos (gregorianDate n).month) (pos (gregorianDate n).day) (not-early (gregorianDate n).year e) v)
+    go (inr v) = absurd (not_one (gregorian_date n).year (pos (gregorian_date n).month) (pos (gregorian_date n).day) (not_early (gregorian_date n).year e) v)
 
-late : (y : ℤ) (m : ℕ) → le_z (pos 1972) y ≡ true → 1 ≤ m → 23664 ≤ monthNumber y m
-unfolding monthNumber
+late : (y : ℤ) (m : ℕ) → le_z (pos 1972) y ≡ true → 1 ≤ m → 23664 ≤ month_number y m
+unfolding month_number
 late (pos y) m p h = omega (arith, leb-true 1972 y p)
 late (negsuc y) m p h = let z : ◌≡◌ {A = ℕ} 0 1 = cc in absurd (omega arith)
 
 -- ---- the offset of the day of number a is that of its month
 module _ (size : ℕ) (m s : List ℤ) where
-  same-offset : (n : ℕ) → 23664 ≤ n → (x y : Float) → offsetAt (rowsIn size m s) n x nought ≡ offsetAt (rowsIn size m s) n y nought
+  same-offset : (n : ℕ) → 23664 ≤ n → (x y : Float) → offset_at (rows_in size m s) n x nought ≡ offset_at (rows_in size m s) n y nought
   same-offset n h x y = sym (seconds-reached size m s n _ h refl _ refl x nought) ∙ seconds-reached size m s n _ h refl _ refl y nought
 
-  pub month-right : (a : ℤ) (k : KnownMonth) → k.year ≡ (gregorianDate a).year → k.month ≡ (gregorianDate a).month
-      → offsetAt0h (rowsIn size m s) (gregorianDate a) ≡ answer k.seconds → RightMonth (rowsIn size m s) k
-  unfolding RightMonth offsetAt0h
+  pub month-right : (a : ℤ) (k : KnownMonth) → k.year ≡ (gregorian_date a).year → k.month ≡ (gregorian_date a).month
+      → offset_at0h (rows_in size m s) (gregorian_date a) ≡ answer k.seconds → RightMonth (rows_in size m s) k
+  unfolding RightMonth offset_at0h
   month-right a k ey em e n fy fm l =
-      let t = gregorianDate n in
-      let u = gregorianDate a in
+      let t = gregorian_date n in
+      let u = gregorian_date a in
       let lt : le_z (pos 1972) t.year ≡ true = ap (le_z (pos 1972)) fy ∙ l in
-      let same : monthNumber t.year t.month ≡ monthNumber u.year u.month = (λ i. monthNumber ((fy ∙ ey) i) ((fm ∙ em) i)) in
-      let (z, p, q) = offset-came (rowsIn size m s) u.year (pos u.month) (pos u.day) nought k.seconds e in
-      offset-given (rowsIn size m s) t.year (pos t.month) (pos t.day) nought in-day-zero _
-      (mjd-given t.year (pos t.month) (pos t.day) (valid-late n lt))
-      ∙ ap answer (same-offset (monthNumber t.year t.month) (late t.year t.month lt (gregorian-in-range n).month-low) _ (of_int binary64 z)
-      ∙ ap (λ (w : ℕ). offsetAt (rowsIn size m s) w (of_int binary64 z) nought) same ∙ sym q)
+      let same : month_number t.year t.month ≡ month_number u.year u.month = (λ i. month_number ((fy ∙ ey) i) ((fm ∙ em) i)) in
+      let (z, p, q) = offset-came (rows_in size m s) u.year (pos u.month) (pos u.day) nought k.seconds e in
+      offset-given (rows_in size m s) t.year (pos t.month) (pos t.day) nought in_day_zero _
+      (mjd-given t.year (pos t.month) (pos t.day) (valid_late n lt))
+      ∙ ap answer (same-offset (month_number t.year t.month) (late t.year t.month lt (gregorian_in_range n).month-low) _ (of_int binary64 z)
+      ∙ ap (λ (w : ℕ). offset_at (rows_in size m s) w (of_int binary64 z) nought) same ∙ sym q)

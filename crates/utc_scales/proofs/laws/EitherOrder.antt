@@ -7,14 +7,14 @@ use native.Mathlib.Omega.{arith}
 use lib.Dec.{ltb}
 use lib.Ieee.{Float, nan, inf, fin, Format, binary64, up, down, round, sum, add}
 use borrow.Author.Tests.{ltb-true, ltb-false}
-use Rattle.julian.specs.day_number.DayNumber.{inJulianRange, accepted}
+use Rattle.julian.specs.day_number.DayNumber.{in_julian_range, accepted}
 use Rattle.julian.specs.declared.JulianDate.{JulianDate}
-use Rattle.utc_scales.specs.days.LargerPart.{firstIsKept, keptAs, keptParts}
+use Rattle.utc_scales.specs.days.LargerPart.{first_is_kept, kept_as, kept_parts}
 
 -- -a / c + b / c
-unlike-turned : (f : Format) (a b c : ℕ) → sum f true a false b c ≡ sum f false b true a c
+unlike_turned : (f : Format) (a b c : ℕ) → sum f true a false b c ≡ sum f false b true a c
 unfolding sum
-unlike-turned f a b c = go (ltb a b) refl (ltb b a) refl
+unlike_turned f a b c = go (ltb a b) refl (ltb b a) refl
   where
     both : a < b → b < a → ⊥
     both h k = omega arith
@@ -33,8 +33,8 @@ sum-turned : (f : Format) (s t : Bool) (a b c : ℕ) → sum f s a t b c ≡ sum
 unfolding sum
 sum-turned f true true a b c = ap (λ (n : ℕ). round f true n c) (add_comm a b)
 sum-turned f false false a b c = ap (λ (n : ℕ). round f false n c) (add_comm a b)
-sum-turned f true false a b c = unlike-turned f a b c
-sum-turned f false true a b c = sym (unlike-turned f b a c)
+sum-turned f true false a b c = unlike_turned f a b c
+sum-turned f false true a b c = sym (unlike_turned f b a c)
 
 pub add_turned : (f : Format) (x y : Float) → add f x y ≡ add f y x
 unfolding add
@@ -54,10 +54,10 @@ add_turned f (fin s m e) (fin t n d) =
     ∙ ap (λ (c : ℕ). sum f t (n * up d * down e) s (m * up e * down d) c) (mul_comm (down e) (down d))
 
 -- the larger part first, or jd1 first
-pub accepted-either : (d : JulianDate) → accepted (keptParts d).larger (keptParts d).smaller ≡ accepted d.jd1 d.jd2
-unfolding keptParts accepted
-accepted-either d = go (firstIsKept d)
+pub accepted-either : (d : JulianDate) → accepted (kept_parts d).larger (kept_parts d).smaller ≡ accepted d.jd1 d.jd2
+unfolding kept_parts accepted
+accepted-either d = go (first_is_kept d)
   where
-    go : (b : Bool) → inJulianRange (add binary64 (keptAs d b).larger (keptAs d b).smaller) ≡ inJulianRange (add binary64 d.jd1 d.jd2)
+    go : (b : Bool) → in_julian_range (add binary64 (kept_as d b).larger (kept_as d b).smaller) ≡ in_julian_range (add binary64 d.jd1 d.jd2)
     go true = refl
-    go false = ap inJulianRange (add_turned binary64 d.jd2 d.jd1)
+    go false = ap in_julian_range (add_turned binary64 d.jd2 d.jd1)

@@ -9,7 +9,7 @@ use native.Mathlib.Nat.{le_trans, mul-le-mul_right}
 use lib.Dec.{lit≤}
 use lib.IntN.{pos}
 use lib.Ieee.{Float, binary64}
-use lib.Ieee.Fits.{add-fits, sub-fits}
+use lib.Ieee.Fits.{add-fits, sub_fits}
 use lib.Ieee.Scale.{finite}
 use Rattle.refusals.specs.Outcome.{answer}
 use Rattle.rounding.specs.Value.{L}
@@ -17,7 +17,7 @@ use Rattle.rounding.proofs.Value.{L-is, val-finite-true}
 use Rattle.rounding.proofs.Own.{own, own_val}
 use Rattle.rounding.proofs.Bound.{within_more}
 use Rattle.rounding.proofs.Sizes.{Size}
-use Rattle.julian.specs.day_number.DayNumber.{accepted, dayOf}
+use Rattle.julian.specs.day_number.DayNumber.{accepted, day_of}
 use Rattle.julian.specs.day_number.Ranges.{InDays}
 use Rattle.julian.proofs.day_number.JulianRange.{accepted-finite}
 use Rattle.julian.specs.declared.JulianDate.{JulianDate}
@@ -27,15 +27,15 @@ use Rattle.leap_table.specs.rows.Table.{Row, fixed}
 use Rattle.leap_table.specs.rows.Announced.{table_of}
 use Rattle.leap_table.proofs.rows.NoRows.{none-announced, fixed-taken}
 use Rattle.scales.specs.laws.Ranges.{Held, FiniteParts}
-use Rattle.scales.proofs.laws.Shifts.{Small, added, taken-from, zero-point-small}
-use Rattle.utc_scales.specs.days.LargerPart.{keptParts, besideAs, putBeside, placed, changeSmaller}
-use Rattle.utc_scales.specs.days.Dates.{offsetsOf}
-use Rattle.utc_scales.specs.UtcTai.{taiFromMidnight, taiFraction, utcToTai}
+use Rattle.scales.proofs.laws.Shifts.{Small, added, taken-from, zero_point_small}
+use Rattle.utc_scales.specs.days.LargerPart.{kept_parts, beside_as, put_beside, placed, change_smaller}
+use Rattle.utc_scales.specs.days.Dates.{offsets_of}
+use Rattle.utc_scales.specs.UtcTai.{tai_from_midnight, tai_fraction, utc_to_tai}
 use Rattle.utc_scales.specs.laws.Claims.{Holds, answers, SixOrOne, Fits}
-use Rattle.utc_scales.proofs.days.Midnights.{midnightOfDay, offsets-early}
+use Rattle.utc_scales.proofs.days.Midnights.{midnight_of_day, offsets-early}
 use Rattle.utc_scales.proofs.Steps.{tai-no-date, tai-no-offsets, tai-of-day}
 use Rattle.utc_scales.proofs.laws.Outcomes.{holds-answer, holds-refusal, holds-onward}
-use Rattle.utc_scales.proofs.laws.Days.{dateIn, Kind, outside, before, valid, kind, offsets-answered}
+use Rattle.utc_scales.proofs.laws.Days.{date_in, Kind, outside, before, valid, kind, offsets-answered}
 use Rattle.utc_scales.proofs.laws.Refusals.{parts-fit}
 use Rattle.utc_scales.proofs.laws.OffsetSizes.{Offsets, offsets-size}
 use Rattle.utc_scales.proofs.laws.DaySizes.{midnight-size, since-midnight-size}
@@ -53,48 +53,48 @@ kept-finite : (x y : Float) → Fits x → accepted x y ≡ true → finite x �
 kept-finite x y f a = val-finite-true (own_val x (own x f (accepted-finite x y a).0))
 
 -- ---- the smaller part
-from-midnight-finite : (x y : Float) → Fits x → Fits y → accepted x y ≡ true → InDays (dayOf x y).day → (o : DayOffsets) → Offsets o
-    → finite (taiFromMidnight x (midnightOfDay (dayOf x y).day) o (dayOf x y).fraction) ≡ true
-unfolding taiFromMidnight
+from-midnight-finite : (x y : Float) → Fits x → Fits y → accepted x y ≡ true → InDays (day_of x y).day → (o : DayOffsets) → Offsets o
+    → finite (tai_from_midnight x (midnight_of_day (day_of x y).day) o (day_of x y).fraction) ≡ true
+unfolding tai_from_midnight
 from-midnight-finite x y f g a r o z =
     added (size_small 37 (lit≤ tt) (since-midnight-size x y f g a o z)) _ (add-fits binary64 _ _)
-    (added (size_small 31 (lit≤ tt) (midnight-size (dayOf x y).day r)) _ (sub-fits binary64 _ _) (taken-from zero-point-small x f (kept-finite x y f a)))
+    (added (size_small 31 (lit≤ tt) (midnight-size (day_of x y).day r)) _ (sub_fits binary64 _ _) (taken-from zero_point_small x f (kept-finite x y f a)))
 
 -- x is finite, and so is the other part in TAI
 record Both (x z : Float) : Type 0 where
   kept : finite x ≡ true
   given : finite z ≡ true
 
-put-finite : (d : JulianDate) (x : Float) → Both (keptParts d).larger x → FiniteParts (putBeside (keptParts d) x)
-unfolding putBeside
-put-finite d x h = go (keptParts d).first
+put-finite : (d : JulianDate) (x : Float) → Both (kept_parts d).larger x → FiniteParts (put_beside (kept_parts d) x)
+unfolding put_beside
+put-finite d x h = go (kept_parts d).first
   where
-    go : (b : Bool) → FiniteParts (besideAs b (keptParts d).larger x)
+    go : (b : Bool) → FiniteParts (beside_as b (kept_parts d).larger x)
     go true = (h.kept, h.given)
     go false = (h.given, h.kept)
 
 -- ---- THE THEOREM, of every table that is taken
 module _ (t : AnnouncedRows) (rows : List Row) (taken : table_of t ≡ answer rows) where
-  tai-finite : (x y : Float) → Fits x → Fits y → Holds (Both x) SixOrOne (taiFraction rows x y)
-  unfolding offsetsOf
+  tai-finite : (x y : Float) → Fits x → Fits y → Holds (Both x) SixOrOne (tai_fraction rows x y)
+  unfolding offsets_of
   tai-finite x y f g = go (kind x y f g)
     where
-      go : Kind x y → Holds (Both x) SixOrOne (taiFraction rows x y)
+      go : Kind x y → Holds (Both x) SixOrOne (tai_fraction rows x y)
       go (outside a e) = holds-refusal 6 (tai-no-date x y 6 e rows) (inl refl)
-      go (before a e b v) = holds-refusal 1 (tai-no-offsets rows x y (dayOf x y) e 1 (offsets-early rows (dayOf x y).day v)) (inr refl)
+      go (before a e b v) = holds-refusal 1 (tai-no-offsets rows x y (day_of x y) e 1 (offsets-early rows (day_of x y).day v)) (inr refl)
       go (valid a e b v r) =
-          let s = dateIn x y in
-          let o = offsets-answered rows (dayOf x y).day v in
+          let s = date_in x y in
+          let o = offsets-answered rows (day_of x y).day v in
           let z = offsets-size t rows taken s.year (pos s.month) (pos s.day) o.0 o.1 in
-          holds-answer _ (tai-of-day rows x y (dayOf x y) e r o.0 o.1)
+          holds-answer _ (tai-of-day rows x y (day_of x y) e r o.0 o.1)
           (record { kept = kept-finite x y f a; given = from-midnight-finite x y f g a r o.0 z })
 
-  pub table-utc-to-tai-never-infinite : (d : JulianDate) → Held d → Holds FiniteParts SixOrOne (utcToTai rows d)
-  unfolding utcToTai changeSmaller placed
+  pub table-utc-to-tai-never-infinite : (d : JulianDate) → Held d → Holds FiniteParts SixOrOne (utc_to_tai rows d)
+  unfolding utc_to_tai change_smaller placed
   table-utc-to-tai-never-infinite d h =
       let p = parts-fit d h in
-      holds-onward _ (tai-finite (keptParts d).larger (keptParts d).smaller p.0 p.1) (λ x w. answers (put-finite d x w))
+      holds-onward _ (tai-finite (kept_parts d).larger (kept_parts d).smaller p.0 p.1) (λ x w. answers (put-finite d x w))
 
 -- of the fixed one
-pub utc-to-tai-never-infinite : (d : JulianDate) → Held d → Holds FiniteParts SixOrOne (utcToTai fixed d)
+pub utc-to-tai-never-infinite : (d : JulianDate) → Held d → Holds FiniteParts SixOrOne (utc_to_tai fixed d)
 utc-to-tai-never-infinite = table-utc-to-tai-never-infinite none-announced fixed fixed-taken

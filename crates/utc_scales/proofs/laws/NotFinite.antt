@@ -12,18 +12,18 @@ use Rattle.julian.proofs.day_number.Answer.{refused}
 use Rattle.julian.proofs.day_number.JulianRange.{accepted-finite}
 use Rattle.julian.specs.declared.JulianDate.{JulianDate}
 use Rattle.julian.specs.JulianDate.{julian}
-use Rattle.julian.specs.Finite.{bothFinite, finiteParts, finiteJd, finiteArg}
+use Rattle.julian.specs.Finite.{both_finite, finite_parts, finite_jd, finite_arg}
 use Rattle.leap_table.specs.rows.Table.{Row}
 use Rattle.refusals.proofs.Onward.{went, stopped}
-use Rattle.utc_scales.specs.days.LargerPart.{firstIsKept, keptAs, keptParts, changeSmaller}
-use Rattle.utc_scales.specs.UtcTai.{utcToTai, refined, rounds, refineUtcFraction, taiToUtc}
-use Rattle.utc_scales.specs.to_ut1.UtcUt1.{utcToUt1}
-use Rattle.utc_scales.specs.from_ut1.Ut1Utc.{ut1ToUtc}
+use Rattle.utc_scales.specs.days.LargerPart.{first_is_kept, kept_as, kept_parts, change_smaller}
+use Rattle.utc_scales.specs.UtcTai.{utc_to_tai, refined, rounds, refine_utc_fraction, tai_to_utc}
+use Rattle.utc_scales.specs.to_ut1.UtcUt1.{utc_to_ut1}
+use Rattle.utc_scales.specs.from_ut1.Ut1Utc.{ut1_to_utc}
 use Rattle.utc_scales.proofs.Steps.{tai-no-date}
 
 -- a pair that passes the range test is finite
-not-accepted : (x y : Float) → bothFinite x y ≡ false → accepted x y ≡ false
-not-accepted x y e = go (accepted x y) refl
+not_accepted : (x y : Float) → both_finite x y ≡ false → accepted x y ≡ false
+not_accepted x y e = go (accepted x y) refl
   where
     both : (a b : Bool) → T a → T b → (a && b) ≡ false → ⊥
     both true true f g h = subst T h tt
@@ -40,43 +40,43 @@ turned true false = refl
 turned false true = refl
 turned false false = refl
 
-parts-not : (d : JulianDate) → finiteParts d ≡ false → bothFinite (keptParts d).larger (keptParts d).smaller ≡ false
-unfolding keptParts
-parts-not d e = go (firstIsKept d)
+parts-not : (d : JulianDate) → finite_parts d ≡ false → both_finite (kept_parts d).larger (kept_parts d).smaller ≡ false
+unfolding kept_parts
+parts-not d e = go (first_is_kept d)
   where
-    go : (b : Bool) → bothFinite (keptAs d b).larger (keptAs d b).smaller ≡ false
+    go : (b : Bool) → both_finite (kept_as d b).larger (kept_as d b).smaller ≡ false
     go true = e
     go false = turned (finite d.jd1) (finite d.jd2) ∙ e
 
-pub utc-to-tai-not-finite : (rows : List Row) (d : JulianDate) → finiteParts d ≡ false → utcToTai rows d ≡ refusal 6
-unfolding utcToTai changeSmaller
+pub utc-to-tai-not-finite : (rows : List Row) (d : JulianDate) → finite_parts d ≡ false → utc_to_tai rows d ≡ refusal 6
+unfolding utc_to_tai change_smaller
 utc-to-tai-not-finite rows d e = let p =
-    keptParts d in stopped _ (tai-no-date p.larger p.smaller 6
-    (refused p.larger p.smaller (not-accepted p.larger p.smaller (parts-not d e))) rows)
+    kept_parts d in stopped _ (tai-no-date p.larger p.smaller 6
+    (refused p.larger p.smaller (not_accepted p.larger p.smaller (parts-not d e))) rows)
 
-pub tai-to-utc-not-finite : (rows : List Row) (d : JulianDate) → finiteParts d ≡ false → taiToUtc rows d ≡ refusal 6
-unfolding taiToUtc changeSmaller refineUtcFraction rounds refined
+pub tai-to-utc-not-finite : (rows : List Row) (d : JulianDate) → finite_parts d ≡ false → tai_to_utc rows d ≡ refusal 6
+unfolding tai_to_utc change_smaller refine_utc_fraction rounds refined
 tai-to-utc-not-finite rows d e = let p =
-    keptParts d in stopped _ (stopped _ (stopped _ (utc-to-tai-not-finite rows (julian p.larger p.smaller) (parts-not d e))))
+    kept_parts d in stopped _ (stopped _ (stopped _ (utc-to-tai-not-finite rows (julian p.larger p.smaller) (parts-not d e))))
 
 -- ---- DUT1
-offset-finite : (x : Float) (b : Bool) → finite x ≡ b → finiteArg x ≡ cond b (answer x) (refusal 10)
-unfolding finiteArg
+offset-finite : (x : Float) (b : Bool) → finite x ≡ b → finite_arg x ≡ cond b (answer x) (refusal 10)
+unfolding finite_arg
 offset-finite x b e = rw e
 
 module _ (rows : List Row) (d : JulianDate) (dut1 : Float) where
-  pub utc-to-ut1-no-offset : finite dut1 ≡ false → utcToUt1 rows d dut1 ≡ refusal 10
-  unfolding utcToUt1
+  pub utc-to-ut1-no-offset : finite dut1 ≡ false → utc_to_ut1 rows d dut1 ≡ refusal 10
+  unfolding utc_to_ut1
   utc-to-ut1-no-offset e = stopped _ (offset-finite dut1 false e)
 
-  pub ut1-to-utc-no-offset : finite dut1 ≡ false → ut1ToUtc rows d dut1 ≡ refusal 10
-  unfolding ut1ToUtc
+  pub ut1-to-utc-no-offset : finite dut1 ≡ false → ut1_to_utc rows d dut1 ≡ refusal 10
+  unfolding ut1_to_utc
   ut1-to-utc-no-offset e = stopped _ (offset-finite dut1 false e)
 
-  pub utc-to-ut1-not-finite : finite dut1 ≡ true → finiteParts d ≡ false → utcToUt1 rows d dut1 ≡ refusal 6
-  unfolding utcToUt1
+  pub utc-to-ut1-not-finite : finite dut1 ≡ true → finite_parts d ≡ false → utc_to_ut1 rows d dut1 ≡ refusal 6
+  unfolding utc_to_ut1
   utc-to-ut1-not-finite e h = went _ (offset-finite dut1 true e) ∙ stopped _ (utc-to-tai-not-finite rows d h)
 
-  pub ut1-to-utc-not-finite : finite dut1 ≡ true → finiteParts d ≡ false → ut1ToUtc rows d dut1 ≡ refusal 9
-  unfolding ut1ToUtc finiteJd
+  pub ut1-to-utc-not-finite : finite dut1 ≡ true → finite_parts d ≡ false → ut1_to_utc rows d dut1 ≡ refusal 9
+  unfolding ut1_to_utc finite_jd
   ut1-to-utc-not-finite e h = went _ (offset-finite dut1 true e) ∙ stopped _ (ap (λ (b : Bool). cond b (answer d) (refusal 9)) h)

@@ -9,17 +9,17 @@ use Rattle.constants.specs.Constants.{decimal}
 use Rattle.julian.specs.declared.JulianDate.{JulianDate}
 use Rattle.julian.specs.JulianDate.{julian}
 use Rattle.leap_table.specs.rows.Table.{fixed}
-use Rattle.utc_scales.specs.laws.Twenty.{Twenty, utc-tai, tai-utc, utc-ut1, ut1-utc, answerOfAny}
-use Rattle.utc_scales.proofs.laws.Computed.{computed, as-computed}
+use Rattle.utc_scales.specs.laws.Twenty.{Twenty, utc_tai, tai_utc, utc-ut1, ut1-utc, answer_of_any}
+use Rattle.utc_scales.proofs.laws.Computed.{computed, as_computed}
 
 abbrev bits : ℕ → Float
 bits n = of_bits binary64 n
 
 abbrev Gives : Twenty → JulianDate → JulianDate → Type 0
-Gives c d x = answerOfAny fixed c d ≡ answer x
+Gives c d x = answer_of_any fixed c d ≡ answer x
 
 given : (c : Twenty) (d x : JulianDate) → computed fixed c d ≡ answer x → Gives c d x
-given c d x e = as-computed fixed c d ∙ e
+given c d x e = as_computed fixed c d ∙ e
 
 -- ---- on equal sizes jd2 changes: the midnight of 2017-01-01 in two halves
 abbrev halves : JulianDate
@@ -32,43 +32,43 @@ beside n = julian (decimal 122887725 2) (bits n)
 abbrev quarter : Float
 quarter = decimal 25 2
 
-pub tie-utc-tai : Gives utc-tai halves (beside 0x4132_c04d_401c_10b0)
+pub tie_utc_tai : Gives utc_tai halves (beside 0x4132_c04d_401c_10b0)
 unfolding computed round of_bits
-tie-utc-tai = given utc-tai halves (beside 0x4132_c04d_401c_10b0) refl
+tie_utc_tai = given utc_tai halves (beside 0x4132_c04d_401c_10b0) refl
 
-pub tie-tai-utc : Gives tai-utc halves (beside 0x4132_c04d_3fe3_ef65)
+pub tie_tai_utc : Gives tai_utc halves (beside 0x4132_c04d_3fe3_ef65)
 unfolding computed round of_bits
-tie-tai-utc = given tai-utc halves (beside 0x4132_c04d_3fe3_ef65) refl
+tie_tai_utc = given tai_utc halves (beside 0x4132_c04d_3fe3_ef65) refl
 
-pub tie-ut1-utc : Gives (ut1-utc quarter) halves (beside 0x4132_c04d_3fff_cf75)
+pub tie_ut1_utc : Gives (ut1-utc quarter) halves (beside 0x4132_c04d_3fff_cf75)
 unfolding computed round of_bits
-tie-ut1-utc = given (ut1-utc quarter) halves (beside 0x4132_c04d_3fff_cf75) refl
+tie_ut1_utc = given (ut1-utc quarter) halves (beside 0x4132_c04d_3fff_cf75) refl
 
 -- UTC to UT1 goes through TAI, where jd2 is then the larger part, so that jd1 changes too
-pub tie-utc-ut1 : Gives (utc-ut1 quarter) halves (julian (bits 0x4132_c04d_3fe4_1fdc) (bits 0x4132_c04d_401c_10b0))
+pub tie_utc_ut1 : Gives (utc-ut1 quarter) halves (julian (bits 0x4132_c04d_3fe4_1fdc) (bits 0x4132_c04d_401c_10b0))
 unfolding computed round of_bits
-tie-utc-ut1 = given (utc-ut1 quarter) halves (julian (bits 0x4132_c04d_3fe4_1fdc) (bits 0x4132_c04d_401c_10b0)) refl
+tie_utc_ut1 = given (utc-ut1 quarter) halves (julian (bits 0x4132_c04d_3fe4_1fdc) (bits 0x4132_c04d_401c_10b0)) refl
 
 -- ---- 2016-12-31, a day of 86,401 s: at its noon 43,200.5 s have passed, so that TAI is 36.5 s later
 abbrev last-of-2016 : Float → JulianDate
 last-of-2016 x = julian (decimal 24577535 1) x
 
-pub leap-noon : Gives utc-tai (last-of-2016 (decimal 5 1)) (last-of-2016 (bits 0x3fe0_0375_f31a_ed6a))
+pub leap-noon : Gives utc_tai (last-of-2016 (decimal 5 1)) (last-of-2016 (bits 0x3fe0_0375_f31a_ed6a))
 unfolding computed round of_bits
-leap-noon = given utc-tai (last-of-2016 (decimal 5 1)) (last-of-2016 (bits 0x3fe0_0375_f31a_ed6a)) refl
+leap-noon = given utc_tai (last-of-2016 (decimal 5 1)) (last-of-2016 (bits 0x3fe0_0375_f31a_ed6a)) refl
 
 -- its 23:59:60, the fraction 86400/86401 rounded once, is 2017-01-01 00:00:36 TAI
 abbrev second-60 : Float
 second-60 = round binary64 false 86400 86401
 
-pub leap-second : Gives utc-tai (last-of-2016 second-60) (last-of-2016 (bits 0x3ff0_01b4_e81b_4e82))
+pub leap-second : Gives utc_tai (last-of-2016 second-60) (last-of-2016 (bits 0x3ff0_01b4_e81b_4e82))
 unfolding computed round of_bits
-leap-second = given utc-tai (last-of-2016 second-60) (last-of-2016 (bits 0x3ff0_01b4_e81b_4e82)) refl
+leap-second = given utc_tai (last-of-2016 second-60) (last-of-2016 (bits 0x3ff0_01b4_e81b_4e82)) refl
 
 -- 0h TAI of 2017-01-01, 37 s before it: of the three rounds of TAI to UTC the third still moves the guess, by 5 ns
-pub leap-tai : Gives tai-utc (julian (decimal 24577545 1) (decimal 0 0)) (julian (decimal 24577545 1) (bits 0xbf3c_109a_b046_c5d8))
+pub leap-tai : Gives tai_utc (julian (decimal 24577545 1) (decimal 0 0)) (julian (decimal 24577545 1) (bits 0xbf3c_109a_b046_c5d8))
 unfolding computed round of_bits
-leap-tai = given tai-utc (julian (decimal 24577545 1) (decimal 0 0)) (julian (decimal 24577545 1) (bits 0xbf3c_109a_b046_c5d8)) refl
+leap-tai = given tai_utc (julian (decimal 24577545 1) (decimal 0 0)) (julian (decimal 24577545 1) (bits 0xbf3c_109a_b046_c5d8)) refl
 
 -- ---- UT1 to UTC about that leap second, with DUT1 -0.4082 s before it and 0.5918 s after
 abbrev dut1-before : Float
@@ -99,9 +99,9 @@ ut1-no-dut1 = given (ut1-utc (decimal 0 0)) (julian (decimal 24577545 1) quarter
 
 -- ---- in the years of drift
 -- noon of 1971-12-31, whose step of 0.107758 s is spread over the day
-pub step-noon : Gives utc-tai (julian (decimal 24413165 1) (decimal 5 1)) (julian (decimal 24413165 1) (bits 0x3fe0_00f1_62fd_d4fe))
+pub step-noon : Gives utc_tai (julian (decimal 24413165 1) (decimal 5 1)) (julian (decimal 24413165 1) (bits 0x3fe0_00f1_62fd_d4fe))
 unfolding computed round of_bits
-step-noon = given utc-tai (julian (decimal 24413165 1) (decimal 5 1)) (julian (decimal 24413165 1) (bits 0x3fe0_00f1_62fd_d4fe)) refl
+step-noon = given utc_tai (julian (decimal 24413165 1) (decimal 5 1)) (julian (decimal 24413165 1) (bits 0x3fe0_00f1_62fd_d4fe)) refl
 
 -- 6h of 1966-06-15 with DUT1 0.1 s: TAI-UTC is that of 0h, so that UT1 runs ahead by the drift since, 0.648 ms
 pub drift-ut1 : Gives (utc-ut1 (decimal 1 1)) (julian (decimal 24392915 1) quarter) (julian (decimal 24392915 1) (bits 0x3fd0_0004_e2cf_4f58))

@@ -33,6 +33,6 @@ last_end = record {
 }
 
 -- 2017-01-01 0h
-pub modified-day : ModifiedSplit (julian (decimal 24000005 1) (decimal 57754 0))
+pub modified_day : ModifiedSplit (julian (decimal 24000005 1) (decimal 57754 0))
 unfolding round fits le lt eq abs
-modified-day = record { held = (tt, tt); first = record { sign = false; size = 4800001; has = (refl, refl); is = refl }; from = tt; to = tt }
+modified_day = record { held = (tt, tt); first = record { sign = false; size = 4800001; has = (refl, refl); is = refl }; from = tt; to = tt }

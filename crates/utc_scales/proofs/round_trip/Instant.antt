@@ -12,58 +12,58 @@ use Rattle.floats.specs.Whole.{abs, nought}
 use Rattle.rounding.specs.Value.{Val, L}
 use Rattle.rounding.proofs.Value.{L-pos}
 use Rattle.julian.proofs.day_number.Units.{nought-L}
-use Rattle.calendar.specs.Calendar.{date, dateOf, leapSize, lengths, daysInMonth}
-use Rattle.calendar.specs.Refusals.{validDate}
-use Rattle.calendar.specs.DayCount.{mjdOf, mjdNumber, civilCount}
+use Rattle.calendar.specs.Calendar.{date, date_of, leap_size, lengths, days_in_month}
+use Rattle.calendar.specs.Refusals.{valid_date}
+use Rattle.calendar.specs.DayCount.{mjd_of, mjd_number, civil_count}
 use Rattle.calendar.proofs.Mjd.{date-of-mjd}
 use Rattle.julian.specs.declared.JulianDate.{JulianDate}
 use Rattle.julian.specs.JulianDate.{julian}
 use Rattle.julian.specs.Worth.{Worth}
-use Rattle.leap_table.specs.rows.Table.{fixed, reached, monthNumber}
+use Rattle.leap_table.specs.rows.Table.{fixed, reached, month_number}
 use Rattle.scales.specs.laws.Ranges.{Practical}
-use Rattle.rounding.specs.Picoseconds.{dayPs}
-use Rattle.scales.specs.laws.Meaning.{Close, Means, taiOverGps}
+use Rattle.rounding.specs.Picoseconds.{day_ps}
+use Rattle.scales.specs.laws.Meaning.{Close, Means, tai_over_gps}
 use Rattle.utc_scales.specs.round_trip.Ranges.{HalfDaySplit}
-use Rattle.utc_scales.specs.round_trip.UtcDays.{H, secondsOn, leapAfter, shortAfter, ExactDay}
-use Rattle.utc_scales.specs.round_trip.Relation.{taiOverUtc}
+use Rattle.utc_scales.specs.round_trip.UtcDays.{H, seconds_on, leap_after, short_after, ExactDay}
+use Rattle.utc_scales.specs.round_trip.Relation.{tai_over_utc}
 use Rattle.utc_scales.specs.round_trip.Recorders.{OneInstant, Agree}
-use Rattle.utc_scales.proofs.round_trip.Units.{L-H, in-units}
+use Rattle.utc_scales.proofs.round_trip.Units.{L-H, in_units}
 use Rattle.utc_scales.proofs.round_trip.Parts.{parts-joined}
 use Rattle.utc_scales.proofs.round_trip.DaySeconds.{date-of}
-use Rattle.utc_scales.proofs.round_trip.Cases.{seconds-of, thirty-seven}
-use Rattle.utc_scales.proofs.round_trip.Recorders.{by-tai, three-recorders}
+use Rattle.utc_scales.proofs.round_trip.Cases.{seconds-of, thirty_seven}
+use Rattle.utc_scales.proofs.round_trip.Recorders.{by_tai, three-recorders}
 
 -- ---- the day: 37 s, and no leap second at its end
-second-of-2017 : dateOf (pos 2457756) ≡ date (pos 2017) 1 2
-unfolding mjdOf mjdNumber civilCount validDate daysInMonth lengths leapSize onward
+second-of-2017 : date_of (pos 2457756) ≡ date (pos 2017) 1 2
+unfolding mjd_of mjd_number civil_count valid_date days_in_month lengths leap_size onward
 second-of-2017 = sym (date-of 2457756 (omega arith)) ∙ date-of-mjd (pos 2017) (pos 1) (pos 2) (pos 57755) refl refl
 
-still : secondsOn fixed 2457756 ≡ 37
-unfolding fixed reached monthNumber
+still : seconds_on fixed 2457756 ≡ 37
+unfolding fixed reached month_number
 still = seconds-of 2457756 (date (pos 2017) 1 2) second-of-2017
 
-no-leap : leapAfter fixed 2457755 ≡ 0
-unfolding leapAfter
-no-leap = (λ i. still i - thirty-seven i)
+no_leap : leap_after fixed 2457755 ≡ 0
+unfolding leap_after
+no_leap = (λ i. still i - thirty_seven i)
 
 -- ---- the floats: 2457754.5, 37 / 86400 and 18 / 86400
 abbrev midnight-2017 : Float
 midnight-2017 = fin false 4915509 (negsuc 0)
 
-abbrev thirty-seven-s : Float
-thirty-seven-s = fin false 987455918297531 (negsuc 60)
+abbrev thirty_seven_s : Float
+thirty_seven_s = fin false 987455918297531 (negsuc 60)
 
-abbrev eighteen-s : Float
-eighteen-s = fin false 7686143364045647 (negsuc 64)
+abbrev eighteen_s : Float
+eighteen_s = fin false 7686143364045647 (negsuc 64)
 
 abbrev pub u : JulianDate
 u = julian midnight-2017 nought
 
 abbrev pub t : JulianDate
-t = julian midnight-2017 thirty-seven-s
+t = julian midnight-2017 thirty_seven_s
 
 abbrev pub g : JulianDate
-g = julian midnight-2017 eighteen-s
+g = julian midnight-2017 eighteen_s
 
 -- 2 ^ -65 day
 unfoldable q : ℕ
@@ -74,13 +74,13 @@ unfolding L q
 L-q = refl
 
 midnight-val : Val midnight-2017 (4915509 * H) 0 L
-midnight-val = in-units 4915509 2 H L-H (record { sign = false; size = 4915509; has = (refl, refl); is = refl })
+midnight-val = in_units 4915509 2 H L-H (record { sign = false; size = 4915509; has = (refl, refl); is = refl })
 
-tai-val : Val thirty-seven-s (987455918297531 * (16 * q)) 0 L
-tai-val = in-units 987455918297531 (2 ^ 61) (16 * q) (omega (arith, L-q)) (record { sign = false; size = 987455918297531; has = (refl, refl); is = refl })
+tai-val : Val thirty_seven_s (987455918297531 * (16 * q)) 0 L
+tai-val = in_units 987455918297531 (2 ^ 61) (16 * q) (omega (arith, L-q)) (record { sign = false; size = 987455918297531; has = (refl, refl); is = refl })
 
-gps-val : Val eighteen-s (7686143364045647 * q) 0 L
-gps-val = in-units 7686143364045647 (2 ^ 65) q L-q (record { sign = false; size = 7686143364045647; has = (refl, refl); is = refl })
+gps-val : Val eighteen_s (7686143364045647 * q) 0 L
+gps-val = in_units 7686143364045647 (2 ^ 65) q L-q (record { sign = false; size = 7686143364045647; has = (refl, refl); is = refl })
 
 worth : {x : Float} {m : ℕ} → Val x m 0 L → Worth (julian midnight-2017 x) (4915509 * H + m) 0 L
 worth v = parts-joined midnight-val v
@@ -100,11 +100,11 @@ in_split = record {
 }
 
 -- ---- in numbers: x is y + s seconds, to 2 q
-picoseconds : (x y : ℕ) → x ≤ y + 100000 * q → dayPs * x ≤ dayPs * y + 1 * (86400 * L)
+picoseconds : (x y : ℕ) → x ≤ y + 100000 * q → day_ps * x ≤ day_ps * y + 1 * (86400 * L)
 picoseconds x y k = omega (arith, L-q)
 
-by-gps : Means 1 taiOverGps g t
-by-gps = record {
+by_gps : Means 1 tai_over_gps g t
+by_gps = record {
   p = 4915509 * H + 7686143364045647 * q;
   n = 0;
   p' = 4915509 * H + 987455918297531 * (16 * q);
@@ -115,9 +115,9 @@ by-gps = record {
   under = picoseconds _ _ (omega (arith, L-q));
 }
 
-none_out : shortAfter fixed 2457755 ≡ 0
-unfolding shortAfter
-none_out = (λ i. thirty-seven i - still i)
+none_out : short_after fixed 2457755 ≡ 0
+unfolding short_after
+none_out = (λ i. thirty_seven i - still i)
 
 plain : Close 1 (86400 + 0 - 0) 86400 (37 * L + (0 * H + 0 * (2457755 * L))) (0 * (2457755 * L) + 0 * H) u t
 plain = record {
@@ -131,20 +131,20 @@ plain = record {
   under = picoseconds _ _ (omega (arith, L-q));
 }
 
-by-utc : Means 1 (taiOverUtc fixed 2457755) u t
-by-utc =
-    subst (λ (r : ℕ). Close 1 (86400 + leapAfter fixed 2457755 - r) 86400 (secondsOn fixed 2457755 * L + (leapAfter fixed 2457755 * H + r * (2457755 * L)))
-    (leapAfter fixed 2457755 * (2457755 * L) + r * H) u t) (sym none_out)
-    (subst₂ (λ (D s : ℕ). Close 1 (86400 + s - 0) 86400 (D * L + (s * H + 0 * (2457755 * L))) (s * (2457755 * L) + 0 * H) u t) (sym thirty-seven)
-    (sym no-leap) plain)
+by_utc : Means 1 (tai_over_utc fixed 2457755) u t
+by_utc =
+    subst (λ (r : ℕ). Close 1 (86400 + leap_after fixed 2457755 - r) 86400 (seconds_on fixed 2457755 * L + (leap_after fixed 2457755 * H + r * (2457755 * L)))
+    (leap_after fixed 2457755 * (2457755 * L) + r * H) u t) (sym none_out)
+    (subst₂ (λ (D s : ℕ). Close 1 (86400 + s - 0) 86400 (D * L + (s * H + 0 * (2457755 * L))) (s * (2457755 * L) + 0 * H) u t) (sym thirty_seven)
+    (sym no_leap) plain)
 
 -- ---- THE CASE
-pub new-year-2017 : OneInstant fixed 2 g t u
-new-year-2017 = by-tai 2457755 1 on by-gps by-utc
+pub new_year_2017 : OneInstant fixed 2 g t u
+new_year_2017 = by_tai 2457755 1 on by_gps by_utc
 
-in-range : Practical g
+in_range : Practical g
 unfolding fits le lt eq abs
-in-range = inl ((tt, tt), (tt, tt))
+in_range = inl ((tt, tt), (tt, tt))
 
 pub agreed : Agree fixed 2 g t u
-agreed = three-recorders 2 g t in-range in_split new-year-2017
+agreed = three-recorders 2 g t in_range in_split new_year_2017

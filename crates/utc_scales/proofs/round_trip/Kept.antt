@@ -12,19 +12,19 @@ use Rattle.rounding.proofs.Value.{L-pos, abs-val}
 use Rattle.rounding.proofs.Signed.{dist}
 use Rattle.rounding.proofs.Compare.{le_val}
 use Rattle.julian.specs.JulianDate.{julian}
-use Rattle.utc_scales.specs.days.LargerPart.{firstIsKept, keptAs, keptParts, putBeside, placed, changeSmaller}
+use Rattle.utc_scales.specs.days.LargerPart.{first_is_kept, kept_as, kept_parts, put_beside, placed, change_smaller}
 
 -- |b| is at most a
-pub first-larger : {a b : Float} {A bp bn : ℕ} → Val a A 0 L → Val b bp bn L → bp ≤ bn + A → bn ≤ bp + A → firstIsKept (julian a b) ≡ true
-unfolding firstIsKept
+pub first-larger : {a b : Float} {A bp bn : ℕ} → Val a A 0 L → Val b bp bn L → bp ≤ bn + A → bn ≤ bp + A → first_is_kept (julian a b) ≡ true
+unfolding first_is_kept
 first-larger {a} {b} {A} {bp} {bn} va vb k l = le_val L-pos (abs-val vb) (abs-val va) ∙ le-leb (dist bp bn + 0) (dist A 0 + 0) (go A bp bn k l)
   where
     go : (A p n : ℕ) → p ≤ n + A → n ≤ p + A → (p - n) + (n - p) + 0 ≤ (A - 0) + (0 - A) + 0
     go A p n k l = omega arith
 
-pub kept-changed : (f : Float → Float → Outcome Float) (a b x : Float) → firstIsKept (julian a b) ≡ true → f a b ≡ answer x
-    → changeSmaller f (julian a b) ≡ answer (julian a x)
-unfolding changeSmaller keptParts placed putBeside
+pub kept-changed : (f : Float → Float → Outcome Float) (a b x : Float) → first_is_kept (julian a b) ≡ true → f a b ≡ answer x
+    → change_smaller f (julian a b) ≡ answer (julian a x)
+unfolding change_smaller kept_parts placed put_beside
 kept-changed f a b x e k =
-    (ap (λ (c : Bool). onward (f (keptAs (julian a b) c).larger (keptAs (julian a b) c).smaller) (placed (keptAs (julian a b) c))) e)
-    ∙ went (placed (keptAs (julian a b) true)) k
+    (ap (λ (c : Bool). onward (f (kept_as (julian a b) c).larger (kept_as (julian a b) c).smaller) (placed (kept_as (julian a b) c))) e)
+    ∙ went (placed (kept_as (julian a b) true)) k

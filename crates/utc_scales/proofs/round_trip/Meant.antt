@@ -16,28 +16,28 @@ use Rattle.refusals.specs.Outcome.{answer}
 use Rattle.leap_table.specs.declared.rows.AnnouncedRows.{AnnouncedRows}
 use Rattle.leap_table.specs.rows.Table.{Row, fixed}
 use Rattle.leap_table.specs.rows.Announced.{table_of}
-use Rattle.rounding.specs.Picoseconds.{dayPs}
+use Rattle.rounding.specs.Picoseconds.{day_ps}
 use Rattle.scales.proofs.laws.Meant.{Meant, worth-unique}
-use Rattle.utc_scales.specs.UtcTai.{utcToTai}
+use Rattle.utc_scales.specs.UtcTai.{utc_to_tai}
 use Rattle.utc_scales.specs.round_trip.Ranges.{HalfDaySplit}
 use Rattle.utc_scales.specs.round_trip.UtcDays.{
   H,
-  secondsOn,
-  leapAfter,
-  shortAfter,
+  seconds_on,
+  leap_after,
+  short_after,
   Ending,
-  ends-plain,
-  ends-longer,
-  ends-shorter,
+  ends_plain,
+  ends_longer,
+  ends_shorter,
   WholeSeconds,
   OnDay,
   ExactDay,
 }
-use Rattle.utc_scales.specs.round_trip.Relation.{taiOverUtc, RightTai}
-use Rattle.utc_scales.proofs.round_trip.Units.{h, L-H, L-h, h-small, next-midnight}
+use Rattle.utc_scales.specs.round_trip.Relation.{tai_over_utc, RightTai}
+use Rattle.utc_scales.proofs.round_trip.Units.{h, L-H, L-h, h_small, next_midnight}
 use Rattle.utc_scales.proofs.round_trip.Parts.{Stamp, stamp-of, parts-joined, parts-worth, first_part, second-part}
 use Rattle.utc_scales.proofs.round_trip.DaySeconds.{WholeTable, table-whole, fixed-whole}
-use Rattle.utc_scales.proofs.round_trip.Steady.{taiUtcAt, Slow, either, share-less}
+use Rattle.utc_scales.proofs.round_trip.Steady.{tai_utc_at, Slow, either, share_less}
 use Rattle.utc_scales.proofs.round_trip.Evaluated.{SeenTo, seen}
 
 -- ---- each date lies on a day
@@ -56,17 +56,17 @@ pub record OffsetsNear (G K : ℕ) : Type 0 where
 
 pub near-offset : {rows : List Row} (n m f e : ℕ) → WholeSeconds rows n → WholeSeconds rows m → f < L → e < L → n * L + f ≤ m * L + e + 4 * h
     → m * L + e ≤ n * L + f + 4 * h
-    → OffsetsNear (taiUtcAt rows n f) (taiUtcAt rows m e)
+    → OffsetsNear (tai_utc_at rows n f) (tai_utc_at rows m e)
 near-offset {rows} n m f e t r b c k l = go (either n m f e t r b c (day-less (m * L + e) (n * L + f) l) (day-less (n * L + f) (m * L + e) k))
   where
     day-less : (x y : ℕ) → x ≤ y + 4 * h → x < y + L
-    day-less x y q = omega (arith, h-small, L-pos)
+    day-less x y q = omega (arith, h_small, L-pos)
 
     end : {x y G K : ℕ} → Slow x G y K → y ≤ x + 4 * h → (G ≤ K + 4 * h) × (K ≤ G + 4 * h)
     end q g = omega arith
 
-    go : Slow (n * L + f) (taiUtcAt rows n f) (m * L + e) (taiUtcAt rows m e) ⊎ Slow (m * L + e) (taiUtcAt rows m e) (n * L + f) (taiUtcAt rows n f)
-        → OffsetsNear (taiUtcAt rows n f) (taiUtcAt rows m e)
+    go : Slow (n * L + f) (tai_utc_at rows n f) (m * L + e) (tai_utc_at rows m e) ⊎ Slow (m * L + e) (tai_utc_at rows m e) (n * L + f) (tai_utc_at rows n f)
+        → OffsetsNear (tai_utc_at rows n f) (tai_utc_at rows m e)
     go (inl q) = let x = end q l in record { over = x.0; under = x.1 }
     go (inr q) = let x = end q k in record { over = x.1; under = x.0 }
 
@@ -74,19 +74,19 @@ near-offset {rows} n m f e t r b c k l = go (either n m f e t r b c (day-less (m
 over-is : {s r : ℕ} (d N e A up un tp tn S : ℕ) → Ending s r → r * e ≤ d → N + e + un ≡ A + up + H
     → 86400 * (tp + A + H) ≤ 86400 * tn + (86400 * (N + e) + (d + s * e - r * e)) + S
     → 86400 * (A + tp) + (86400 + s - r) * un + (s * N + r * H) ≤ 86400 * tn + (86400 + s - r) * (A + up) + (d + (s * H + r * N)) + S
-over-is d N e A up un tp tn S ends-plain k i l = omega arith
-over-is d N e A up un tp tn S ends-longer k i l = omega arith
-over-is d N e A up un tp tn S ends-shorter k i l = omega arith
+over-is d N e A up un tp tn S ends_plain k i l = omega arith
+over-is d N e A up un tp tn S ends_longer k i l = omega arith
+over-is d N e A up un tp tn S ends_shorter k i l = omega arith
 
 under-is : {s r : ℕ} (d N e A up un tp tn S : ℕ) → Ending s r → r * e ≤ d → N + e + un ≡ A + up + H
     → 86400 * (N + e) + (d + s * e - r * e) + 86400 * tn ≤ 86400 * (tp + A + H) + S
     → 86400 * tn + (86400 + s - r) * (A + up) + (d + (s * H + r * N)) ≤ 86400 * (A + tp) + (86400 + s - r) * un + (s * N + r * H) + S
-under-is d N e A up un tp tn S ends-plain k i l = omega arith
-under-is d N e A up un tp tn S ends-longer k i l = omega arith
-under-is d N e A up un tp tn S ends-shorter k i l = omega arith
+under-is d N e A up un tp tn S ends_plain k i l = omega arith
+under-is d N e A up un tp tn S ends_longer k i l = omega arith
+under-is d N e A up un tp tn S ends_shorter k i l = omega arith
 
 -- in picoseconds
-to-picoseconds : (x y S P : ℕ) → dayPs * S ≤ P → x ≤ y + S → dayPs * x ≤ dayPs * y + P
+to-picoseconds : (x y S P : ℕ) → day_ps * S ≤ P → x ≤ y + S → day_ps * x ≤ day_ps * y + P
 to-picoseconds x y S P k l = omega arith
 
 -- ---- the exact day is one of whole seconds
@@ -108,7 +108,7 @@ module _ {a u : Float} {A up un : ℕ} (z : Stamp a u A up un) (n : ℕ) (o : On
 
 -- ---- an evaluation that is off by at most E / 86400, on the exact day: its answer means the relation to ps picoseconds
 module _ {rows : List Row} (t : WholeTable rows) {a u : Float} {A up un E : ℕ} (z : Stamp a u A up un) (x : SeenTo rows E a u A up un) (ps : ℕ)
-    (room : dayPs * (E + 345604 * h) ≤ ps * (86400 * L))
+    (room : day_ps * (E + 345604 * h) ≤ ps * (86400 * L))
     (n : ℕ) (o : OnDay (A + up) un n) where
   apart : (x.day * L + x.f ≤ n * L + o.f + 4 * h) × (n * L + o.f ≤ x.day * L + x.f + 4 * h)
   apart = go (x.day * L + x.f) (n * L + o.f) x.near-over x.near-under o.is
@@ -116,24 +116,24 @@ module _ {rows : List Row} (t : WholeTable rows) {a u : Float} {A up un E : ℕ}
       go : (p q : ℕ) → p + un ≤ A + up + H + 4 * h → A + up + H ≤ p + un + 4 * h → q + un ≡ A + up + H → (p ≤ q + 4 * h) × (q ≤ p + 4 * h)
       go p q b c d = omega arith
 
-  near : OffsetsNear (taiUtcAt rows x.day x.f) (taiUtcAt rows n o.f)
+  near : OffsetsNear (tai_utc_at rows x.day x.f) (tai_utc_at rows n o.f)
   near = near-offset x.day n x.f o.f x.seconds (seconds z n o t) x.below o.below apart.0 apart.1
 
-  eval-over : 86400 * (x.tp + A + H) ≤ 86400 * x.tn + (86400 * (n * L + o.f) + taiUtcAt rows n o.f) + (E + 345604 * h)
-  eval-over = go (x.day * L + x.f) (n * L + o.f) (taiUtcAt rows x.day x.f) (taiUtcAt rows n o.f) x.eval-over apart.0 near.over
+  eval_over : 86400 * (x.tp + A + H) ≤ 86400 * x.tn + (86400 * (n * L + o.f) + tai_utc_at rows n o.f) + (E + 345604 * h)
+  eval_over = go (x.day * L + x.f) (n * L + o.f) (tai_utc_at rows x.day x.f) (tai_utc_at rows n o.f) x.eval_over apart.0 near.over
     where
       go : (p q G K : ℕ) → 86400 * (x.tp + A + H) ≤ 86400 * x.tn + (86400 * p + G) + E → p ≤ q + 4 * h → G ≤ K + 4 * h
           → 86400 * (x.tp + A + H) ≤ 86400 * x.tn + (86400 * q + K) + (E + 345604 * h)
       go p q G K i j k = omega arith
 
-  eval-under : 86400 * (n * L + o.f) + taiUtcAt rows n o.f + 86400 * x.tn ≤ 86400 * (x.tp + A + H) + (E + 345604 * h)
-  eval-under = go (x.day * L + x.f) (n * L + o.f) (taiUtcAt rows x.day x.f) (taiUtcAt rows n o.f) x.eval-under apart.1 near.under
+  eval_under : 86400 * (n * L + o.f) + tai_utc_at rows n o.f + 86400 * x.tn ≤ 86400 * (x.tp + A + H) + (E + 345604 * h)
+  eval_under = go (x.day * L + x.f) (n * L + o.f) (tai_utc_at rows x.day x.f) (tai_utc_at rows n o.f) x.eval_under apart.1 near.under
     where
       go : (p q G K : ℕ) → 86400 * p + G + 86400 * x.tn ≤ 86400 * (x.tp + A + H) + E → q ≤ p + 4 * h → K ≤ G + 4 * h
           → 86400 * q + K + 86400 * x.tn ≤ 86400 * (x.tp + A + H) + (E + 345604 * h)
       go p q G K i j k = omega arith
 
-  pub utc-meant : Meant ps (taiOverUtc rows n) (utcToTai rows (julian a u)) (julian a u)
+  pub utc-meant : Meant ps (tai_over_utc rows n) (utc_to_tai rows (julian a u)) (julian a u)
   utc-meant = record {
     date = julian a x.t;
     is = x.answered;
@@ -145,11 +145,11 @@ module _ {rows : List Row} (t : WholeTable rows) {a u : Float} {A up un E : ℕ}
       from = parts-joined z.val1 z.val2;
       to = parts-joined z.val1 x.val;
       over = to-picoseconds _ _ (E + 345604 * h) (ps * (86400 * L)) room
-          (over-is (secondsOn rows n * L) (n * L) o.f A up un x.tp x.tn (E + 345604 * h) (seconds z n o t).ending
-          (share-less n o.f (seconds z n o t) o.below) o.is eval-over);
+          (over-is (seconds_on rows n * L) (n * L) o.f A up un x.tp x.tn (E + 345604 * h) (seconds z n o t).ending
+          (share_less n o.f (seconds z n o t) o.below) o.is eval_over);
       under = to-picoseconds _ _ (E + 345604 * h) (ps * (86400 * L)) room
-          (under-is (secondsOn rows n * L) (n * L) o.f A up un x.tp x.tn (E + 345604 * h) (seconds z n o t).ending
-          (share-less n o.f (seconds z n o t) o.below) o.is eval-under);
+          (under-is (seconds_on rows n * L) (n * L) o.f A up un x.tp x.tn (E + 345604 * h) (seconds z n o t).ending
+          (share_less n o.f (seconds z n o t) o.below) o.is eval_under);
     };
   }
 
@@ -166,10 +166,10 @@ day-of {n = n} {p} {m} x w = record { f = x.on.f; below = x.on.below; is = go (n
     go N f q k e g = omega arith
 
 pub one-day : {d : JulianDate} {n m : ℕ} → ExactDay d n → ExactDay d m → n ≡ m
-one-day {n = n} {m} x y = let o = day-of x y.worth in same n m (dayPs n m o y.on) (dayPs m n y.on o)
+one-day {n = n} {m} x y = let o = day-of x y.worth in same n m (day_ps n m o y.on) (day_ps m n y.on o)
   where
-    dayPs : {p k : ℕ} (n m : ℕ) → OnDay p k n → OnDay p k m → n < suc m
-    dayPs {p} {k} n m o q = lt_of_mul-lt-mul_right L (go (n * L) (m * L) o.f q.f (next-midnight m) q.below o.is q.is)
+    day_ps : {p k : ℕ} (n m : ℕ) → OnDay p k n → OnDay p k m → n < suc m
+    day_ps {p} {k} n m o q = lt_of_mul-lt-mul_right L (go (n * L) (m * L) o.f q.f (next_midnight m) q.below o.is q.is)
       where
         go : (N M f e : ℕ) {M' : ℕ} → M' ≡ L + M → e < L → N + f + k ≡ p + H → M + e + k ≡ p + H → N < M'
         go N M f e r b i j = omega arith
@@ -184,7 +184,7 @@ day-seconds-of t {n = n} s x = let w = second-part s in seconds (stamp-of (first
 -- ---- THE THEOREM
 -- on the exact day of the date
 pub utc-means-on : {rows : List Row} → WholeTable rows → {d : JulianDate} {n : ℕ} → HalfDaySplit d → ExactDay d n
-    → Meant 77 (taiOverUtc rows n) (utcToTai rows d) d
+    → Meant 77 (tai_over_utc rows n) (utc_to_tai rows d) d
 utc-means-on t {n = n} s x = let w =
     second-part s in utc-meant t (stamp-of (first_part s) w.2) (seen t (first_part s) w.2) 77 (omega (arith, L-h)) n
     (day-of x (parts-worth (first_part s) w.2))

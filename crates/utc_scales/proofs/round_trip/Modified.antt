@@ -15,20 +15,20 @@ use Rattle.rounding.proofs.Value.{L-pos}
 use Rattle.rounding.proofs.Sizes.{whole_val}
 use Rattle.rounding.proofs.Bound.{SizeWithin}
 use Rattle.rounding.proofs.Range.{size-at-most}
-use Rattle.rounding.proofs.Compare.{le-says}
-use Rattle.rounding.proofs.Near.{NearSum, add-near}
+use Rattle.rounding.proofs.Compare.{le_says}
+use Rattle.rounding.proofs.Near.{NearSum, add_near}
 use Rattle.rounding.proofs.Chain.{ValClose}
 use Rattle.julian.specs.declared.JulianDate.{JulianDate}
 use Rattle.julian.specs.JulianDate.{julian}
 use Rattle.leap_table.specs.declared.rows.AnnouncedRows.{AnnouncedRows}
 use Rattle.leap_table.specs.rows.Table.{Row, fixed}
 use Rattle.leap_table.specs.rows.Announced.{table_of}
-use Rattle.rounding.specs.Picoseconds.{dayPs}
-use Rattle.utc_scales.specs.days.LargerPart.{firstIsKept}
+use Rattle.rounding.specs.Picoseconds.{day_ps}
+use Rattle.utc_scales.specs.days.LargerPart.{first_is_kept}
 use Rattle.utc_scales.specs.round_trip.Ranges.{ModifiedSplit}
 use Rattle.utc_scales.specs.round_trip.UtcDays.{H}
 use Rattle.utc_scales.specs.round_trip.Relation.{RightTai}
-use Rattle.utc_scales.proofs.round_trip.Units.{h, L-H, L-h, h-small, in-units}
+use Rattle.utc_scales.proofs.round_trip.Units.{h, L-H, L-h, h_small, in_units}
 use Rattle.utc_scales.proofs.round_trip.Parts.{HalvesUp, Stamp, parts-joined}
 use Rattle.utc_scales.proofs.round_trip.DaySeconds.{WholeTable, table-whole, fixed-whole}
 use Rattle.utc_scales.proofs.round_trip.Kept.{first-larger}
@@ -44,11 +44,11 @@ units-17 : 2 ^ 1038 ≡ 131072 * h
 unfolding h
 units-17 = refl
 
-pub add-coarse : {x y : Float} {p n q k : ℕ} → p + q < n + k + 131072 * L → n + k < p + q + 131072 * L → Val x p n L → Val y q k L
+pub add_coarse : {x y : Float} {p n q k : ℕ} → p + q < n + k + 131072 * L → n + k < p + q + 131072 * L → Val x p n L → Val y q k L
     → ValClose L (add binary64 x y) (p + q) (n + k) (65536 * h)
-add-coarse {x} {y} {p} {n} {q} {k} u l v w =
+add_coarse {x} {y} {p} {n} {q} {k} u l v w =
     let s : NearSum (add binary64 x y) (p + q) (n + k) 1038 =
-    add-near 1038 (lit≤ tt) (subst (λ (z : ℕ). p + q < n + k + z) (sym days-17) u) (subst (λ (z : ℕ). n + k < p + q + z) (sym days-17) l) v w in
+    add_near 1038 (lit≤ tt) (subst (λ (z : ℕ). p + q < n + k + z) (sym days-17) u) (subst (λ (z : ℕ). n + k < p + q + z) (sym days-17) l) v w in
     record {
       p = s.p;
       n = s.n;
@@ -72,11 +72,11 @@ last-day = subst (λ (z : ℕ). Val (decimal 131071 0) (131071 * L) z L) (zero-m
     (whole_val (record { sign = false; size = 131071; has = (refl, refl); is = refl }))
 
 -- ---- all roundings, in picoseconds
-in_all : dayPs * (5662510635 * h + 345604 * h) ≤ 628704 * (86400 * L)
-in_all = subst (λ (z : ℕ). dayPs * (5662510635 * h + 345604 * h) ≤ 628704 * (86400 * z)) (sym L-h) (go h (mul-le-mul_right h (lit≤ tt)))
+in_all : day_ps * (5662510635 * h + 345604 * h) ≤ 628704 * (86400 * L)
+in_all = subst (λ (z : ℕ). day_ps * (5662510635 * h + 345604 * h) ≤ 628704 * (86400 * z)) (sym L-h) (go h (mul-le-mul_right h (lit≤ tt)))
   where
     go : (k : ℕ) → 489270779049600000000000000 * k ≤ 489271294101831606809395200 * k
-        → dayPs * (5662510635 * k + 345604 * k) ≤ 628704 * (86400 * (9007199254740992 * k))
+        → day_ps * (5662510635 * k + 345604 * k) ≤ 628704 * (86400 * (9007199254740992 * k))
     go k l = omega arith
 
 -- ---- a modified Julian date from 41317.5 to 131071.5, as the guesses of TAI to UTC are too
@@ -109,55 +109,55 @@ module _ {a u : Float} {up un : ℕ} (v : ZeroPoint a) (w : ModifiedPart u up un
     high = omega (arith, w.high, L-H);
   }
 
-  pub modified-larger : firstIsKept (julian a u) ≡ true
-  modified-larger = first-larger v.val w.val (omega (arith, w.high, L-H, L-pos)) (omega (arith, w.low, L-H))
+  pub modified_larger : first_is_kept (julian a u) ≡ true
+  modified_larger = first-larger v.val w.val (omega (arith, w.high, L-H, L-pos)) (omega (arith, w.low, L-H))
 
 -- ---- one evaluation
 module _ {rows : List Row} (t : WholeTable rows) {a u : Float} {up un : ℕ} (v : ZeroPoint a) (w : ModifiedPart u up un) where
-  pub modified-seen : SeenTo rows (5662510635 * h) a u (4800001 * H) up un
-  modified-seen =
-      seen-to t (stamp v w) (days v w) (65536 * h) (5662510635 * h) (omega arith) (modified-larger v w)
-      (add-coarse
+  pub modified_seen : SeenTo rows (5662510635 * h) a u (4800001 * H) up un
+  modified_seen =
+      seen-to t (stamp v w) (days v w) (65536 * h) (5662510635 * h) (omega arith) (modified_larger v w)
+      (add_coarse
       (sum-high t (stamp v w) (days v w) (131072 * L) (λ i j k l. above _ _ _ _ _ _ _ l i j k))
       (sum_low t (stamp v w) (days v w) (131072 * L) (λ i j k l. below _ _ _ _ _ _ _ l i j k))
       (since t (stamp v w) (days v w)).val (day-sum t (stamp v w) (days v w)).val)
     where
       above : (f N x y z P M : ℕ) → x + H ≡ N → N + f + un ≤ 4800001 * H + up + H + 4 * h → 64 * P ≤ 64 * (M + f) + L → y + M ≤ z + P + h
           → x + y < 4800001 * H + z + 131072 * L
-      above f N x y z P M e a b c = omega (arith, w.high, h-small, L-H, L-pos)
+      above f N x y z P M e a b c = omega (arith, w.high, h_small, L-H, L-pos)
 
       below : (f N x y z P M : ℕ) → x + H ≡ N → 4800001 * H + up + H ≤ N + f + un + 4 * h → 64 * (M + f) ≤ 64 * P + L → z + P ≤ y + M + h
           → 4800001 * H + z < x + y + 131072 * L
-      below f N x y z P M e a b c = omega (arith, w.low, h-small, L-H, L-pos)
+      below f N x y z P M e a b c = omega (arith, w.low, h_small, L-H, L-pos)
 
 -- ---- the parts of such a date
 module _ {d : JulianDate} (s : ModifiedSplit d) where
-  pub modified-size : SizeWithin d.jd2 (131071 * L)
-  modified-size = size-at-most s.held.1 last-day s.to
+  pub modified_size : SizeWithin d.jd2 (131071 * L)
+  modified_size = size-at-most s.held.1 last-day s.to
 
   abbrev u : SizeWithin d.jd2 (131071 * L)
-  u = modified-size
+  u = modified_size
 
-  pub from-1972 : 41318 * L + modified-size.n ≤ modified-size.p
-  from-1972 = plain (41318 * L) (0 * L) u.p u.n (zero-mul L) (le-says L-pos first-day u.val s.from)
+  pub from_1972 : 41318 * L + modified_size.n ≤ modified_size.p
+  from_1972 = plain (41318 * L) (0 * L) u.p u.n (zero-mul L) (le_says L-pos first-day u.val s.from)
     where
       plain : (f o p n : ℕ) → o ≡ 0 → f + n ≤ p + o → f + n ≤ p
       plain f o p n e k = omega arith
 
-  pub zero-point : ZeroPoint d.jd1
-  zero-point = record { held = s.held.0; val = in-units 4800001 2 H L-H s.first }
+  pub zero_point : ZeroPoint d.jd1
+  zero_point = record { held = s.held.0; val = in_units 4800001 2 H L-H s.first }
 
-  pub modified-part : ModifiedPart d.jd2 modified-size.p modified-size.n
-  modified-part = record { held = s.held.1; val = u.val; low = omega (arith, from-1972, L-H); high = omega (arith, u.high) }
+  pub modified_part : ModifiedPart d.jd2 modified_size.p modified_size.n
+  modified_part = record { held = s.held.1; val = u.val; low = omega (arith, from_1972, L-H); high = omega (arith, u.high) }
 
   whole-modified : {rows : List Row} → WholeTable rows → RightTai rows 628704 d
   whole-modified t =
-      let z = stamp zero-point modified-part in
+      let z = stamp zero_point modified_part in
       let o = on-day z in
-      let r = utc-meant t z (modified-seen t zero-point modified-part) 628704 in_all o.0 o.1 in
+      let r = utc-meant t z (modified_seen t zero_point modified_part) 628704 in_all o.0 o.1 in
       record {
         n = o.0;
-        on = record { p = _; m = _; worth = parts-joined zero-point.val u.val; on = o.1 };
+        on = record { p = _; m = _; worth = parts-joined zero_point.val u.val; on = o.1 };
         date = r.date;
         is = r.is;
         means = r.means;

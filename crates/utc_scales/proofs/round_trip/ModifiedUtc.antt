@@ -14,11 +14,11 @@ use lib.Ieee.Fits.{add-fits}
 use Rattle.refusals.specs.Outcome.{answer}
 use Rattle.refusals.proofs.Onward.{went}
 use Rattle.rounding.specs.Value.{Val, L}
-use Rattle.rounding.specs.Picoseconds.{dayPs}
+use Rattle.rounding.specs.Picoseconds.{day_ps}
 use Rattle.rounding.proofs.Value.{L-pos, val-move, val-scale, val-unscale}
 use Rattle.rounding.proofs.Signed.{dist}
 use Rattle.rounding.proofs.Bound.{SizeWithin}
-use Rattle.rounding.proofs.Exact.{add-exact, sub-exact}
+use Rattle.rounding.proofs.Exact.{add_exact, sub_exact}
 use Rattle.rounding.proofs.Own.{val-rep}
 use Rattle.rounding.proofs.Optimal.{multiple}
 use Rattle.julian.specs.declared.JulianDate.{JulianDate}
@@ -26,7 +26,7 @@ use Rattle.julian.specs.JulianDate.{julian}
 use Rattle.leap_table.specs.declared.rows.AnnouncedRows.{AnnouncedRows}
 use Rattle.leap_table.specs.rows.Table.{Row, fixed}
 use Rattle.leap_table.specs.rows.Announced.{table_of}
-use Rattle.utc_scales.specs.UtcTai.{moved, refined, rounds, refineUtcFraction, taiToUtc}
+use Rattle.utc_scales.specs.UtcTai.{moved, refined, rounds, refine_utc_fraction, tai_to_utc}
 use Rattle.utc_scales.specs.round_trip.Ranges.{ModifiedSplit}
 use Rattle.utc_scales.specs.round_trip.UtcDays.{H, ExactDay}
 use Rattle.utc_scales.specs.round_trip.Relation.{RightUtc}
@@ -34,16 +34,16 @@ use Rattle.utc_scales.specs.round_trip.RoundTrip.{ThereAndBack}
 use Rattle.utc_scales.proofs.round_trip.Units.{h, L-H, L-h}
 use Rattle.utc_scales.proofs.round_trip.Parts.{parts-joined}
 use Rattle.utc_scales.proofs.round_trip.DaySeconds.{WholeTable, table-whole, fixed-whole}
-use Rattle.utc_scales.proofs.round_trip.Steady.{few-seconds}
+use Rattle.utc_scales.proofs.round_trip.Steady.{few_seconds}
 use Rattle.utc_scales.proofs.round_trip.Kept.{kept-changed}
 use Rattle.utc_scales.proofs.round_trip.Evaluated.{SeenTo}
-use Rattle.utc_scales.proofs.round_trip.Residuals.{Residual, TaiNear, GuessMoved, start, move-size, atFirst}
+use Rattle.utc_scales.proofs.round_trip.Residuals.{Residual, TaiNear, GuessMoved, start, move_size, at_first}
 use Rattle.utc_scales.proofs.round_trip.Round.{none, kept}
-use Rattle.utc_scales.proofs.round_trip.Rounds.{dateSeen, offsetSeen, near, tai-near, next-residual}
+use Rattle.utc_scales.proofs.round_trip.Rounds.{date_seen, offset_seen, near, tai-near, next-residual}
 use Rattle.utc_scales.proofs.round_trip.Meant.{on-day, seconds}
 use Rattle.utc_scales.proofs.round_trip.Exactly.{means-of}
-use Rattle.utc_scales.proofs.round_trip.UtcMeant.{guess-said}
-use Rattle.utc_scales.proofs.round_trip.Modified.{ModifiedPart, ZeroPoint, stamp, modified-seen, modified-larger, modified-size, from-1972, zero-point}
+use Rattle.utc_scales.proofs.round_trip.UtcMeant.{guess_said}
+use Rattle.utc_scales.proofs.round_trip.Modified.{ModifiedPart, ZeroPoint, stamp, modified_seen, modified_larger, modified_size, from_1972, zero_point}
 
 -- ---- the bounds of the residual, in units of h: 5662510635 are what UTC to TAI is off, and 691200 what the calendar is, twice
 abbrev evaluation : ℕ
@@ -53,7 +53,7 @@ abbrev together : ℕ
 together = 5663201835
 
 abbrev one : ℕ
-one = (atFirst + 86401 * together) / 86400 + 1
+one = (at_first + 86401 * together) / 86400 + 1
 
 abbrev two : ℕ
 two = (one + 86401 * together) / 86400 + 1
@@ -61,21 +61,21 @@ two = (one + 86401 * together) / 86400 + 1
 abbrev pub three : ℕ
 three = (two + 86401 * together) / 86400 + 1
 
-in_all : dayPs * (three * h + 345604 * h) ≤ 86400 * (628795 * L)
+in_all : day_ps * (three * h + 345604 * h) ≤ 86400 * (628795 * L)
 in_all = omega (arith, L-h)
 
 -- ---- the way back: what UTC to TAI makes of the last guess, against the TAI given
-in-back : dayPs * ((three + evaluation) * h) ≤ 86400 * (1257422 * L)
-in-back = subst (λ (z : ℕ). dayPs * ((three + evaluation) * h) ≤ 86400 * (1257422 * z)) (sym L-h) (go h (mul-le-mul_right h (lit≤ tt)))
+in_back : day_ps * ((three + evaluation) * h) ≤ 86400 * (1257422 * L)
+in_back = subst (λ (z : ℕ). day_ps * ((three + evaluation) * h) ≤ 86400 * (1257422 * z)) (sym L-h) (go h (mul-le-mul_right h (lit≤ tt)))
   where
     go : (k : ℕ) → 978552947952000000000000000 * k ≤ 978553483311881748322713600 * k
-        → dayPs * ((three + evaluation) * k) ≤ 86400 * (1257422 * (9007199254740992 * k))
+        → day_ps * ((three + evaluation) * k) ≤ 86400 * (1257422 * (9007199254740992 * k))
     go k l = omega arith
 
-back_in : (X Y : ℕ) → 86400 * X ≤ 86400 * Y + (three + evaluation) * h → dayPs * X ≤ dayPs * Y + 1257422 * L
-back_in X Y k = go (dayPs * X) (dayPs * Y) (dayPs * ((three + evaluation) * h)) in-back (times X Y ((three + evaluation) * h) k)
+back_in : (X Y : ℕ) → 86400 * X ≤ 86400 * Y + (three + evaluation) * h → day_ps * X ≤ day_ps * Y + 1257422 * L
+back_in X Y k = go (day_ps * X) (day_ps * Y) (day_ps * ((three + evaluation) * h)) in_back (times X Y ((three + evaluation) * h) k)
   where
-    times : (x y e : ℕ) → 86400 * x ≤ 86400 * y + e → 86400 * (dayPs * x) ≤ 86400 * (dayPs * y) + dayPs * e
+    times : (x y e : ℕ) → 86400 * x ≤ 86400 * y + e → 86400 * (day_ps * x) ≤ 86400 * (day_ps * y) + day_ps * e
     times x y e l = omega arith
 
     go : (x y e : ℕ) → e ≤ 86400 * (1257422 * L) → 86400 * x ≤ 86400 * y + e → x ≤ y + 1257422 * L
@@ -108,8 +108,8 @@ record OnGrid (j k : ℕ) (x : Float) (p n : ℕ) : Type 0 where
   val : Val x c 0 (2 ^ k)
 
 module _ {j k S : ℕ} (g : GridOf j k S) where
-  in-grid : {x : Float} {p n : ℕ} (c : ℕ) → Val x p n L → p ≡ n + c * 2 ^ j → Val x c 0 (2 ^ k)
-  in-grid {x} {p} {n} c v e =
+  in_grid : {x : Float} {p n : ℕ} (c : ℕ) → Val x p n L → p ≡ n + c * 2 ^ j → Val x c 0 (2 ^ k)
+  in_grid {x} {p} {n} c v e =
       val-unscale c (2 ^ k) (2 ^ j) (pow_pos j) (subst (λ (d : ℕ). Val x (c * 2 ^ j) 0 d) g.day (val-move v (shift p n (c * 2 ^ j) e)))
     where
       shift : (p n c : ℕ) → p ≡ n + c → p + 0 ≡ c + n
@@ -120,7 +120,7 @@ module _ {j k S : ℕ} (g : GridOf j k S) where
   to-grid {x} {p} {n} f v l =
       let m = multiple j (dist p n) (val-rep f v) (le_trans (le_of_eq g.start_of) (big p n (S * L) l)) in
       let e : p ≡ n + m.0 * 2 ^ j = place p n (m.0 * 2 ^ j) (S * L) m.1 l in
-      record { c = m.0; is = e; val = in-grid m.0 v e }
+      record { c = m.0; is = e; val = in_grid m.0 v e }
     where
       big : (p n s : ℕ) → n + s ≤ p → s ≤ dist p n
       big p n s l = omega arith
@@ -164,10 +164,10 @@ module _ {j k S : ℕ} (g : GridOf j k S) where
     sum : Val (moved a b u (julian a t)) C 0 (2 ^ k)
     unfolding moved
     sum =
-        let z = in-grid ou.c (kept fu vu (none va)) ou.is in
-        let d = sub-exact k g.enough (high ob.c ot.c (2 ^ 53) (fewer ob.c ot.c (earlier _ _ ob.is ot.is)))
+        let z = in_grid ou.c (kept fu vu (none va)) ou.is in
+        let d = sub_exact k g.enough (high ob.c ot.c (2 ^ 53) (fewer ob.c ot.c (earlier _ _ ob.is ot.is)))
         (high' ot.c ob.c (2 ^ 53) (fewer ot.c ob.c (later _ _ ob.is ot.is))) ob.val ot.val in
-        val-move (add-exact k g.enough
+        val-move (add_exact k g.enough
         (third (2 ^ 53) (fewer (ou.c + ob.c) ot.c (both _ _ _ _ (add-mul ou.c ob.c (2 ^ j)) ou.is ob.is ot.is)))
         (fourth (2 ^ 53)) z d) (omega (arith, counted))
       where
@@ -209,14 +209,14 @@ module _ {j k S : ℕ} (g : GridOf j k S) where
         go X O U B C o e x y z = record { high = omega arith; low = omega arith }
 
 -- TAI is not below the grid, as it is not before b by more than `one` h
-not-below : (A bp bn tp tn w o s : ℕ) → 16384 * (bn + s) + L ≤ 16384 * bp → 86400 * w + o + 86400 * tn ≤ 86400 * (tp + A + H) + evaluation * h
+not_below : (A bp bn tp tn w o s : ℕ) → 16384 * (bn + s) + L ≤ 16384 * bp → 86400 * w + o + 86400 * tn ≤ 86400 * (tp + A + H) + evaluation * h
     → 86400 * (bp + A + H) ≤ 86400 * bn + (86400 * w + o) + one * h → tn + s ≤ tp
-not-below A bp bn tp tn w o s e i k = omega (arith, L-h)
+not_below A bp bn tp tn w o s e i k = omega (arith, L-h)
 
 -- the next guess is at most 2 S days, as TAI-UTC is 10 s or more
-not-above : (A bp bn up un tp tn w o s : ℕ) → 16384 * bp ≤ 16384 * (bn + 2 * s) + L → 86400 * w + o + 86400 * tn ≤ 86400 * (tp + A + H) + evaluation * h
+not_above : (A bp bn up un tp tn w o s : ℕ) → 16384 * bp ≤ 16384 * (bn + 2 * s) + L → 86400 * w + o + 86400 * tn ≤ 86400 * (tp + A + H) + evaluation * h
     → A + up + H ≤ w + un + 4 * h → 10 * L ≤ o → up + (bp + tn) ≤ un + (bn + tp) + 2 * s
-not-above A bp bn up un tp tn w o s e i k l =
+not_above A bp bn up un tp tn w o s e i k l =
     let less : 86400 * (up + tn) + 9 * L ≤ 86400 * (un + tp) = earlier up un tp tn w o i k l in
     omega arith
   where
@@ -242,15 +242,15 @@ module _ {rows : List Row} (t : WholeTable rows) {a b : Float} {bp bn j k S : �
     on : OnGrid j k u up un
     above : 1536 * (bn + up) ≤ 1536 * (bp + un) + R
     below : 1536 * (bp + un) ≤ 1536 * (bn + up) + R
-    residual : Residual H A bp bn (dateSeen (modified-seen t v part)) (offsetSeen (modified-seen t v part)) P
-    ahead : 86400 * (bp + A + H) ≤ 86400 * bn + (86400 * dateSeen (modified-seen t v part) + offsetSeen (modified-seen t v part)) + one * h
+    residual : Residual H A bp bn (date_seen (modified_seen t v part)) (offset_seen (modified_seen t v part)) P
+    ahead : 86400 * (bp + A + H) ≤ 86400 * bn + (86400 * date_seen (modified_seen t v part) + offset_seen (modified_seen t v part)) + one * h
 
   b-part : ModifiedPart b bp bn
   b-part = record { held = fb; val = vb; low = omega (arith, low, L-H); high = omega (arith, high) }
 
-  first : Guess 0 (atFirst * h) b
+  first : Guess 0 (at_first * h) b
   first =
-      let z = modified-seen t v b-part in
+      let z = modified_seen t v b-part in
       record {
         up = bp;
         un = bn;
@@ -258,27 +258,27 @@ module _ {rows : List Row} (t : WholeTable rows) {a b : Float} {bp bn j k S : �
         on = b-on;
         above = omega arith;
         below = omega arith;
-        residual = start h L H A bp bn (dateSeen z) (offsetSeen z) L-h (few-seconds z.day z.f z.seconds z.below).1 (near z);
-        ahead = later (dateSeen z) (offsetSeen z) z.near-under;
+        residual = start h L H A bp bn (date_seen z) (offset_seen z) L-h (few_seconds z.day z.f z.seconds z.below).1 (near z);
+        ahead = later (date_seen z) (offset_seen z) z.near-under;
       }
     where
       later : (w o : ℕ) → A + bp + H ≤ w + bn + 4 * h → 86400 * (bp + A + H) ≤ 86400 * bn + (86400 * w + o) + one * h
       later w o l = omega arith
 
-  module _ (R P R' P' : ℕ) (r : R + L ≤ R') (r' : R' ≤ 3 * L) (p : P ≤ atFirst * h) (p' : P + 86401 * (together * h) ≤ 86400 * P') (p'' : P' ≤ one * h)
+  module _ (R P R' P' : ℕ) (r : R + L ≤ R') (r' : R' ≤ 3 * L) (p : P ≤ at_first * h) (p' : P + 86401 * (together * h) ≤ 86400 * P') (p'' : P' ≤ one * h)
       {u : Float} (x : Guess R P u) where
     abbrev z : SeenTo rows (evaluation * h) a u A x.up x.un
-    z = modified-seen t v x.part
+    z = modified_seen t v x.part
 
     size : (1536 * (bp + z.tn) ≤ 1536 * (bn + z.tp) + L) × (1536 * (bn + z.tp) ≤ 1536 * (bp + z.tn) + L)
-    size = move-size h L H A bp bn (evaluation * h) z.tp z.tn (dateSeen z) (offsetSeen z) P L-h (omega arith) p (tai-near z) x.residual
+    size = move_size h L H A bp bn (evaluation * h) z.tp z.tn (date_seen z) (offset_seen z) P L-h (omega arith) p (tai-near z) x.residual
 
     t-low : z.tn + S * L ≤ z.tp
-    t-low = not-below A bp bn z.tp z.tn (dateSeen z) (offsetSeen z) (S * L) from z.eval-under x.ahead
+    t-low = not_below A bp bn z.tp z.tn (date_seen z) (offset_seen z) (S * L) from z.eval_under x.ahead
 
     u-high : x.up + (bp + z.tn) ≤ x.un + (bn + z.tp) + 2 * (S * L)
-    u-high = not-above A bp bn x.up x.un z.tp z.tn (dateSeen z) (offsetSeen z) (S * L) to z.eval-under z.near-under
-        (few-seconds z.day z.f z.seconds z.below).0
+    u-high = not_above A bp bn x.up x.un z.tp z.tn (date_seen z) (offset_seen z) (S * L) to z.eval_under z.near-under
+        (few_seconds z.day z.f z.seconds z.below).0
 
     moved-held : T (fits binary64 (moved a b u (julian a z.t)))
     unfolding moved
@@ -295,7 +295,7 @@ module _ {rows : List Row} (t : WholeTable rows) {a b : Float} {bp bn j k S : �
           low = w-low x.up x.un z.tp z.tn y.p y.n x.below size.1 y.by.low;
           high = w-high x.up x.un z.tp z.tn y.p y.n x.above size.0 y.by.high;
         } in
-        let q = next-residual 0 (together * h) P P' (omega arith) (omega arith) p p' z (modified-seen t v w) y.by x.residual in
+        let q = next-residual 0 (together * h) P P' (omega arith) (omega arith) p p' z (modified_seen t v w) y.by x.residual in
         record {
           up = y.p;
           un = y.n;
@@ -329,25 +329,25 @@ module _ {rows : List Row} (t : WholeTable rows) {a b : Float} {bp bn j k S : �
         within : (X Y : ℕ) → X ≤ Y + P' → X ≤ Y + one * h
         within X Y l = omega (arith, p'')
 
-  once : {R P : ℕ} {u : Float} (x : Guess R P u) → refined rows a b u ≡ answer (moved a b u (julian a (modified-seen t v x.part).t))
+  once : {R P : ℕ} {u : Float} (x : Guess R P u) → refined rows a b u ≡ answer (moved a b u (julian a (modified_seen t v x.part).t))
   unfolding refined
-  once x = went _ (modified-seen t v x.part).answered
+  once x = went _ (modified_seen t v x.part).answered
 
   record Refined : Type 0 where
     u : Float
-    is : refineUtcFraction rows a b ≡ answer u
+    is : refine_utc_fraction rows a b ≡ answer u
     at : Guess (3 * L) (three * h) u
 
   three-rounds : Refined
-  unfolding refineUtcFraction rounds
+  unfolding refine_utc_fraction rounds
   three-rounds =
-      let x1 = step 0 (atFirst * h) L (one * h) (omega arith) (omega arith) (omega arith) (omega arith) (omega arith) first in
+      let x1 = step 0 (at_first * h) L (one * h) (omega arith) (omega arith) (omega arith) (omega arith) (omega arith) first in
       let x2 = step L (one * h) (2 * L) (two * h) (omega arith) (omega arith) (omega arith) (omega arith) (omega arith) x1 in
       let x3 = step (2 * L) (two * h) (3 * L) (three * h) (omega arith) (omega arith) (omega arith) (omega arith) (omega arith) x2 in
       record { u = _; is = went (rounds rows a b 2) (once first) ∙ went (rounds rows a b 1) (once x1) ∙ went (rounds rows a b 0) (once x2); at = x3 }
 
   right : RightUtc rows 628795 (julian a b)
-  unfolding taiToUtc
+  unfolding tai_to_utc
   right =
       let r = three-rounds in
       let x = r.at in
@@ -356,23 +356,23 @@ module _ {rows : List Row} (t : WholeTable rows) {a b : Float} {bp bn j k S : �
       let d : ExactDay (julian a r.u) o.0 = record { p = _; m = _; worth = parts-joined v.val x.part.val; on = o.1 } in
       record {
         date = julian a r.u;
-        is = kept-changed (refineUtcFraction rows) a b r.u (modified-larger v b-part) r.is;
+        is = kept-changed (refine_utc_fraction rows) a b r.u (modified_larger v b-part) r.is;
         n = o.0;
         on = d;
-        means = means-of (seconds z o.0 o.1 t) d (guess-said t z vb (modified-seen t v x.part) x.residual 628795 in_all o.0 o.1);
+        means = means-of (seconds z o.0 o.1 t) d (guess_said t z vb (modified_seen t v x.part) x.residual 628795 in_all o.0 o.1);
       }
 
   back-again : ThereAndBack rows 1257422 (julian a b)
-  unfolding taiToUtc
+  unfolding tai_to_utc
   back-again =
       let r = three-rounds in
       let x = r.at in
-      let z = modified-seen t v x.part in
-      let c = comes_back A bp bn z.tp z.tn (dateSeen z) (offsetSeen z) (tai-near z) x.residual in
+      let z = modified_seen t v x.part in
+      let c = comes_back A bp bn z.tp z.tn (date_seen z) (offset_seen z) (tai-near z) x.residual in
       record {
         u = julian a r.u;
         t = julian a z.t;
-        there = kept-changed (refineUtcFraction rows) a b r.u (modified-larger v b-part) r.is;
+        there = kept-changed (refine_utc_fraction rows) a b r.u (modified_larger v b-part) r.is;
         back = z.answered;
         apart = record {
           p = A + bp;
@@ -395,12 +395,12 @@ module _ {rows : List Row} (t : WholeTable rows) {a b : Float} {bp bn j k S : �
 -- ---- THE THEOREMS: by the lower grid up to 65536 days and 5 s, and else by the upper one
 module _ {d : JulianDate} (s : ModifiedSplit d) where
   abbrev u : SizeWithin d.jd2 (131071 * L)
-  u = modified-size s
+  u = modified_size s
 
   module _ {rows : List Row} (t : WholeTable rows) where
     by-grid : Dec (16384 * u.p ≤ 16384 * (u.n + 2 * (32768 * L)) + L) → RightUtc rows 628795 d × ThereAndBack rows 1257422 d
-    by-grid (yes k) = both t (zero-point s) s.held.1 u.val (from-1972 s) u.high lower (omega (arith, from-1972 s, L-pos)) k
-    by-grid (no k) = both t (zero-point s) s.held.1 u.val (from-1972 s) u.high upper (omega (arith, k)) (omega (arith, u.high))
+    by-grid (yes k) = both t (zero_point s) s.held.1 u.val (from_1972 s) u.high lower (omega (arith, from_1972 s, L-pos)) k
+    by-grid (no k) = both t (zero_point s) s.held.1 u.val (from_1972 s) u.high upper (omega (arith, k)) (omega (arith, u.high))
 
     whole-modified : RightUtc rows 628795 d × ThereAndBack rows 1257422 d
     whole-modified = by-grid (dec_le (16384 * u.p) (16384 * (u.n + 2 * (32768 * L)) + L))

@@ -11,23 +11,23 @@ use lib.Ieee.{Float}
 use Rattle.refusals.specs.Outcome.{Outcome, answer}
 use Rattle.rounding.specs.Value.{Val, L}
 use Rattle.rounding.proofs.Value.{L-pos, val-unique}
-use Rattle.rounding.proofs.Compare.{le-show}
+use Rattle.rounding.proofs.Compare.{le_show}
 use Rattle.julian.specs.declared.JulianDate.{JulianDate}
-use Rattle.leap_table.specs.rows.Table.{fixed, lastSeconds}
-use Rattle.rounding.specs.Picoseconds.{dayPs}
+use Rattle.leap_table.specs.rows.Table.{fixed, last_seconds}
+use Rattle.rounding.specs.Picoseconds.{day_ps}
 use Rattle.scales.specs.laws.Recorders.{NotLater}
 use Rattle.scales.proofs.laws.Meant.{worth-unique}
-use Rattle.utc_scales.specs.UtcTai.{utcToTai, taiToUtc}
+use Rattle.utc_scales.specs.UtcTai.{utc_to_tai, tai_to_utc}
 use Rattle.utc_scales.specs.round_trip.Ranges.{HalfDaySplit}
 use Rattle.utc_scales.specs.round_trip.UtcDays.{H, ExactDay}
 use Rattle.utc_scales.specs.round_trip.Order.{Follows, OrderKept, PartsInOrder}
 use Rattle.utc_scales.proofs.round_trip.Parts.{first_part, second-part, stamp-of, parts-worth}
 use Rattle.utc_scales.proofs.round_trip.DaySeconds.{fixed-whole}
 use Rattle.utc_scales.proofs.round_trip.FixedDays.{FixedDay, fixed-day}
-use Rattle.utc_scales.proofs.round_trip.Steady.{taiUtcAt}
+use Rattle.utc_scales.proofs.round_trip.Steady.{tai_utc_at}
 use Rattle.utc_scales.proofs.round_trip.Evaluated.{seen}
 use Rattle.utc_scales.proofs.round_trip.Meant.{stamp-day, day-of, exact-low, exact-high, day-seconds-of, utc-means-on}
-use Rattle.utc_scales.proofs.round_trip.Exactly.{said, relation-rises}
+use Rattle.utc_scales.proofs.round_trip.Exactly.{said, relation_rises}
 use Rattle.utc_scales.proofs.round_trip.UtcMeant.{UtcFound, utc-found}
 
 -- ---- two dates of one jd1, not before one another by their values: so by their smaller parts
@@ -37,45 +37,45 @@ in_parts {x} {y} e l =
     let w = l.to in
     record {
       larger = e;
-      smaller = le-show L-pos v.second w.second
+      smaller = le_show L-pos v.second w.second
           (go v.p v.n v.q v.m w.p w.n w.q w.m l.p l.n l.p' l.n' (0 * L)
           (val-unique (subst (λ (z : Float). Val z v.p v.n L) e v.first) w.first) v.total w.total l.gap);
     }
   where
     go : (p n q m p' n' q' m' P N P' N' z : ℕ) → p + n' ≡ p' + n → p + q + N ≡ P + (n + m) → p' + q' + N' ≡ P' + (n' + m')
-        → dayPs * (P + N') + z ≤ dayPs * (P' + N) → q + m' ≤ q' + m
+        → day_ps * (P + N') + z ≤ day_ps * (P' + N) → q + m' ≤ q' + m
     go p n q m p' n' q' m' P N P' N' z a b c k = omega arith
 
 -- ---- the exact relation between two stamps: W and W' the dates by UTC, G and G' their TAI-UTC, (p - m) and (p' - m') their TAI
 Far : (W W' G G' : ℕ) → Type 0
-Far W W' G G' = (G ≤ G') ⊎ ((W + L ≤ W') × (G ≤ G' + (lastSeconds - 10) * L))
+Far W W' G G' = (G ≤ G') ⊎ ((W + L ≤ W') × (G ≤ G' + (last_seconds - 10) * L))
 
 module _ (p m p' m' W W' G G' : ℕ) where
-  to-tai : dayPs * W + 154 * L ≤ dayPs * W' → Far W W' G G' → dayPs * (86400 * (p + H)) ≤ dayPs * (86400 * m + 86400 * W + G) + 86400 * (77 * L)
-      → dayPs * (86400 * m' + 86400 * W' + G') ≤ dayPs * (86400 * (p' + H)) + 86400 * (77 * L) → dayPs * (p + m') ≤ dayPs * (p' + m)
+  to-tai : day_ps * W + 154 * L ≤ day_ps * W' → Far W W' G G' → day_ps * (86400 * (p + H)) ≤ day_ps * (86400 * m + 86400 * W + G) + 86400 * (77 * L)
+      → day_ps * (86400 * m' + 86400 * W' + G') ≤ day_ps * (86400 * (p' + H)) + 86400 * (77 * L) → day_ps * (p + m') ≤ day_ps * (p' + m)
   unfolding Far
   to-tai k (inl g) i j = omega arith
   to-tai k (inr g) i j = omega arith
 
-  to-utc : W' < W → Far W' W G' G → dayPs * (86400 * m + 86400 * W + G) ≤ dayPs * (86400 * (p + H)) + 86400 * (173 * L)
-      → dayPs * (86400 * (p' + H)) ≤ dayPs * (86400 * m' + 86400 * W' + G') + 86400 * (173 * L) → dayPs * (p + m') + 346 * L ≤ dayPs * (p' + m) → ⊥
+  to-utc : W' < W → Far W' W G' G → day_ps * (86400 * m + 86400 * W + G) ≤ day_ps * (86400 * (p + H)) + 86400 * (173 * L)
+      → day_ps * (86400 * (p' + H)) ≤ day_ps * (86400 * m' + 86400 * W' + G') + 86400 * (173 * L) → day_ps * (p + m') + 346 * L ≤ day_ps * (p' + m) → ⊥
   unfolding Far
   to-utc k (inl g) i j l = omega arith
   to-utc k (inr g) i j l = omega (arith, L-pos)
 
-far : (n m f e : ℕ) → FixedDay n → FixedDay m → f < L → e < L → n * L + f ≤ m * L + e → Far (n * L + f) (m * L + e) (taiUtcAt fixed n f) (taiUtcAt fixed m e)
+far : (n m f e : ℕ) → FixedDay n → FixedDay m → f < L → e < L → n * L + f ≤ m * L + e → Far (n * L + f) (m * L + e) (tai_utc_at fixed n f) (tai_utc_at fixed m e)
 unfolding Far
-far n m f e t r b c k = relation-rises n m f e t r b c k
+far n m f e t r b c k = relation_rises n m f e t r b c k
 
 -- ---- the dates on their exact days, from the values of the stamps
 module _ {d d' : JulianDate} {n m : ℕ} (x : ExactDay d n) (y : ExactDay d' m) where
-  dates-later : {ps : ℕ} → Follows ps d d' → dayPs * (n * L + x.on.f) + ps * L ≤ dayPs * (m * L + y.on.f)
-  dates-later {ps} l =
+  dates_later : {ps : ℕ} → Follows ps d d' → day_ps * (n * L + x.on.f) + ps * L ≤ day_ps * (m * L + y.on.f)
+  dates_later {ps} l =
       go l.p l.n l.p' l.n' x.p x.m y.p y.m (n * L + x.on.f) (m * L + y.on.f) (ps * L) (worth-unique l.from x.worth)
       (worth-unique l.to y.worth) x.on.is y.on.is l.gap
     where
-      go : (P N Q M p k q j W W' z : ℕ) → P + k ≡ p + N → Q + j ≡ q + M → W + k ≡ p + H → W' + j ≡ q + H → dayPs * (P + M) + z ≤ dayPs * (Q + N)
-          → dayPs * W + z ≤ dayPs * W'
+      go : (P N Q M p k q j W W' z : ℕ) → P + k ≡ p + N → Q + j ≡ q + M → W + k ≡ p + H → W' + j ≡ q + H → day_ps * (P + M) + z ≤ day_ps * (Q + N)
+          → day_ps * W + z ≤ day_ps * W'
       go P N Q M p k q j W W' z e f g i l = omega arith
 
   stamps-later : n * L + x.on.f ≤ m * L + y.on.f → Follows 0 d d'
@@ -90,7 +90,7 @@ module _ {d d' : JulianDate} {n m : ℕ} (x : ExactDay d n) (y : ExactDay d' m) 
         go x.p x.m y.p y.m (n * L + x.on.f) (m * L + y.on.f) (0 * L) (zero-mul L) x.on.is y.on.is k;
   }
     where
-      go : (p k q j W W' z : ℕ) → z ≡ 0 → W + k ≡ p + H → W' + j ≡ q + H → W ≤ W' → dayPs * (p + j) + z ≤ dayPs * (q + k)
+      go : (p k q j W W' z : ℕ) → z ≡ 0 → W + k ≡ p + H → W' + j ≡ q + H → W ≤ W' → day_ps * (p + j) + z ≤ day_ps * (q + k)
       go p k q j W W' z e f g l = omega arith
 
 fixed-day-of : {d : JulianDate} {n : ℕ} → HalfDaySplit d → ExactDay d n → FixedDay n
@@ -101,7 +101,7 @@ fixed-day-of {n = n} s x =
     fixed-day n (exact-low z n o) (omega (arith, exact-high z n o))
 
 -- ---- UTC TO TAI KEEPS THE ORDER of stamps 154 ps or more apart
-pub utc-order : {d d' : JulianDate} → HalfDaySplit d → HalfDaySplit d' → Follows 154 d d' → OrderKept (utcToTai fixed) d d'
+pub utc-order : {d d' : JulianDate} → HalfDaySplit d → HalfDaySplit d' → Follows 154 d d' → OrderKept (utc_to_tai fixed) d d'
 utc-order i i' l =
     let x = stamp-day i in
     let x' = stamp-day i' in
@@ -113,7 +113,7 @@ utc-order i i' l =
     let s' = said (day-seconds-of fixed-whole i' x'.1) x'.1 r'.means in
     let W = x.0 * L + x.1.on.f in
     let W' = x'.0 * L + x'.1.on.f in
-    let g = dates-later x.1 x'.1 l in
+    let g = dates_later x.1 x'.1 l in
     record {
       x = r.date;
       y = r'.date;
@@ -127,19 +127,19 @@ utc-order i i' l =
         from = s.worth;
         to = s'.worth;
         gap = none (s.p + s'.m) (s'.p + s.m) (0 * L) (zero-mul L)
-            (to-tai s.p s.m s'.p s'.m W W' (taiUtcAt fixed x.0 x.1.on.f) (taiUtcAt fixed x'.0 x'.1.on.f) g
+            (to-tai s.p s.m s'.p s'.m W W' (tai_utc_at fixed x.0 x.1.on.f) (tai_utc_at fixed x'.0 x'.1.on.f) g
             (far x.0 x'.0 x.1.on.f x'.1.on.f t t' x.1.on.below x'.1.on.below (weak W W' g)) s.over s'.under);
       };
     }
   where
-    none : (x y z : ℕ) → z ≡ 0 → dayPs * x ≤ dayPs * y → dayPs * x + z ≤ dayPs * y
+    none : (x y z : ℕ) → z ≡ 0 → day_ps * x ≤ day_ps * y → day_ps * x + z ≤ day_ps * y
     none x y z e k = omega arith
 
-    weak : (x y : ℕ) → dayPs * x + 154 * L ≤ dayPs * y → x ≤ y
+    weak : (x y : ℕ) → day_ps * x + 154 * L ≤ day_ps * y → x ≤ y
     weak x y k = omega arith
 
 -- ---- TAI TO UTC KEEPS THE ORDER of stamps 346 ps or more apart
-pub tai-order : {d d' : JulianDate} → HalfDaySplit d → HalfDaySplit d' → Follows 346 d d' → OrderKept (taiToUtc fixed) d d'
+pub tai-order : {d d' : JulianDate} → HalfDaySplit d → HalfDaySplit d' → Follows 346 d d' → OrderKept (tai_to_utc fixed) d d'
 tai-order {d} {d'} i i' l =
     let x = utc-found fixed-whole i in
     let y = utc-found fixed-whole i' in
@@ -158,8 +158,8 @@ tai-order {d} {d'} i i' l =
     go x y (no j) =
         let s = x.said in
         let s' = y.said in
-        absurd (to-utc s.p s.m s'.p s'.m (x.n * L + x.on.on.f) (y.n * L + y.on.on.f) (taiUtcAt fixed x.n x.on.on.f)
-        (taiUtcAt fixed y.n y.on.on.f) (less _ _ j)
+        absurd (to-utc s.p s.m s'.p s'.m (x.n * L + x.on.on.f) (y.n * L + y.on.on.f) (tai_utc_at fixed x.n x.on.on.f)
+        (tai_utc_at fixed y.n y.on.on.f) (less _ _ j)
         (far y.n x.n y.on.on.f x.on.on.f (fixed-day y.n y.low (omega (arith, y.high)))
         (fixed-day x.n x.low (omega (arith, x.high))) y.on.on.below x.on.on.below (weak _ _ (less _ _ j))) s.under
         s'.over
@@ -171,14 +171,14 @@ tai-order {d} {d'} i i' l =
         weak : (x y : ℕ) → x < y → x ≤ y
         weak x y q = omega arith
 
-        move : (P N Q M p m p' m' : ℕ) → P + m ≡ p + N → Q + m' ≡ p' + M → dayPs * (P + M) + 346 * L ≤ dayPs * (Q + N)
-            → dayPs * (p + m') + 346 * L ≤ dayPs * (p' + m)
+        move : (P N Q M p m p' m' : ℕ) → P + m ≡ p + N → Q + m' ≡ p' + M → day_ps * (P + M) + 346 * L ≤ day_ps * (Q + N)
+            → day_ps * (p + m') + 346 * L ≤ day_ps * (p' + m)
         move P N Q M p m p' m' e f k = omega arith
 
 -- ---- the same larger part: the smaller parts are in order, as floats
-in-parts-too : {f : JulianDate → Outcome JulianDate} {d d' x y : JulianDate} → f d ≡ answer x → f d' ≡ answer y → x.jd1 ≡ y.jd1 → OrderKept f d d'
+in_parts_too : {f : JulianDate → Outcome JulianDate} {d d' x y : JulianDate} → f d ≡ answer x → f d' ≡ answer y → x.jd1 ≡ y.jd1 → OrderKept f d d'
     → PartsInOrder f d d'
-in-parts-too {f} {d} {d'} {x} {y} p q e o =
+in_parts_too {f} {d} {d'} {x} {y} p q e o =
     let a : o.x ≡ x = same (f d) o.x x o.first p in
     let b : o.y ≡ y = same (f d') o.y y o.second q in
     record {
@@ -193,11 +193,11 @@ in-parts-too {f} {d} {d'} {x} {y} p q e o =
     same : (o : Outcome JulianDate) (x y : JulianDate) → o ≡ answer x → o ≡ answer y → x ≡ y
     same o x y p q = cc
 
-pub utc-order-same : {d d' : JulianDate} → HalfDaySplit d → HalfDaySplit d' → d.jd1 ≡ d'.jd1 → Follows 154 d d' → PartsInOrder (utcToTai fixed) d d'
-utc-order-same i i' e l = in-parts-too (seen fixed-whole (first_part i) (second-part i).2).answered
+pub utc-order-same : {d d' : JulianDate} → HalfDaySplit d → HalfDaySplit d' → d.jd1 ≡ d'.jd1 → Follows 154 d d' → PartsInOrder (utc_to_tai fixed) d d'
+utc-order-same i i' e l = in_parts_too (seen fixed-whole (first_part i) (second-part i).2).answered
     (seen fixed-whole (first_part i') (second-part i').2).answered e
     (utc-order i i' l)
 
-pub tai-order-same : {d d' : JulianDate} → HalfDaySplit d → HalfDaySplit d' → d.jd1 ≡ d'.jd1 → Follows 346 d d' → PartsInOrder (taiToUtc fixed) d d'
-tai-order-same i i' e l = let x = utc-found fixed-whole i in let y = utc-found fixed-whole i' in in-parts-too x.is y.is (x.same ∙ e ∙ sym y.same)
+pub tai-order-same : {d d' : JulianDate} → HalfDaySplit d → HalfDaySplit d' → d.jd1 ≡ d'.jd1 → Follows 346 d d' → PartsInOrder (tai_to_utc fixed) d d'
+tai-order-same i i' e l = let x = utc-found fixed-whole i in let y = utc-found fixed-whole i' in in_parts_too x.is y.is (x.same ∙ e ∙ sym y.same)
     (tai-order i i' l)

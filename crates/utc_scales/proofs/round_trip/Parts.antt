@@ -15,7 +15,7 @@ use Rattle.julian.specs.JulianDate.{julian}
 use Rattle.julian.specs.Worth.{Worth}
 use Rattle.utc_scales.specs.round_trip.UtcDays.{H}
 use Rattle.utc_scales.specs.round_trip.Ranges.{HalfDaySplit}
-use Rattle.utc_scales.proofs.round_trip.Units.{L-H, H-pos, in-units}
+use Rattle.utc_scales.proofs.round_trip.Units.{L-H, H-pos, in_units}
 
 -- a float whose value is a whole number of half days, k of them, from 2441319.5 to 5000000.5 days
 pub record FirstPart (a : Float) (A : ℕ) : Type 0 where
@@ -112,7 +112,7 @@ module _ {d : JulianDate} (s : HalfDaySplit d) where
   pub first_part : FirstPart d.jd1 (s.halves * H)
   first_part = record {
     held = s.held.0;
-    val = in-units s.halves 2 H L-H s.first;
+    val = in_units s.halves 2 H L-H s.first;
     k = s.halves;
     halves = refl;
     low = mul-le-mul_right H s.low;

@@ -5,7 +5,7 @@ use mathlib.Core.Path.{◌≡◌}
 use mathlib.Core.Logic.{◌⊎◌, inl, inr}
 use Prim.Native.Nat.{ℕ, ◌+◌, ◌*◌, ◌≤◌, ◌<◌, ◌/◌}
 use native.Mathlib.Omega.{arith}
-use Rattle.leap_table.specs.rows.Table.{mostSeconds}
+use Rattle.leap_table.specs.rows.Table.{most_seconds}
 use Rattle.utc_scales.proofs.round_trip.Steady.{Slow}
 
 -- the residual is at most P in size
@@ -30,24 +30,24 @@ pub record GuessMoved (e bp bn tp tn up un up' un' : ℕ) : Type 0 where
 
 -- The bounds of the residual in units of h, 2 ^ -53 s: at first TAI-UTC, and after each round 86400 times less, but for the rounding; and of what comes back.
 -- They are 477381560501618176, 5525250752479, 65159298, 1210391 and 1556013 where TAI-UTC is at most 53 s.
-abbrev pub atFirst : ℕ
-atFirst = mostSeconds * 9007199254740992 + 345600
+abbrev pub at_first : ℕ
+at_first = most_seconds * 9007199254740992 + 345600
 
-abbrev pub afterOne : ℕ
-afterOne = (atFirst + 104512550422) / 86400 + 1
+abbrev pub after_one : ℕ
+after_one = (at_first + 104512550422) / 86400 + 1
 
-abbrev pub afterTwo : ℕ
-afterTwo = (afterOne + 104512550422) / 86400 + 1
+abbrev pub after_two : ℕ
+after_two = (after_one + 104512550422) / 86400 + 1
 
-abbrev pub afterThree : ℕ
-afterThree = (afterTwo + 104512550422) / 86400 + 1
+abbrev pub after_three : ℕ
+after_three = (after_two + 104512550422) / 86400 + 1
 
-abbrev pub backAgain : ℕ
-backAgain = afterThree + 345622
+abbrev pub back_again : ℕ
+back_again = after_three + 345622
 
 module _ (h Q H A bp bn : ℕ) where
   -- the first guess is b itself: its residual is TAI-UTC
-  pub start : (v g : ℕ) → Q ≡ 9007199254740992 * h → g ≤ mostSeconds * Q → DateNear h H A bp bn v → Residual H A bp bn v g (atFirst * h)
+  pub start : (v g : ℕ) → Q ≡ 9007199254740992 * h → g ≤ most_seconds * Q → DateNear h H A bp bn v → Residual H A bp bn v g (at_first * h)
   start v g e k n = record { high = omega (arith, n.high, n.low); low = omega (arith, n.high, n.low) }
 
   -- the moved guess against the TAI-UTC of the guess before: M is what an evaluation and a move are off together
@@ -56,14 +56,14 @@ module _ (h Q H A bp bn : ℕ) where
   moved-residual E e M tp tn up un up' un' v g v' k i n m n' = record { high = omega arith; low = omega arith }
 
   -- the two guesses are less than a day apart
-  pub day-apart : (v g v' P M : ℕ) → Q ≡ 9007199254740992 * h → 0 < h → P ≤ atFirst * h → M ≤ 6000000000 * h → Residual H A bp bn v g P
+  pub day-apart : (v g v' P M : ℕ) → Q ≡ 9007199254740992 * h → 0 < h → P ≤ at_first * h → M ≤ 6000000000 * h → Residual H A bp bn v g P
       → Residual H A bp bn v' g M → (v' < v + Q) × (v < v' + Q)
   day-apart v g v' P M e z k l o o' = within (P + M) (small P Q e z k) (gap v g v' P o o').0 (gap v g v' P o o').1
     where
       gap : (v g v' P : ℕ) → Residual H A bp bn v g P → Residual H A bp bn v' g M → (86400 * v' ≤ 86400 * v + (P + M)) × (86400 * v ≤ 86400 * v' + (P + M))
       gap v g v' P o o' = omega arith
 
-      small : (P Q : ℕ) → Q ≡ 9007199254740992 * h → 0 < h → P ≤ atFirst * h → P + M < 86400 * Q
+      small : (P Q : ℕ) → Q ≡ 9007199254740992 * h → 0 < h → P ≤ at_first * h → P + M < 86400 * Q
       small P Q e z k = omega (arith, l)
 
       within : (X : ℕ) → X < 86400 * Q → 86400 * v' ≤ 86400 * v + X → 86400 * v ≤ 86400 * v' + X → (v' < v + Q) × (v < v' + Q)
@@ -76,12 +76,12 @@ module _ (h Q H A bp bn : ℕ) where
   shrinks v g v' g' P M P' k o o' (inr r) = record { high = omega arith; low = omega arith }
 
   -- how far the guess is moved
-  pub move-size : (E tp tn v g P : ℕ) → Q ≡ 9007199254740992 * h → E ≤ 6000000000 * h → P ≤ atFirst * h → TaiNear E H A tp tn v g → Residual H A bp bn v g P
+  pub move_size : (E tp tn v g P : ℕ) → Q ≡ 9007199254740992 * h → E ≤ 6000000000 * h → P ≤ at_first * h → TaiNear E H A tp tn v g → Residual H A bp bn v g P
       → (1536 * (bp + tn) ≤ 1536 * (bn + tp) + Q) × (1536 * (bn + tp) ≤ 1536 * (bp + tn) + Q)
-  move-size E tp tn v g P e l k i o = omega arith
+  move_size E tp tn v g P e l k i o = omega arith
 
   -- what comes back
-  pub end : (tp tn v g : ℕ) → TaiNear (345622 * h) H A tp tn v g → Residual H A bp bn v g (afterThree * h)
-      → (86400 * (tp + bn) ≤ 86400 * (tn + bp) + backAgain * h)
-      × (86400 * (tn + bp) ≤ 86400 * (tp + bn) + backAgain * h)
+  pub end : (tp tn v g : ℕ) → TaiNear (345622 * h) H A tp tn v g → Residual H A bp bn v g (after_three * h)
+      → (86400 * (tp + bn) ≤ 86400 * (tn + bp) + back_again * h)
+      × (86400 * (tn + bp) ≤ 86400 * (tp + bn) + back_again * h)
   end tp tn v g i o = omega arith

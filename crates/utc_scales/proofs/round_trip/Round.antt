@@ -8,18 +8,18 @@ use lib.Ieee.{Float, binary64, add, sub, fits}
 use lib.Ieee.Fits.{add-fits}
 use Rattle.rounding.specs.Value.{Val, L}
 use Rattle.rounding.proofs.Value.{L-pos, val-move, rounds-move, add_rounds}
-use Rattle.rounding.proofs.Exact.{sub-exact}
-use Rattle.rounding.proofs.Chain.{ValClose, exactly, close-add, close-sub}
+use Rattle.rounding.proofs.Exact.{sub_exact}
+use Rattle.rounding.proofs.Chain.{ValClose, exactly, close_add, close_sub}
 use Rattle.julian.proofs.day_order.Once.{again}
 use Rattle.julian.specs.JulianDate.{julian}
 use Rattle.utc_scales.specs.UtcTai.{moved}
-use Rattle.utc_scales.proofs.round_trip.Units.{h, L-h, h-pos, adds}
+use Rattle.utc_scales.proofs.round_trip.Units.{h, L-h, h_pos, adds}
 use Rattle.utc_scales.proofs.round_trip.Residuals.{GuessMoved}
 
 -- ---- the larger part cancels
 pub none : {a : Float} {A : ℕ} → Val a A 0 L → Val (sub binary64 a a) 0 0 L
 unfolding L
-none {a} {A} v = val-move (sub-exact 1074 (lit≤ tt) (room A (2 ^ 53)) (room' A (2 ^ 53)) v v) (same A)
+none {a} {A} v = val-move (sub_exact 1074 (lit≤ tt) (room A (2 ^ 53)) (room' A (2 ^ 53)) v v) (same A)
   where
     room : (A k : ℕ) → A + 0 ≤ 0 + A + k
     room A k = omega arith
@@ -50,9 +50,9 @@ pub next-guess : {a b u t : Float} {A bp bn tp tn up un : ℕ} → Val a A 0 L �
 unfolding moved
 next-guess {a} {b} {u} {t} {A} {bp} {bn} {tp} {tn} {up} {un} va vb vt fu vu k l r r' =
     let d : ValClose L (sub binary64 b t) (bp + tn) (bn + tp) (0 + 0 + h) =
-    close-sub L h adds (exactly vb) (exactly vt) (room L (bp + tn) (bn + tp) L-pos k) (room L (bn + tp) (bp + tn) L-pos l) in
+    close_sub L h adds (exactly vb) (exactly vt) (room L (bp + tn) (bn + tp) L-pos k) (room L (bn + tp) (bp + tn) L-pos l) in
     let w : Val (add binary64 u (sub binary64 a a)) up un L = kept fu vu (none va) in
-    let c = close-add L h adds (exactly w) d (wide L h L-h h-pos up un (bp + tn) (bn + tp) k r) (wide L h L-h h-pos un up (bn + tp) (bp + tn) l r') in
+    let c = close_add L h adds (exactly w) d (wide L h L-h h_pos up un (bp + tn) (bn + tp) k r) (wide L h L-h h_pos un up (bn + tp) (bp + tn) l r') in
     record {
       p = c.p;
       n = c.n;

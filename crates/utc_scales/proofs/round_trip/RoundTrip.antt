@@ -21,21 +21,21 @@ use Rattle.utc_scales.specs.round_trip.RoundTrip.{ThereAndBack}
 use Rattle.utc_scales.proofs.round_trip.Units.{h, L-h}
 use Rattle.utc_scales.proofs.round_trip.Parts.{parts-joined, first_part}
 use Rattle.utc_scales.proofs.round_trip.DaySeconds.{WholeTable, table-whole, fixed-whole}
-use Rattle.utc_scales.proofs.round_trip.Residuals.{end, backAgain}
-use Rattle.utc_scales.proofs.round_trip.Rounds.{dateSeen, offsetSeen, tai-near, found}
+use Rattle.utc_scales.proofs.round_trip.Residuals.{end, back_again}
+use Rattle.utc_scales.proofs.round_trip.Rounds.{date_seen, offset_seen, tai-near, found}
 
 -- ---- in picoseconds
-over : (A bp bn rp rn Q h : ℕ) → Q ≡ 9007199254740992 * h → 86400 * (rp + bn) ≤ 86400 * (rn + bp) + backAgain * h
+over : (A bp bn rp rn Q h : ℕ) → Q ≡ 9007199254740992 * h → 86400 * (rp + bn) ≤ 86400 * (rn + bp) + back_again * h
     → 86400000000000000 * (1 * (A + rp) + 1 * bn + 0) ≤ 86400000000000000 * (1 * rn + 1 * (A + bp) + 0) + 173 * (1 * Q)
 over A bp bn rp rn Q h e k = omega arith
 
-under : (A bp bn rp rn Q h : ℕ) → Q ≡ 9007199254740992 * h → 86400 * (rn + bp) ≤ 86400 * (rp + bn) + backAgain * h
+under : (A bp bn rp rn Q h : ℕ) → Q ≡ 9007199254740992 * h → 86400 * (rn + bp) ≤ 86400 * (rp + bn) + back_again * h
     → 86400000000000000 * (1 * rn + 1 * (A + bp) + 0) ≤ 86400000000000000 * (1 * (A + rp) + 1 * bn + 0) + 173 * (1 * Q)
 under A bp bn rp rn Q h e k = omega arith
 
 -- r is what comes back for b
-back-apart : {a b r : Float} {A bp bn rp rn : ℕ} → Val a A 0 L → Val b bp bn L → Val r rp rn L → (86400 * (rp + bn) ≤ 86400 * (rn + bp) + backAgain * h)
-    × (86400 * (rn + bp) ≤ 86400 * (rp + bn) + backAgain * h)
+back-apart : {a b r : Float} {A bp bn rp rn : ℕ} → Val a A 0 L → Val b bp bn L → Val r rp rn L → (86400 * (rp + bn) ≤ 86400 * (rn + bp) + back_again * h)
+    × (86400 * (rn + bp) ≤ 86400 * (rp + bn) + back_again * h)
     → Apart 173 (julian a b) (julian a r)
 back-apart {a} {b} {r} {A} {bp} {bn} {rp} {rn} va vb vr k = record {
   p = A + bp;
@@ -56,7 +56,7 @@ back-within t s =
     let w = found t v s.held.1 s.second in
     let z = w.at.seen in
     back-apart v.val w.given z.val
-    (end h L H (s.halves * H) w.bp w.bn z.tp z.tn (dateSeen z) (offsetSeen z) (tai-near z) w.at.residual)
+    (end h L H (s.halves * H) w.bp w.bn z.tp z.tn (date_seen z) (offset_seen z) (tai-near z) w.at.residual)
 
 whole-there-and-back : {rows : List Row} → WholeTable rows → {d : JulianDate} → HalfDaySplit d → ThereAndBack rows 173 d
 whole-there-and-back t {d} s =

@@ -14,12 +14,12 @@ use Rattle.rounding.proofs.Range.{size-at-most}
 use Rattle.julian.proofs.day_number.Units.{one-L}
 use Rattle.julian.specs.JulianDate.{julian}
 use Rattle.leap_table.specs.rows.Table.{Row}
-use Rattle.utc_scales.specs.UtcTai.{moved, refined, rounds, refineUtcFraction, taiToUtc}
+use Rattle.utc_scales.specs.UtcTai.{moved, refined, rounds, refine_utc_fraction, tai_to_utc}
 use Rattle.utc_scales.specs.round_trip.UtcDays.{H}
-use Rattle.utc_scales.proofs.round_trip.Units.{h, L-H, L-h, h-pos}
+use Rattle.utc_scales.proofs.round_trip.Units.{h, L-H, L-h, h_pos}
 use Rattle.utc_scales.proofs.round_trip.Parts.{FirstPart, SecondPart}
 use Rattle.utc_scales.proofs.round_trip.DaySeconds.{WholeTable}
-use Rattle.utc_scales.proofs.round_trip.Steady.{taiUtcAt, either, few-seconds}
+use Rattle.utc_scales.proofs.round_trip.Steady.{tai_utc_at, either, few_seconds}
 use Rattle.utc_scales.proofs.round_trip.Kept.{first-larger, kept-changed}
 use Rattle.utc_scales.proofs.round_trip.Evaluated.{SeenTo, Seen, seen}
 use Rattle.utc_scales.proofs.round_trip.Residuals.{
@@ -31,36 +31,36 @@ use Rattle.utc_scales.proofs.round_trip.Residuals.{
   moved-residual,
   day-apart,
   shrinks,
-  move-size,
-  afterOne,
+  move_size,
+  after_one,
 }
-use Rattle.utc_scales.proofs.round_trip.Residuals.{afterThree, afterTwo, atFirst}
+use Rattle.utc_scales.proofs.round_trip.Residuals.{after_three, after_two, at_first}
 use Rattle.utc_scales.proofs.round_trip.Round.{Next, next-guess}
 
 -- ---- what is seen of a guess, in the numbers of a round
 module _ {rows : List Row} {E : ℕ} {a u : Float} {A up un : ℕ} (z : SeenTo rows E a u A up un) where
   -- its date, and its TAI-UTC times 86400
-  abbrev pub dateSeen : ℕ
-  dateSeen = z.day * L + z.f
+  abbrev pub date_seen : ℕ
+  date_seen = z.day * L + z.f
 
-  abbrev pub offsetSeen : ℕ
-  offsetSeen = taiUtcAt rows z.day z.f
+  abbrev pub offset_seen : ℕ
+  offset_seen = tai_utc_at rows z.day z.f
 
-  pub near : DateNear h H A up un dateSeen
+  pub near : DateNear h H A up un date_seen
   near = record { high = z.near-over; low = z.near-under }
 
-  pub tai-near : TaiNear E H A z.tp z.tn dateSeen offsetSeen
-  tai-near = record { high = z.eval-over; low = z.eval-under }
+  pub tai-near : TaiNear E H A z.tp z.tn date_seen offset_seen
+  tai-near = record { high = z.eval_over; low = z.eval_under }
 
 -- ---- the residual of the next guess, where an evaluation and a move are off by M together
 pub next-residual : {rows : List Row} {a u u' : Float} {A bp bn up un up' un' E : ℕ} (e M P P' : ℕ) → E + 86400 * (8 * h + e) ≤ M → M ≤ 6000000000 * h
-    → P ≤ atFirst * h
+    → P ≤ at_first * h
     → P + 86401 * M ≤ 86400 * P' → (z : SeenTo rows E a u A up un) (z' : SeenTo rows E a u' A up' un') → GuessMoved e bp bn z.tp z.tn up un up' un'
-    → Residual H A bp bn (dateSeen z) (offsetSeen z) P → Residual H A bp bn (dateSeen z') (offsetSeen z') P'
+    → Residual H A bp bn (date_seen z) (offset_seen z) P → Residual H A bp bn (date_seen z') (offset_seen z') P'
 next-residual {A = A} {bp} {bn} {up} {un} {up'} {un'} {E} e M P P' k l p p' z z' m r =
-    let o = moved-residual h L H A bp bn E e M z.tp z.tn up un up' un' (dateSeen z) (offsetSeen z) (dateSeen z') k (tai-near z) (near z) m (near z') in
-    let c = day-apart h L H A bp bn (dateSeen z) (offsetSeen z) (dateSeen z') P M L-h h-pos p l r o in
-    shrinks h L H A bp bn (dateSeen z) (offsetSeen z) (dateSeen z') (offsetSeen z') P M P' p' r o
+    let o = moved-residual h L H A bp bn E e M z.tp z.tn up un up' un' (date_seen z) (offset_seen z) (date_seen z') k (tai-near z) (near z) m (near z') in
+    let c = day-apart h L H A bp bn (date_seen z) (offset_seen z) (date_seen z') P M L-h h_pos p l r o in
+    shrinks h L H A bp bn (date_seen z) (offset_seen z) (date_seen z') (offset_seen z') P M P' p' r o
     (either z.day z'.day z.f z'.f z.seconds z'.seconds z.below z'.below c.0 c.1)
 
 -- ---- where a guess stands: its size, what is seen of it, and its residual
@@ -72,11 +72,11 @@ pub record GuessAt (rows : List Row) (a : Float) (A bp bn R P : ℕ) (u : Float)
   pub high : 1024 * up ≤ 1024 * un + R
   pub low : 1024 * un ≤ 1024 * up + R
   pub seen : Seen rows a u A up un
-  pub residual : Residual H A bp bn (dateSeen seen) (offsetSeen seen) P
+  pub residual : Residual H A bp bn (date_seen seen) (offset_seen seen) P
 
 module _ {rows : List Row} (w : WholeTable rows) {a b : Float} {A bp bn : ℕ} (v : FirstPart a A) (vb : Val b bp bn L) where
   -- the first guess is b
-  first : T (fits binary64 b) → bp ≤ bn + L → bn ≤ bp + L → GuessAt rows a A bp bn (1024 * L) (atFirst * h) b
+  first : T (fits binary64 b) → bp ≤ bn + L → bn ≤ bp + L → GuessAt rows a A bp bn (1024 * L) (at_first * h) b
   first t k l =
       let z : Seen rows a b A bp bn = seen w v (record { held = t; val = vb; over = wide bp bn L k; under = wide bn bp L l }) in
       record {
@@ -88,7 +88,7 @@ module _ {rows : List Row} (w : WholeTable rows) {a b : Float} {A bp bn : ℕ} (
         low = plain bn bp L l;
         seen = z;
         residual =
-            start h L H A bp bn (dateSeen z) (offsetSeen z) L-h (few-seconds z.day z.f z.seconds z.below).1 (near z);
+            start h L H A bp bn (date_seen z) (offset_seen z) L-h (few_seconds z.day z.f z.seconds z.below).1 (near z);
       }
     where
       wide : (p n Q : ℕ) → p ≤ n + Q → 1024 * p ≤ 1024 * n + 1027 * Q
@@ -98,12 +98,12 @@ module _ {rows : List Row} (w : WholeTable rows) {a b : Float} {A bp bn : ℕ} (
       plain p n Q k = omega arith
 
   -- a round: the bound P becomes P'
-  step : (R P R' P' : ℕ) → R + L ≤ R' → R' ≤ 1027 * L → P ≤ atFirst * h → P + 86401 * (1209622 * h) ≤ 86400 * P'
+  step : (R P R' P' : ℕ) → R + L ≤ R' → R' ≤ 1027 * L → P ≤ at_first * h → P + 86401 * (1209622 * h) ≤ 86400 * P'
       → {u : Float} (x : GuessAt rows a A bp bn R P u)
       → GuessAt rows a A bp bn R' P' (moved a b u (julian a x.seen.t))
   step R P R' P' r r' p p' {u} x =
       let z = x.seen in
-      let m = move-size h L H A bp bn (345622 * h) z.tp z.tn (dateSeen z) (offsetSeen z) P L-h (omega arith) p (tai-near z) x.residual in
+      let m = move_size h L H A bp bn (345622 * h) z.tp z.tn (date_seen z) (offset_seen z) P L-h (omega arith) p (tai-near z) x.residual in
       let y : Next a b u z.t bp bn z.tp z.tn x.up x.un =
       next-guess v.val vb z.val x.held x.val m.0 m.1 (within x.up x.un x.high) (within x.un x.up x.low) in
       let g = ranged x.up x.un y.p y.n (bp + z.tn) (bn + z.tp) x.high m.0 y.by.high in
@@ -143,16 +143,16 @@ module _ {rows : List Row} (w : WholeTable rows) {a b : Float} {A bp bn : ℕ} (
 
   record Refined : Type 0 where
     u : Float
-    is : refineUtcFraction rows a b ≡ answer u
-    at : GuessAt rows a A bp bn (1027 * L) (afterThree * h) u
+    is : refine_utc_fraction rows a b ≡ answer u
+    at : GuessAt rows a A bp bn (1027 * L) (after_three * h) u
 
   three-rounds : T (fits binary64 b) → bp ≤ bn + L → bn ≤ bp + L → Refined
-  unfolding refineUtcFraction rounds
+  unfolding refine_utc_fraction rounds
   three-rounds t k l =
       let x0 = first t k l in
-      let x1 = step (1024 * L) (atFirst * h) (1025 * L) (afterOne * h) (omega arith) (omega arith) (omega arith) (omega arith) x0 in
-      let x2 = step (1025 * L) (afterOne * h) (1026 * L) (afterTwo * h) (omega arith) (omega arith) (omega arith) (omega arith) x1 in
-      let x3 = step (1026 * L) (afterTwo * h) (1027 * L) (afterThree * h) (omega arith) (omega arith) (omega arith) (omega arith) x2 in
+      let x1 = step (1024 * L) (at_first * h) (1025 * L) (after_one * h) (omega arith) (omega arith) (omega arith) (omega arith) x0 in
+      let x2 = step (1025 * L) (after_one * h) (1026 * L) (after_two * h) (omega arith) (omega arith) (omega arith) (omega arith) x1 in
+      let x3 = step (1026 * L) (after_two * h) (1027 * L) (after_three * h) (omega arith) (omega arith) (omega arith) (omega arith) x2 in
       record { u = _; is = went (rounds rows a b 2) (once x0) ∙ went (rounds rows a b 1) (once x1) ∙ went (rounds rows a b 0) (once x2); at = x3 }
 
 -- ---- TAI to UTC of (a, b) is (a, u), where u stands within 135 ps
@@ -161,11 +161,11 @@ pub record Found (rows : List Row) (a b : Float) (A : ℕ) : Type 0 where
   pub bp : ℕ
   pub bn : ℕ
   pub given : Val b bp bn L
-  pub is : taiToUtc rows (julian a b) ≡ answer (julian a u)
-  pub at : GuessAt rows a A bp bn (1027 * L) (afterThree * h) u
+  pub is : tai_to_utc rows (julian a b) ≡ answer (julian a u)
+  pub at : GuessAt rows a A bp bn (1027 * L) (after_three * h) u
 
 pub found : {rows : List Row} → WholeTable rows → {a b : Float} {A : ℕ} → FirstPart a A → T (fits binary64 b) → T (le (abs b) one) → Found rows a b A
-unfolding taiToUtc
+unfolding tai_to_utc
 found {rows} t {a} {b} {A} v f k =
     let w = size-at-most f one-L k in
     let r = three-rounds t v w.val f w.high w.low in
@@ -174,7 +174,7 @@ found {rows} t {a} {b} {A} v f k =
       bp = w.p;
       bn = w.n;
       given = w.val;
-      is = kept-changed (refineUtcFraction rows) a b r.u
+      is = kept-changed (refine_utc_fraction rows) a b r.u
           (first-larger v.val w.val (under-a w.p w.n v.low w.high) (under-a w.n w.p v.low w.low)) r.is;
       at = r.at;
     }

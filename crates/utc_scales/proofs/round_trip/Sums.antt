@@ -3,34 +3,34 @@
 use mathlib.Core.Path.{◌≡◌}
 use Prim.Native.Nat.{ℕ, ◌+◌, ◌-◌, ◌*◌, ◌≤◌, ◌<◌}
 use native.Mathlib.Omega.{arith}
-use Rattle.leap_table.specs.rows.Table.{mostSeconds}
+use Rattle.leap_table.specs.rows.Table.{most_seconds}
 use Rattle.rounding.specs.Value.{L}
 use Rattle.rounding.proofs.Value.{L-pos}
 use Rattle.utc_scales.specs.round_trip.UtcDays.{H}
-use Rattle.utc_scales.proofs.round_trip.Units.{h, h-small}
+use Rattle.utc_scales.proofs.round_trip.Units.{h, h_small}
 
-module _ (f g k d p n c e : ℕ) (b : f < L) (gf : g ≤ f) (kf : k ≤ f) (dL : d ≤ mostSeconds * L)
+module _ (f g k d p n c e : ℕ) (b : f < L) (gf : g ≤ f) (kf : k ≤ f) (dL : d ≤ most_seconds * L)
     (p-over : 86400 * p + k ≤ 86400 * n + (86400 * f + g) + 113792 * h) (p-under : 86400 * f + g + 86400 * n ≤ 86400 * p + k + 113792 * h)
     (c_over : 86400 * c ≤ 86400 * e + d + 43 * h) (c_under : d + 86400 * e ≤ 86400 * c + 43 * h) where
   pub first-high : p + c < n + e + 2 * L
-  first-high = omega (arith, h-small, L-pos)
+  first-high = omega (arith, h_small, L-pos)
 
   pub first-low : n + e < p + c + 2 * L
-  first-low = omega (arith, h-small, L-pos)
+  first-low = omega (arith, h_small, L-pos)
 
   -- the stretched fraction with TAI-UTC is within L / 64 of the fraction
   pub more : 64 * (p + c) ≤ 64 * (n + e + f) + L
-  more = omega (arith, h-small, L-pos)
+  more = omega (arith, h_small, L-pos)
 
   pub less : 64 * (n + e + f) ≤ 64 * (p + c) + L
-  less = omega (arith, h-small, L-pos)
+  less = omega (arith, h_small, L-pos)
 
 module _ (f N A up un x s t P M : ℕ) (is : x + H ≡ N) where
   pub second-high : N + f + un ≤ A + up + H + 4 * h → 1024 * up ≤ 1024 * un + 1027 * L → 64 * P ≤ 64 * (M + f) + L → s + M ≤ t + P + h → x + s < A + t + 2 * L
-  second-high near u more i = omega (arith, h-small, L-pos)
+  second-high near u more i = omega (arith, h_small, L-pos)
 
   pub second-low : A + up + H ≤ N + f + un + 4 * h → 1024 * un ≤ 1024 * up + 1027 * L → 64 * (M + f) ≤ 64 * P + L → t + P ≤ s + M + h → A + t < x + s + 2 * L
-  second-low near u less i = omega (arith, h-small, L-pos)
+  second-low near u less i = omega (arith, h_small, L-pos)
 
 -- the last sum is rounded by at most q
 module _ (f g k d p n c e N A x s t y z q E : ℕ) (is : x + H ≡ N) (kd : k ≤ d) (room : 200235 * h + 86400 * q ≤ E) where

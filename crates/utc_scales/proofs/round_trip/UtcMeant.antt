@@ -13,18 +13,18 @@ use Rattle.julian.specs.JulianDate.{julian}
 use Rattle.leap_table.specs.declared.rows.AnnouncedRows.{AnnouncedRows}
 use Rattle.leap_table.specs.rows.Table.{Row, fixed}
 use Rattle.leap_table.specs.rows.Announced.{table_of}
-use Rattle.rounding.specs.Picoseconds.{dayPs}
-use Rattle.utc_scales.specs.UtcTai.{taiToUtc}
+use Rattle.rounding.specs.Picoseconds.{day_ps}
+use Rattle.utc_scales.specs.UtcTai.{tai_to_utc}
 use Rattle.utc_scales.specs.round_trip.Ranges.{HalfDaySplit}
 use Rattle.utc_scales.specs.round_trip.UtcDays.{H, WholeSeconds, OnDay, ExactDay}
 use Rattle.utc_scales.specs.round_trip.Relation.{RightUtc}
 use Rattle.utc_scales.proofs.round_trip.Units.{h, L-h}
 use Rattle.utc_scales.proofs.round_trip.Parts.{Stamp, stamp-of, parts-joined, parts-worth, first_part}
 use Rattle.utc_scales.proofs.round_trip.DaySeconds.{WholeTable, table-whole, fixed-whole}
-use Rattle.utc_scales.proofs.round_trip.Steady.{taiUtcAt}
+use Rattle.utc_scales.proofs.round_trip.Steady.{tai_utc_at}
 use Rattle.utc_scales.proofs.round_trip.Evaluated.{SeenTo}
 use Rattle.utc_scales.proofs.round_trip.Meant.{on-day, OffsetsNear, near-offset, exact-low, exact-high, seconds}
-use Rattle.utc_scales.proofs.round_trip.Rounds.{dateSeen, offsetSeen, found, part}
+use Rattle.utc_scales.proofs.round_trip.Rounds.{date_seen, offset_seen, found, part}
 use Rattle.utc_scales.proofs.round_trip.Exactly.{Said, means-of}
 
 -- ---- a guess u of the UTC of (a, b), whose residual is at most P, on its exact day: W is its date by that day, x the one that the calendar finds; K and G
@@ -39,7 +39,7 @@ under A bp bn W x K G P k l m = omega arith
 
 module _ {rows : List Row} (t : WholeTable rows) {a b u : Float} {A bp bn up un E P : ℕ} (v : Stamp a u A up un) (vb : Val b bp bn L)
     (z : SeenTo rows E a u A up un)
-    (r : Residual H A bp bn (dateSeen z) (offsetSeen z) P) (ps : ℕ) (room : dayPs * (P + 345604 * h) ≤ 86400 * (ps * L)) (n : ℕ)
+    (r : Residual H A bp bn (date_seen z) (offset_seen z) P) (ps : ℕ) (room : day_ps * (P + 345604 * h) ≤ 86400 * (ps * L)) (n : ℕ)
     (o : OnDay (A + up) un n) where
   apart : (z.day * L + z.f ≤ n * L + o.f + 4 * h) × (n * L + o.f ≤ z.day * L + z.f + 4 * h)
   apart = go (z.day * L + z.f) (n * L + o.f) z.near-over z.near-under o.is
@@ -47,21 +47,21 @@ module _ {rows : List Row} (t : WholeTable rows) {a b u : Float} {A bp bn up un 
       go : (p q : ℕ) → p + un ≤ A + up + H + 4 * h → A + up + H ≤ p + un + 4 * h → q + un ≡ A + up + H → (p ≤ q + 4 * h) × (q ≤ p + 4 * h)
       go p q i j k = omega arith
 
-  near : OffsetsNear (taiUtcAt rows z.day z.f) (taiUtcAt rows n o.f)
+  near : OffsetsNear (tai_utc_at rows z.day z.f) (tai_utc_at rows n o.f)
   near = near-offset z.day n z.f o.f z.seconds (seconds v n o t) z.below o.below apart.0 apart.1
 
-  in-picoseconds : (x y : ℕ) → x ≤ y + (P + 345604 * h) → dayPs * x ≤ dayPs * y + 86400 * (ps * L)
-  in-picoseconds x y k = omega (arith, room)
+  in_picoseconds : (x y : ℕ) → x ≤ y + (P + 345604 * h) → day_ps * x ≤ day_ps * y + 86400 * (ps * L)
+  in_picoseconds x y k = omega (arith, room)
 
-  pub guess-said : Said rows ps n o.f (julian a b)
-  guess-said = record {
+  pub guess_said : Said rows ps n o.f (julian a b)
+  guess_said = record {
     p = A + bp;
     m = bn;
     worth = parts-joined v.val1 vb;
-    over = in-picoseconds _ _ (over A bp bn (n * L + o.f) (z.day * L + z.f) (taiUtcAt rows n o.f) (taiUtcAt rows z.day z.f) P apart.0
+    over = in_picoseconds _ _ (over A bp bn (n * L + o.f) (z.day * L + z.f) (tai_utc_at rows n o.f) (tai_utc_at rows z.day z.f) P apart.0
         near.over
         r.high);
-    under = in-picoseconds _ _ (under A bp bn (n * L + o.f) (z.day * L + z.f) (taiUtcAt rows n o.f) (taiUtcAt rows z.day z.f) P apart.1
+    under = in_picoseconds _ _ (under A bp bn (n * L + o.f) (z.day * L + z.f) (tai_utc_at rows n o.f) (tai_utc_at rows z.day z.f) P apart.1
         near.under
         r.low);
   }
@@ -69,7 +69,7 @@ module _ {rows : List Row} (t : WholeTable rows) {a b u : Float} {A bp bn up un 
 -- ---- TAI to UTC of d is `date`, on the exact day n, of which d is the TAI to 173 ps
 pub record UtcFound (rows : List Row) (d : JulianDate) : Type 0 where
   pub date : JulianDate
-  pub is : taiToUtc rows d ≡ answer date
+  pub is : tai_to_utc rows d ≡ answer date
   pub same : date.jd1 ≡ d.jd1
   pub n : ℕ
   pub on : ExactDay date n
@@ -93,7 +93,7 @@ utc-found t {d} s =
       low = exact-low (stamp-of v (part x)) o.0 o.1;
       high = exact-high (stamp-of v (part x)) o.0 o.1;
       seconds = seconds (stamp-of v (part x)) o.0 o.1 t;
-      said = guess-said t (stamp-of v (part x)) r.given x.seen x.residual 173 (omega (arith, L-h)) o.0 o.1;
+      said = guess_said t (stamp-of v (part x)) r.given x.seen x.residual 173 (omega (arith, L-h)) o.0 o.1;
     }
 
 -- ---- THE THEOREM, by every table that is taken, and by the fixed one

@@ -7,16 +7,16 @@ use Rattle.refusals.specs.Outcome.{Outcome, answer, refusal, onward}
 use Rattle.refusals.proofs.Onward.{went, stopped}
 use Rattle.julian.specs.declared.CalendarFields.{CalendarFields}
 use Rattle.julian.specs.declared.JulianDate.{JulianDate}
-use Rattle.julian.specs.Calendar.{julianToCalendar}
-use Rattle.julian.specs.Finite.{finiteArg}
+use Rattle.julian.specs.Calendar.{julian_to_calendar}
+use Rattle.julian.specs.Finite.{finite_arg}
 use Rattle.leap_table.specs.rows.Table.{Row}
 use Rattle.leap_table.specs.offsets.Rule.{forget}
-use Rattle.utc_scales.specs.days.Dates.{offsetOfDate}
-use Rattle.utc_scales.specs.days.DateRule.{ruleOfDate, passOn}
-use Rattle.utc_scales.proofs.days.Rules.{passed-forgets, refused-forgets}
-use Rattle.utc_scales.specs.UtcTai.{utcToTai}
-use Rattle.utc_scales.specs.to_ut1.UtcUt1.{utcToUt1}
-use Rattle.utc_scales.specs.to_ut1.ByRule.{utcToUt1ByRule}
+use Rattle.utc_scales.specs.days.Dates.{offset_of_date}
+use Rattle.utc_scales.specs.days.DateRule.{rule_of_date, pass_on}
+use Rattle.utc_scales.proofs.days.Rules.{passed_forgets, refused-forgets}
+use Rattle.utc_scales.specs.UtcTai.{utc_to_tai}
+use Rattle.utc_scales.specs.to_ut1.UtcUt1.{utc_to_ut1}
+use Rattle.utc_scales.specs.to_ut1.ByRule.{utc_to_ut1_by_rule}
 
 module _ (rows : List Row) (d : JulianDate) where
   -- refused after two others, it is refused
@@ -27,13 +27,13 @@ module _ (rows : List Row) (d : JulianDate) where
   late (answer a) (refusal j) q f k e = (j, refl)
   late (answer a) (answer b) q f k e = (k, stopped (f b) e)
 
-  pub utc-to-ut1-forgets : (dut1 : Float) → forget (utcToUt1ByRule rows d dut1) ≡ utcToUt1 rows d dut1
-  unfolding utcToUt1ByRule ruleOfDate utcToUt1 offsetOfDate
-  utc-to-ut1-forgets dut1 = go (julianToCalendar d.jd1 d.jd2) refl
+  pub utc-to-ut1-forgets : (dut1 : Float) → forget (utc_to_ut1_by_rule rows d dut1) ≡ utc_to_ut1 rows d dut1
+  unfolding utc_to_ut1_by_rule rule_of_date utc_to_ut1 offset_of_date
+  utc-to-ut1-forgets dut1 = go (julian_to_calendar d.jd1 d.jd2) refl
     where
-      go : (w : Outcome CalendarFields) → julianToCalendar d.jd1 d.jd2 ≡ w
-          → forget (passOn (utcToUt1 rows d dut1) (ruleOfDate rows d.jd1 d.jd2)) ≡ utcToUt1 rows d dut1
-      go (answer c) e = passed-forgets _ _ _ (went _ e)
+      go : (w : Outcome CalendarFields) → julian_to_calendar d.jd1 d.jd2 ≡ w
+          → forget (pass_on (utc_to_ut1 rows d dut1) (rule_of_date rows d.jd1 d.jd2)) ≡ utc_to_ut1 rows d dut1
+      go (answer c) e = passed_forgets _ _ _ (went _ e)
       go (refusal k) e =
-          let (j, h) = late (finiteArg dut1) (utcToTai rows d) (offsetOfDate rows d.jd1 d.jd2) _ k (stopped _ e) in
+          let (j, h) = late (finite_arg dut1) (utc_to_tai rows d) (offset_of_date rows d.jd1 d.jd2) _ k (stopped _ e) in
           refused-forgets _ _ j h

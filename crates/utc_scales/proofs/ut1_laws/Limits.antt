@@ -13,15 +13,15 @@ use Rattle.rounding.specs.Value.{Val, L}
 use Rattle.julian.specs.declared.JulianDate.{JulianDate}
 use Rattle.julian.specs.JulianDate.{julian}
 use Rattle.leap_table.specs.rows.Table.{fixed}
-use Rattle.rounding.specs.Picoseconds.{dayPs}
+use Rattle.rounding.specs.Picoseconds.{day_ps}
 use Rattle.scales.specs.laws.Meaning.{Apart}
 use Rattle.scales.proofs.laws.Meant.{worth-unique}
-use Rattle.utc_scales.specs.to_ut1.UtcUt1.{utcToUt1}
-use Rattle.utc_scales.specs.from_ut1.Ut1Utc.{ut1ToUtc}
-use Rattle.utc_scales.specs.laws.Twenty.{utc-ut1, ut1-utc, answerOfAny}
-use Rattle.utc_scales.proofs.laws.Computed.{computed, as-computed}
+use Rattle.utc_scales.specs.to_ut1.UtcUt1.{utc_to_ut1}
+use Rattle.utc_scales.specs.from_ut1.Ut1Utc.{ut1_to_utc}
+use Rattle.utc_scales.specs.laws.Twenty.{utc-ut1, ut1-utc, answer_of_any}
+use Rattle.utc_scales.proofs.laws.Computed.{computed, as_computed}
 use Rattle.utc_scales.specs.round_trip.UtcDays.{H}
-use Rattle.utc_scales.proofs.round_trip.Units.{L-H, in-units}
+use Rattle.utc_scales.proofs.round_trip.Units.{L-H, in_units}
 use Rattle.utc_scales.proofs.round_trip.Parts.{parts-joined}
 use Rattle.utc_scales.specs.ut1_laws.Back.{Ut1ThereAndBack}
 
@@ -29,23 +29,23 @@ use Rattle.utc_scales.specs.ut1_laws.Back.{Ut1ThereAndBack}
 abbrev stamp : ℕ → JulianDate
 stamp n = julian (decimal 24577515 1) (of_bits binary64 n)
 
-to-ut1 : (d x : JulianDate) → computed fixed (utc-ut1 half) d ≡ answer x → utcToUt1 fixed d half ≡ answer x
-unfolding answerOfAny
-to-ut1 d x e = as-computed fixed (utc-ut1 half) d ∙ e
+to-ut1 : (d x : JulianDate) → computed fixed (utc-ut1 half) d ≡ answer x → utc_to_ut1 fixed d half ≡ answer x
+unfolding answer_of_any
+to-ut1 d x e = as_computed fixed (utc-ut1 half) d ∙ e
 
-to-utc : (d x : JulianDate) → computed fixed (ut1-utc half) d ≡ answer x → ut1ToUtc fixed d half ≡ answer x
-unfolding answerOfAny
-to-utc d x e = as-computed fixed (ut1-utc half) d ∙ e
+to-utc : (d x : JulianDate) → computed fixed (ut1-utc half) d ≡ answer x → ut1_to_utc fixed d half ≡ answer x
+unfolding answer_of_any
+to-utc d x e = as_computed fixed (ut1-utc half) d ∙ e
 
 same : {o : Outcome JulianDate} {x y : JulianDate} → o ≡ answer x → o ≡ answer y → x ≡ y
 same p q = cc
 
 -- 0.25 + 0.5 / 86400, and 0.25 + 1 / 86400
-there : ut1ToUtc fixed (stamp 0x3fd0_0000_0000_0000) half ≡ answer (stamp 0x3fd0_0018_45c8_a0ce)
+there : ut1_to_utc fixed (stamp 0x3fd0_0000_0000_0000) half ≡ answer (stamp 0x3fd0_0018_45c8_a0ce)
 unfolding computed round of_bits
 there = to-utc (stamp 0x3fd0_0000_0000_0000) (stamp 0x3fd0_0018_45c8_a0ce) refl
 
-again : utcToUt1 fixed (stamp 0x3fd0_0018_45c8_a0ce) half ≡ answer (stamp 0x3fd0_0030_8b91_419c)
+again : utc_to_ut1 fixed (stamp 0x3fd0_0018_45c8_a0ce) half ≡ answer (stamp 0x3fd0_0030_8b91_419c)
 unfolding computed round of_bits
 again = to-ut1 (stamp 0x3fd0_0018_45c8_a0ce) (stamp 0x3fd0_0030_8b91_419c) refl
 
@@ -63,25 +63,25 @@ q-pos = lit< tt
 
 midnight-val : Val (decimal 24577515 1) (4915503 * H) 0 L
 unfolding round
-midnight-val = in-units 4915503 2 H L-H (record { sign = false; size = 4915503; has = (refl, refl); is = refl })
+midnight-val = in_units 4915503 2 H L-H (record { sign = false; size = 4915503; has = (refl, refl); is = refl })
 
 given-val : Val (of_bits binary64 0x3fd0_0000_0000_0000) (4503599627370496 * q) 0 L
 unfolding of_bits
-given-val = in-units 4503599627370496 (2 ^ 54) q L-q (record { sign = false; size = 4503599627370496; has = (refl, refl); is = refl })
+given-val = in_units 4503599627370496 (2 ^ 54) q L-q (record { sign = false; size = 4503599627370496; has = (refl, refl); is = refl })
 
-again-val : Val (of_bits binary64 0x3fd0_0030_8b91_419c) (4503808127353244 * q) 0 L
+again_val : Val (of_bits binary64 0x3fd0_0030_8b91_419c) (4503808127353244 * q) 0 L
 unfolding of_bits
-again-val = in-units 4503808127353244 (2 ^ 54) q L-q (record { sign = false; size = 4503808127353244; has = (refl, refl); is = refl })
+again_val = in_units 4503808127353244 (2 ^ 54) q L-q (record { sign = false; size = 4503808127353244; has = (refl, refl); is = refl })
 
 pub one-second-off : Ut1ThereAndBack fixed 999999999990 (stamp 0x3fd0_0000_0000_0000) half → ⊥
 one-second-off r =
     let e : r.u ≡ stamp 0x3fd0_0018_45c8_a0ce = same r.there there in
-    let f : r.t ≡ stamp 0x3fd0_0030_8b91_419c = same (subst (λ (u : JulianDate). utcToUt1 fixed u half ≡ answer r.t) e r.back) again in
+    let f : r.t ≡ stamp 0x3fd0_0030_8b91_419c = same (subst (λ (u : JulianDate). utc_to_ut1 fixed u half ≡ answer r.t) e r.back) again in
     let c : Apart 999999999990 (stamp 0x3fd0_0000_0000_0000) (stamp 0x3fd0_0030_8b91_419c) =
     subst (λ (t : JulianDate). Apart 999999999990 (stamp 0x3fd0_0000_0000_0000) t) f r.apart in
     go c.p c.n c.p' c.n' (4915503 * H) (worth-unique c.from (parts-joined midnight-val given-val))
-    (worth-unique c.to (parts-joined midnight-val again-val)) c.over
+    (worth-unique c.to (parts-joined midnight-val again_val)) c.over
   where
     go : (p n p' n' A : ℕ) → p + 0 ≡ A + 4503599627370496 * q + n → p' + 0 ≡ A + 4503808127353244 * q + n'
-        → dayPs * (1 * p' + 1 * n + 0) ≤ dayPs * (1 * n' + 1 * p + 0) + 999999999990 * (1 * L) → ⊥
+        → day_ps * (1 * p' + 1 * n + 0) ≤ day_ps * (1 * n' + 1 * p + 0) + 999999999990 * (1 * L) → ⊥
     go p n p' n' A e f k = omega (arith, L-q, q-pos)

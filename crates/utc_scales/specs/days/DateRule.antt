@@ -2,20 +2,20 @@
 -- at 0h. Assumes nothing.
 use Rattle.std.specs.Prelude.{List, Float}
 use Rattle.refusals.specs.Outcome.{Outcome, answer, onward}
-use Rattle.julian.specs.Calendar.{julianToCalendar}
+use Rattle.julian.specs.Calendar.{julian_to_calendar}
 use Rattle.leap_table.specs.declared.offsets.Rule.{Rule}
 use Rattle.leap_table.specs.rows.Table.{Row}
-unfoldable pub use Rattle.leap_table.specs.offsets.Rule.{ruleOn}
-use Rattle.utc_scales.specs.days.Dates.{offsetOfDate}
+unfoldable pub use Rattle.leap_table.specs.offsets.Rule.{rule_on}
+use Rattle.utc_scales.specs.days.Dates.{offset_of_date}
 
 -- the rule of the day of a Julian date
-unfoldable pub ruleOfDate : List Row → Float → Float → Outcome Rule
-ruleOfDate rows jd1 jd2 = onward (julianToCalendar jd1 jd2) (λ c. answer (ruleOn rows c.date))
+unfoldable pub rule_of_date : List Row → Float → Float → Outcome Rule
+rule_of_date rows jd1 jd2 = onward (julian_to_calendar jd1 jd2) (λ c. answer (rule_on rows c.date))
 
 -- an answer with the rule that is passed on; its own refusals come first
-unfoldable pub passOn : {A : Type 0} → Outcome A → Outcome Rule → Outcome (A × Rule)
-passOn o q = onward o (λ a. onward q (λ r. answer (a, r)))
+unfoldable pub pass_on : {A : Type 0} → Outcome A → Outcome Rule → Outcome (A × Rule)
+pass_on o q = onward o (λ a. onward q (λ r. answer (a, r)))
 
 -- the offset at 0h of the day of a Julian date, with its rule
-unfoldable pub offsetOfDateByRule : List Row → Float → Float → Outcome (Float × Rule)
-offsetOfDateByRule rows jd1 jd2 = passOn (offsetOfDate rows jd1 jd2) (ruleOfDate rows jd1 jd2)
+unfoldable pub offset_of_date_by_rule : List Row → Float → Float → Outcome (Float × Rule)
+offset_of_date_by_rule rows jd1 jd2 = pass_on (offset_of_date rows jd1 jd2) (rule_of_date rows jd1 jd2)

@@ -9,27 +9,27 @@ use Rattle.julian.specs.JulianDate.{julian}
 use Rattle.utc_scales.specs.declared.days.Parts.{Parts}
 
 -- whether jd1 counts as the larger part in size; on equal sizes it does
-unfoldable pub firstIsKept : JulianDate → Bool
-firstIsKept d = le (abs d.jd2) (abs d.jd1)
+unfoldable pub first_is_kept : JulianDate → Bool
+first_is_kept d = le (abs d.jd2) (abs d.jd1)
 
-abbrev pub keptAs : JulianDate → Bool → Parts
-keptAs d true = record { larger = d.jd1; smaller = d.jd2; first = true }
-keptAs d false = record { larger = d.jd2; smaller = d.jd1; first = false }
+abbrev pub kept_as : JulianDate → Bool → Parts
+kept_as d true = record { larger = d.jd1; smaller = d.jd2; first = true }
+kept_as d false = record { larger = d.jd2; smaller = d.jd1; first = false }
 
-unfoldable pub keptParts : JulianDate → Parts
-keptParts d = keptAs d (firstIsKept d)
+unfoldable pub kept_parts : JulianDate → Parts
+kept_parts d = kept_as d (first_is_kept d)
 
 -- the larger part in its place, and x for the smaller one
-abbrev pub besideAs : Bool → Float → Float → JulianDate
-besideAs true larger x = julian larger x
-besideAs false larger x = julian x larger
+abbrev pub beside_as : Bool → Float → Float → JulianDate
+beside_as true larger x = julian larger x
+beside_as false larger x = julian x larger
 
-unfoldable pub putBeside : Parts → Float → JulianDate
-putBeside p x = besideAs p.first p.larger x
+unfoldable pub put_beside : Parts → Float → JulianDate
+put_beside p x = beside_as p.first p.larger x
 
 unfoldable pub placed : Parts → Float → Outcome JulianDate
-placed p x = answer (putBeside p x)
+placed p x = answer (put_beside p x)
 
 -- the date with its smaller part changed by f, which is given the larger part first and may refuse
-unfoldable pub changeSmaller : (Float → Float → Outcome Float) → JulianDate → Outcome JulianDate
-changeSmaller f d = onward (f (keptParts d).larger (keptParts d).smaller) (placed (keptParts d))
+unfoldable pub change_smaller : (Float → Float → Outcome Float) → JulianDate → Outcome JulianDate
+change_smaller f d = onward (f (kept_parts d).larger (kept_parts d).smaller) (placed (kept_parts d))

@@ -3,9 +3,9 @@
 use Rattle.std.specs.Prelude.{◌≡◌, true, List, ℤ, pos, Float}
 use Rattle.std.specs.Int.Signed.{le_z}
 use Rattle.refusals.specs.Outcome.{Outcome, answer, refusal}
-use Rattle.calendar.specs.Gregorian.{gregorianDate}
+use Rattle.calendar.specs.Gregorian.{gregorian_date}
 use Rattle.leap_table.specs.rows.Table.{Row}
-use Rattle.utc_scales.specs.days.Dates.{offsetAt0h}
+use Rattle.utc_scales.specs.days.Dates.{offset_at0h}
 use Rattle.utc_scales.specs.declared.from_ut1.months.KnownMonth.{KnownMonth}
 use Rattle.utc_scales.specs.declared.from_ut1.months.MonthAnswer.{MonthAnswer}
 use Rattle.utc_scales.specs.declared.from_ut1.months.MonthAnswer.TheVariants as M
@@ -14,12 +14,12 @@ use Rattle.utc_scales.specs.declared.from_ut1.DayScan.TheVariants as Scan
 
 unfoldable pub RightMonth : List Row → KnownMonth → Type 0
 RightMonth rows k =
-    (n : ℤ) → (gregorianDate n).year ≡ k.year → (gregorianDate n).month ≡ k.month → le_z (pos 1972) k.year ≡ true
-    → offsetAt0h rows (gregorianDate n) ≡ answer k.seconds
+    (n : ℤ) → (gregorian_date n).year ≡ k.year → (gregorian_date n).month ≡ k.month → le_z (pos 1972) k.year ≡ true
+    → offset_at0h rows (gregorian_date n) ≡ answer k.seconds
 
-unfoldable pub monthOutcome : MonthAnswer → Outcome Float
-monthOutcome (M.Month k) = answer k.seconds
-monthOutcome (M.Refused number) = refusal number
+unfoldable pub month_outcome : MonthAnswer → Outcome Float
+month_outcome (M.Month k) = answer k.seconds
+month_outcome (M.Refused number) = refusal number
 
 unfoldable pub RightMonths : List Row → MonthAnswer → Type 0
 RightMonths rows (M.Month k) = RightMonth rows k

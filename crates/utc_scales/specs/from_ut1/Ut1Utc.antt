@@ -12,40 +12,40 @@ use Rattle.std.specs.Float.{binary64}
 use Rattle.std.specs.Float.Ieee.{of_int, add, sub, mul, div, lt, le}
 use Rattle.refusals.specs.Outcome.{Outcome, answer, refusal, onward}
 use Rattle.floats.specs.Whole.{abs, nought, half, one}
-use Rattle.constants.specs.Constants.{secondsPerDay}
+use Rattle.constants.specs.Constants.{seconds_per_day}
 use Rattle.julian.specs.declared.JulianDate.{JulianDate}
-use Rattle.julian.specs.Calendar.{julianToCalendar}
-use Rattle.julian.specs.Finite.{finiteJd, finiteArg}
+use Rattle.julian.specs.Calendar.{julian_to_calendar}
+use Rattle.julian.specs.Finite.{finite_jd, finite_arg}
 use Rattle.leap_table.specs.rows.Table.{Row}
-use Rattle.utc_scales.specs.days.LargerPart.{changeSmaller}
-use Rattle.utc_scales.specs.days.Dates.{offsetAt0h, offsetOfDate, midnightOf}
+use Rattle.utc_scales.specs.days.LargerPart.{change_smaller}
+use Rattle.utc_scales.specs.days.Dates.{offset_at0h, offset_of_date, midnight_of}
 use Rattle.utc_scales.specs.declared.from_ut1.DayScan.{DayScan}
 use Rattle.utc_scales.specs.declared.from_ut1.DayScan.TheVariants as Day
 
 -- ---- DUT1 near a step of TAI-UTC by delta at the midnight z
 
 -- less the step, where both have one sign
-unfoldable pub beforeStep : Float → Float → Float
-beforeStep delta dut1 = cond (le nought (mul binary64 delta dut1)) (sub binary64 dut1 delta) dut1
+unfoldable pub before_step : Float → Float → Float
+before_step delta dut1 = cond (le nought (mul binary64 delta dut1)) (sub binary64 dut1 delta) dut1
 
 -- the days since the start of the day before z, in UTC by this DUT1
-unfoldable pub timePastLeap : Float → Float → JulianDate → Float → Float
-timePastLeap big small z dut1 =
-    add binary64 (sub binary64 big z.jd1) (sub binary64 small (add binary64 (sub binary64 z.jd2 one) (div binary64 dut1 secondsPerDay)))
+unfoldable pub time_past_leap : Float → Float → JulianDate → Float → Float
+time_past_leap big small z dut1 =
+    add binary64 (sub binary64 big z.jd1) (sub binary64 small (add binary64 (sub binary64 z.jd2 one) (div binary64 dut1 seconds_per_day)))
 
 -- the Rust's fmin(x, 1.0), which is 1.0 of a NaN
-unfoldable pub atMostOne : Float → Float
-atMostOne x = cond (lt x one) x one
+unfoldable pub at_most_one : Float → Float
+at_most_one x = cond (lt x one) x one
 
 -- more by the part of the step that has passed
-unfoldable pub afterStep : Float → Float → Float → Float
-afterStep past delta dut1 =
+unfoldable pub after_step : Float → Float → Float → Float
+after_step past delta dut1 =
     cond (lt nought past)
-    (add binary64 dut1 (mul binary64 delta (atMostOne (div binary64 (mul binary64 past secondsPerDay) (add binary64 secondsPerDay delta)))))
+    (add binary64 dut1 (mul binary64 delta (at_most_one (div binary64 (mul binary64 past seconds_per_day) (add binary64 seconds_per_day delta)))))
     dut1
 
-unfoldable pub nearStep : Float → Float → Float → Float → JulianDate → Float
-nearStep big small dut1 delta z = afterStep (timePastLeap big small z (beforeStep delta dut1)) delta (beforeStep delta dut1)
+unfoldable pub near_step : Float → Float → Float → Float → JulianDate → Float
+near_step big small dut1 delta z = after_step (time_past_leap big small z (before_step delta dut1)) delta (before_step delta dut1)
 
 -- ---- the scan
 
@@ -53,36 +53,36 @@ nearStep big small dut1 delta z = afterStep (timePastLeap big small z (beforeSte
 pub data Scanned : Type 0 where
   noStep step : Float → Scanned
 
-unfoldable pub scanOutcome : DayScan → Outcome Scanned
-scanOutcome (Day.NoStep k) = answer (noStep k.seconds)
-scanOutcome (Day.Step x) = answer (step x)
-scanOutcome (Day.Refused number) = refusal number
+unfoldable pub scan_outcome : DayScan → Outcome Scanned
+scan_outcome (Day.NoStep k) = answer (noStep k.seconds)
+scan_outcome (Day.Step x) = answer (step x)
+scan_outcome (Day.Refused number) = refusal number
 
 -- the day i days later, where the day before has TAI-UTC `before`
-unfoldable pub scanDay : List Row → Float → Float → Float → Float → Float → Outcome Scanned
-scanDay rows big small dut1 i before =
-    onward (julianToCalendar big (add binary64 small i)) (λ c.
-    onward (offsetAt0h rows c.date) (λ x.
+unfoldable pub scan_day : List Row → Float → Float → Float → Float → Float → Outcome Scanned
+scan_day rows big small dut1 i before =
+    onward (julian_to_calendar big (add binary64 small i)) (λ c.
+    onward (offset_at0h rows c.date) (λ x.
     cond (lt (abs (sub binary64 x before)) half) (answer (noStep x))
-    (onward (midnightOf c.date) (λ z. answer (step (nearStep big small dut1 (sub binary64 x before) z))))))
+    (onward (midnight_of c.date) (λ z. answer (step (near_step big small dut1 (sub binary64 x before) z))))))
 
 -- on to the next day, until a step
-unfoldable pub untilStep : (Float → Outcome Float) → Scanned → Outcome Float
-untilStep next (noStep x) = next x
-untilStep next (step dut1) = answer dut1
+unfoldable pub until_step : (Float → Outcome Float) → Scanned → Outcome Float
+until_step next (noStep x) = next x
+until_step next (step dut1) = answer dut1
 
 -- so many days from day i on; with no step DUT1 stays
 unfoldable pub scan : List Row → Float → Float → Float → ℕ → ℕ → Float → Outcome Float
 scan rows big small dut1 zero i before = answer dut1
 scan rows big small dut1 (suc k) i before =
-    onward (scanDay rows big small dut1 (of_int binary64 (pos i)) before) (untilStep (scan rows big small dut1 k (i + 1)))
+    onward (scan_day rows big small dut1 (of_int binary64 (pos i)) before) (until_step (scan rows big small dut1 k (i + 1)))
 
 -- day -1 is only looked up; the four days from 0 to 3 are each compared with the one before
-unfoldable pub adjustDut1 : List Row → Float → Float → Float → Outcome Float
-adjustDut1 rows big small dut1 = onward (offsetOfDate rows big (add binary64 small (of_int binary64 (negsuc 0)))) (scan rows big small dut1 4 0)
+unfoldable pub adjust_dut1 : List Row → Float → Float → Float → Outcome Float
+adjust_dut1 rows big small dut1 = onward (offset_of_date rows big (add binary64 small (of_int binary64 (negsuc 0)))) (scan rows big small dut1 4 0)
 
-unfoldable pub utcFraction : List Row → Float → Float → Float → Outcome Float
-utcFraction rows dut1 big small = onward (adjustDut1 rows big small dut1) (λ x. answer (sub binary64 small (div binary64 x secondsPerDay)))
+unfoldable pub utc_fraction : List Row → Float → Float → Float → Outcome Float
+utc_fraction rows dut1 big small = onward (adjust_dut1 rows big small dut1) (λ x. answer (sub binary64 small (div binary64 x seconds_per_day)))
 
-unfoldable pub ut1ToUtc : List Row → JulianDate → Float → Outcome JulianDate
-ut1ToUtc rows d dut1 = onward (finiteArg dut1) (λ _. onward (finiteJd d) (changeSmaller (utcFraction rows dut1)))
+unfoldable pub ut1_to_utc : List Row → JulianDate → Float → Outcome JulianDate
+ut1_to_utc rows d dut1 = onward (finite_arg dut1) (λ _. onward (finite_jd d) (change_smaller (utc_fraction rows dut1)))

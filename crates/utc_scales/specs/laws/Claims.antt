@@ -5,11 +5,11 @@ use Rattle.std.specs.Int.Signed.{lt_z}
 use Rattle.std.specs.Float.{binary64}
 use Rattle.std.specs.Float.Ieee.{fits}
 use Rattle.refusals.specs.Outcome.{Outcome, answer, refusal}
-use Rattle.calendar.specs.Gregorian.{gregorianDate}
-use Rattle.julian.specs.day_number.DayNumber.{dayOf}
+use Rattle.calendar.specs.Gregorian.{gregorian_date}
+use Rattle.julian.specs.day_number.DayNumber.{day_of}
 use Rattle.julian.specs.day_number.ExactDay.{OnGrid}
 use Rattle.julian.specs.declared.JulianDate.{JulianDate}
-use Rattle.utc_scales.specs.days.LargerPart.{firstIsKept, keptParts}
+use Rattle.utc_scales.specs.days.LargerPart.{first_is_kept, kept_parts}
 
 -- A holds of the answer, or R of the refusal's number
 pub data Holds {X : Type 0} (A : X → Type 0) (R : ℕ → Type 0) : Outcome X → Type 0 where
@@ -46,16 +46,16 @@ DecidedUt1 false r e o = o ≡ refusal 10
 DecidedUt1 true r e o = DecidedDay r e o
 
 -- whether the year of the day of a pair of parts is before -4799
-abbrev pub earlyDay : Float → Float → Bool
-earlyDay x y = lt_z (gregorianDate (dayOf x y).day).year (negsuc 4798)
+abbrev pub early_day : Float → Float → Bool
+early_day x y = lt_z (gregorian_date (day_of x y).day).year (negsuc 4798)
 
 -- the same of a date as UTC to UT1 reads it: the larger part first for TAI, and then jd1 first for TAI-UTC
-abbrev pub earlyUtc : JulianDate → Bool
-earlyUtc d = earlyDay (keptParts d).larger (keptParts d).smaller || earlyDay d.jd1 d.jd2
+abbrev pub early_utc : JulianDate → Bool
+early_utc d = early_day (kept_parts d).larger (kept_parts d).smaller || early_day d.jd1 d.jd2
 
 -- enough for one day in both orders: jd1 is the larger part, or both parts are on the grid
 abbrev pub OneDay : JulianDate → Type 0
-OneDay d = (firstIsKept d ≡ true) ⊎ (OnGrid d.jd1 × OnGrid d.jd2)
+OneDay d = (first_is_kept d ≡ true) ⊎ (OnGrid d.jd1 × OnGrid d.jd2)
 
 -- the part in the place of the larger part of d, where b says whether that is jd1
 abbrev pub part_at : Bool → JulianDate → Float
@@ -64,7 +64,7 @@ part_at false d = d.jd2
 
 -- u has the larger part of d, the same float in the same place
 abbrev pub KeepsLarger : JulianDate → JulianDate → Type 0
-KeepsLarger d u = part_at (firstIsKept d) u ≡ part_at (firstIsKept d) d
+KeepsLarger d u = part_at (first_is_kept d) u ≡ part_at (first_is_kept d) d
 
 -- x is an f64
 abbrev pub Fits : Float → Type 0

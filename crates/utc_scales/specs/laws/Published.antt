@@ -9,7 +9,7 @@ use Rattle.constants.specs.Constants.{decimal}
 use Rattle.julian.specs.declared.JulianDate.{JulianDate}
 use Rattle.julian.specs.JulianDate.{julian}
 use Rattle.leap_table.specs.rows.Table.{fixed}
-use Rattle.utc_scales.specs.laws.Twenty.{Twenty, utc-tai, tai-utc, utc-ut1, ut1-utc, answerOfAny}
+use Rattle.utc_scales.specs.laws.Twenty.{Twenty, utc_tai, tai_utc, utc-ut1, ut1-utc, answer_of_any}
 
 pub record Check : Type 0 where
   pub call : Twenty
@@ -25,10 +25,10 @@ abbrev pub dut1 : Float
 dut1 = decimal 3341 4
 
 unfoldable pub utctai : Check
-utctai = record { call = utc-tai; given = on2006 (decimal 892100694 9); published = on2006 (decimal 8924826384444444444 19) }
+utctai = record { call = utc_tai; given = on2006 (decimal 892100694 9); published = on2006 (decimal 8924826384444444444 19) }
 
 unfoldable pub taiutc : Check
-taiutc = record { call = tai-utc; given = on2006 (decimal 892482639 9); published = on2006 (decimal 8921006945555555556 19) }
+taiutc = record { call = tai_utc; given = on2006 (decimal 892482639 9); published = on2006 (decimal 8921006945555555556 19) }
 
 unfoldable pub utcut1 : Check
 utcut1 = record { call = utc-ut1 dut1; given = on2006 (decimal 892100694 9); published = on2006 (decimal 8921045608981481481 19) }
@@ -38,11 +38,11 @@ ut1utc = record { call = ut1-utc dut1; given = on2006 (decimal 892104561 9); pub
 
 -- the answer is the published value, each part the float nearest to its decimal
 abbrev pub MetToTheBit : Check → Type 0
-MetToTheBit c = answerOfAny fixed c.call c.given ≡ answer c.published
+MetToTheBit c = answer_of_any fixed c.call c.given ≡ answer c.published
 
 -- the first part is the published one, and the second is within SOFA's tolerance of it
 pub record Met (c : Check) : Type 0 where
   pub date : JulianDate
-  pub is : answerOfAny fixed c.call c.given ≡ answer date
+  pub is : answer_of_any fixed c.call c.given ≡ answer date
   pub first : date.jd1 ≡ c.published.jd1
   pub second : T (le (abs (sub binary64 date.jd2 c.published.jd2)) (decimal 1 12))

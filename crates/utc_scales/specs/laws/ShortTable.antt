@@ -3,37 +3,37 @@
 -- no such row is announced. Assumes nothing.
 use Rattle.std.specs.Prelude.{ℕ, zero, suc, ◌+◌, ◌-◌, ◌*◌, List, [], ◌∷◌, ◌++◌, ℤ, pos, negsuc, replicate}
 use Rattle.leap_table.specs.declared.rows.AnnouncedRows.{AnnouncedRows}
-use Rattle.leap_table.specs.rows.Table.{Row, row, fixed, fixedRows, lastSeconds}
+use Rattle.leap_table.specs.rows.Table.{Row, row, fixed, fixed_rows, last_seconds}
 
 -- so many seconds less than the last fixed row's are 36
 abbrev pub lowered : ℕ
-lowered = lastSeconds - 36
+lowered = last_seconds - 36
 
 -- the rows that come down, the last of which is 36 s in January 2030
-abbrev pub downMonths : ℕ → List ℤ
-downMonths zero = []
-downMonths (suc i) = (pos (24360 - i)) ∷ downMonths i
+abbrev pub down_months : ℕ → List ℤ
+down_months zero = []
+down_months (suc i) = (pos (24360 - i)) ∷ down_months i
 
-abbrev pub downSeconds : ℕ → List ℤ
-downSeconds zero = []
-downSeconds (suc i) = (pos (36 + i)) ∷ downSeconds i
+abbrev pub down_seconds : ℕ → List ℤ
+down_seconds zero = []
+down_seconds (suc i) = (pos (36 + i)) ∷ down_seconds i
 
-abbrev pub downRows : ℕ → List Row
-downRows zero = []
-downRows (suc i) = (record { month = 24360 - i; units = 10000000 * (36 + i); start = 0; rate = 0 }) ∷ downRows i
+abbrev pub down_rows : ℕ → List Row
+down_rows zero = []
+down_rows (suc i) = (record { month = 24360 - i; units = 10000000 * (36 + i); start = 0; rate = 0 }) ∷ down_rows i
 
-unfoldable pub shortTable : AnnouncedRows
-shortTable =
+unfoldable pub short_table : AnnouncedRows
+short_table =
     record {
       months_size = suc lowered;
       seconds_size = suc lowered;
-      months = downMonths lowered ++ ((pos 24426) ∷ replicate (15 - lowered) (negsuc 0));
-      seconds = downSeconds lowered ++ ((pos 37) ∷ replicate (15 - lowered) (negsuc 0));
+      months = down_months lowered ++ ((pos 24426) ∷ replicate (15 - lowered) (negsuc 0));
+      seconds = down_seconds lowered ++ ((pos 37) ∷ replicate (15 - lowered) (negsuc 0));
     }
 
-abbrev pub shortRows : List Row
-shortRows = fixed ++ (downRows lowered ++ ((row 2035 7 370000000 0 0) ∷ []))
+abbrev pub short_rows : List Row
+short_rows = fixed ++ (down_rows lowered ++ ((row 2035 7 370000000 0 0) ∷ []))
 
 -- the place of the row of January 2030
-abbrev pub shortPlace : ℕ
-shortPlace = fixedRows + lowered - 1
+abbrev pub short_place : ℕ
+short_place = fixed_rows + lowered - 1

@@ -5,7 +5,7 @@ use Rattle.refusals.specs.Outcome.{Outcome, answer}
 use Rattle.rounding.specs.Value.{L}
 use Rattle.julian.specs.declared.JulianDate.{JulianDate}
 use Rattle.julian.specs.Worth.{Worth}
-use Rattle.rounding.specs.Picoseconds.{dayPs}
+use Rattle.rounding.specs.Picoseconds.{day_ps}
 use Rattle.scales.specs.laws.Recorders.{NotLater}
 
 -- d' is ps picoseconds or more after d; with 0, it is not before d
@@ -16,7 +16,7 @@ pub record Follows (ps : ℕ) (d d' : JulianDate) : Type 0 where
   pub n' : ℕ
   pub from : Worth d p n L
   pub to : Worth d' p' n' L
-  pub gap : dayPs * (p + n') + ps * L ≤ dayPs * (p' + n)
+  pub gap : day_ps * (p + n') + ps * L ≤ day_ps * (p' + n)
 
 -- both dates are answered, and the second's answer is not before the first's
 pub record OrderKept (f : JulianDate → Outcome JulianDate) (d d' : JulianDate) : Type 0 where

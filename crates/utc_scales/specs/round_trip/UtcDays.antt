@@ -5,11 +5,11 @@
 use Rattle.std.specs.Prelude.{◌≡◌, List, ℕ, suc, ◌+◌, ◌-◌, ◌*◌, ◌≤◌, ◌<◌, pos}
 use Rattle.rounding.specs.Value.{L}
 unfoldable pub use Rattle.rounding.specs.Value.{H}
-use Rattle.calendar.specs.Calendar.{dateOf}
+use Rattle.calendar.specs.Calendar.{date_of}
 use Rattle.julian.specs.declared.JulianDate.{JulianDate}
 use Rattle.julian.specs.Worth.{Worth}
-use Rattle.leap_table.specs.rows.Table.{Row, monthNumber, mostSeconds}
-use Rattle.leap_table.specs.offsets.Offset.{secondsIn}
+use Rattle.leap_table.specs.rows.Table.{Row, month_number, most_seconds}
+use Rattle.leap_table.specs.offsets.Offset.{seconds_in}
 
 -- (p - m) / L lies on day n: f / L of that day have passed
 pub record OnDay (p m n : ℕ) : Type 0 where
@@ -25,32 +25,32 @@ pub record ExactDay (d : JulianDate) (n : ℕ) : Type 0 where
   pub on : OnDay p m n
 
 -- the number of the month of a day number
-unfoldable pub monthOn : ℕ → ℕ
-monthOn n = monthNumber (dateOf (pos n)).year (dateOf (pos n)).month
+unfoldable pub month_on : ℕ → ℕ
+month_on n = month_number (date_of (pos n)).year (date_of (pos n)).month
 
 -- TAI-UTC at 0h of day n, in whole seconds: those of the row
-unfoldable pub secondsOn : List Row → ℕ → ℕ
-secondsOn rows n = secondsIn rows (monthOn n)
+unfoldable pub seconds_on : List Row → ℕ → ℕ
+seconds_on rows n = seconds_in rows (month_on n)
 
 -- the leap seconds that are inserted at the end of day n
-unfoldable pub leapAfter : List Row → ℕ → ℕ
-leapAfter rows n = secondsOn rows (suc n) - secondsOn rows n
+unfoldable pub leap_after : List Row → ℕ → ℕ
+leap_after rows n = seconds_on rows (suc n) - seconds_on rows n
 
 -- the seconds that are left out at the end of day n
-unfoldable pub shortAfter : List Row → ℕ → ℕ
-shortAfter rows n = secondsOn rows n - secondsOn rows (suc n)
+unfoldable pub short_after : List Row → ℕ → ℕ
+short_after rows n = seconds_on rows n - seconds_on rows (suc n)
 
 -- how a day ends: plainly, with a second inserted, or with one left out
 pub data Ending : ℕ → ℕ → Type 0 where
-  ends-plain : Ending 0 0
-  ends-longer : Ending 1 0
-  ends-shorter : Ending 0 1
+  ends_plain : Ending 0 0
+  ends_longer : Ending 1 0
+  ends_shorter : Ending 0 1
 
 -- a day from 1972 on begins with 10 to 53 whole seconds, and so does the next, which has as many, or one more or less
 pub record WholeSeconds (rows : List Row) (n : ℕ) : Type 0 where
-  pub least : 10 ≤ secondsOn rows n
-  pub most : secondsOn rows n ≤ mostSeconds
-  pub least-next : 10 ≤ secondsOn rows (suc n)
-  pub most-next : secondsOn rows (suc n) ≤ mostSeconds
-  pub ending : Ending (leapAfter rows n) (shortAfter rows n)
-  pub next : secondsOn rows n + leapAfter rows n ≡ secondsOn rows (suc n) + shortAfter rows n
+  pub least : 10 ≤ seconds_on rows n
+  pub most : seconds_on rows n ≤ most_seconds
+  pub least_next : 10 ≤ seconds_on rows (suc n)
+  pub most_next : seconds_on rows (suc n) ≤ most_seconds
+  pub ending : Ending (leap_after rows n) (short_after rows n)
+  pub next : seconds_on rows n + leap_after rows n ≡ seconds_on rows (suc n) + short_after rows n

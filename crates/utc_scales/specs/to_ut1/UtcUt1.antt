@@ -8,15 +8,15 @@ use Rattle.std.specs.Float.{binary64}
 use Rattle.std.specs.Float.Ieee.{sub}
 use Rattle.refusals.specs.Outcome.{Outcome, onward}
 use Rattle.julian.specs.declared.JulianDate.{JulianDate}
-use Rattle.julian.specs.Finite.{finiteArg}
+use Rattle.julian.specs.Finite.{finite_arg}
 use Rattle.leap_table.specs.rows.Table.{Row}
 use Rattle.scales.specs.Conversions.{answer_of, tai-ut1}
-use Rattle.utc_scales.specs.days.Dates.{offsetOfDate}
-use Rattle.utc_scales.specs.UtcTai.{utcToTai}
+use Rattle.utc_scales.specs.days.Dates.{offset_of_date}
+use Rattle.utc_scales.specs.UtcTai.{utc_to_tai}
 
-unfoldable pub utcToUt1 : List Row → JulianDate → Float → Outcome JulianDate
-utcToUt1 rows d dut1 =
-    onward (finiteArg dut1) (λ _.
-    onward (utcToTai rows d) (λ tai.
-    onward (offsetOfDate rows d.jd1 d.jd2) (λ x.
+unfoldable pub utc_to_ut1 : List Row → JulianDate → Float → Outcome JulianDate
+utc_to_ut1 rows d dut1 =
+    onward (finite_arg dut1) (λ _.
+    onward (utc_to_tai rows d) (λ tai.
+    onward (offset_of_date rows d.jd1 d.jd2) (λ x.
     answer_of (tai-ut1 (sub binary64 dut1 x)) tai)))

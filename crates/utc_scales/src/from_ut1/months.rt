@@ -1,9 +1,9 @@
 // TAI-UTC at 0h of a day with its month, by which the next day need not be looked up.
 ghost use Rattle.std.specs.Prelude.{◌≡◌};
-ghost use Rattle.calendar.specs.Gregorian.{gregorianDate};
-ghost use Rattle.leap_table.specs.rows.Announced.{rowsIn};
-ghost use Rattle.utc_scales.specs.days.Dates.{offsetAt0h, offsetOfDate};
-ghost use Rattle.utc_scales.specs.from_ut1.KnownMonths.{RightMonth, RightMonths, monthOutcome};
+ghost use Rattle.calendar.specs.Gregorian.{gregorian_date};
+ghost use Rattle.leap_table.specs.rows.Announced.{rows_in};
+ghost use Rattle.utc_scales.specs.days.Dates.{offset_at0h, offset_of_date};
+ghost use Rattle.utc_scales.specs.from_ut1.KnownMonths.{RightMonth, RightMonths, month_outcome};
 
 use crate::days::offset_at_0h;
 use julian::day_number::DayAnswer;
@@ -26,8 +26,8 @@ pub(crate) enum MonthAnswer {
 
 // TAI-UTC at 0h of the date of a day number, with the month of the day.
 fn month_of<'a>(day: i64, size: usize, months: &'a [i32; 16], seconds: &'a [i32; 16]) -> MonthAnswer
-    ensures { (monthOutcome result ≡ offsetAt0h (rowsIn size months.now seconds.now) (gregorianDate day))
-        × RightMonths (rowsIn size months.now seconds.now) result }
+    ensures { (month_outcome result ≡ offset_at0h (rows_in size months.now seconds.now) (gregorian_date day))
+        × RightMonths (rows_in size months.now seconds.now) result }
 {
     match offset_at_0h(day, size, months, seconds) {
         SecondsByRule::Refused(number) => MonthAnswer::Refused(number),
@@ -50,9 +50,9 @@ pub(crate) fn month_with<'a>(
     months: &'a [i32; 16],
     seconds: &'a [i32; 16],
 ) -> MonthAnswer
-    requires { RightMonth (rowsIn size months.now seconds.now) known }
-    ensures { (monthOutcome result ≡ offsetAt0h (rowsIn size months.now seconds.now) (gregorianDate day))
-        × RightMonths (rowsIn size months.now seconds.now) result }
+    requires { RightMonth (rows_in size months.now seconds.now) known }
+    ensures { (month_outcome result ≡ offset_at0h (rows_in size months.now seconds.now) (gregorian_date day))
+        × RightMonths (rows_in size months.now seconds.now) result }
 {
     let t = calendar::gregorian_date(day);
     if t.month == known.month {
@@ -73,8 +73,8 @@ pub(crate) fn month_of_date<'a>(
     months: &'a [i32; 16],
     seconds: &'a [i32; 16],
 ) -> MonthAnswer
-    ensures { (monthOutcome result ≡ offsetOfDate (rowsIn size months.now seconds.now) jd1 jd2)
-        × RightMonths (rowsIn size months.now seconds.now) result }
+    ensures { (month_outcome result ≡ offset_of_date (rows_in size months.now seconds.now) jd1 jd2)
+        × RightMonths (rows_in size months.now seconds.now) result }
 {
     match julian::day_number::day_number_and_fraction(jd1, jd2) {
         DayAnswer::Refused(number) => MonthAnswer::Refused(number),

@@ -1,5 +1,5 @@
 -- `c_answers::date_parts::julian_to_calendar` meets its contract. Assumes nothing.
-use Rattle.c_answers.specs.Fields.{calendarBytes}
+use Rattle.c_answers.specs.Fields.{calendar_bytes}
 use Rattle.c_answers.proofs.Deliveries.{same_outcome}
 use borrow.Author.Rules.{rules}
 use Rattle.c_answers.proofs.date_parts.julian_to_calendar.Statement.{statement}
@@ -8,7 +8,7 @@ use Rattle.c_answers.proofs.date_parts.julian_to_calendar.Tie as tie
 returns : tie.Need-returns
 returns c =
     let p = c.before.before in
-    same_outcome calendarBytes p.put-calendar.type-inv p.before.before.julian-to-calendar.ensures p.put-calendar.ensures
+    same_outcome calendar_bytes p.put-calendar.type-inv p.before.before.julian-to-calendar.ensures p.put-calendar.ensures
 
 pub julian-to-calendar-spec : {M : Type 1} → statement M
 julian-to-calendar-spec =

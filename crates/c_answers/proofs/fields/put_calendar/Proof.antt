@@ -1,6 +1,6 @@
 -- `c_answers::fields::put_calendar` meets its contract. Assumes nothing.
 use mathlib.Core.Path.{refl, ◌∙◌}
-use Rattle.c_answers.specs.Fields.{dateBytes, floatBytes, calendarBytes}
+use Rattle.c_answers.specs.Fields.{date_bytes, float_bytes, calendar_bytes}
 use Rattle.c_answers.proofs.Deliveries.{too_short, code-back}
 use Rattle.c_answers.proofs.Pieces.{in_two}
 use borrow.Author.Rules.{rules}
@@ -8,16 +8,16 @@ use Rattle.c_answers.proofs.fields.put_calendar.Statement.{statement}
 use Rattle.c_answers.proofs.fields.put_calendar.Tie as tie
 
 returns : tie.Need-returns
-unfolding calendarBytes dateBytes
-returns c = too_short (calendarBytes c.before.before.before.args.shown) c.before.before.before.args.out.now _ c.before.if1.true
+unfolding calendar_bytes date_bytes
+returns c = too_short (calendar_bytes c.before.before.before.args.shown) c.before.before.before.args.out.now _ c.before.if1.true
     (code-back c.refused.type-inv ∙ c.refused.ensures)
 
 returns-2 : tie.Need-returns-2
-unfolding calendarBytes dateBytes
+unfolding calendar_bytes date_bytes
 returns-2 c =
     let back = c.before.before.before.before.before.before.before.before in
     let a = back.before.before.args in
-    in_two (dateBytes a.shown.date) (floatBytes a.shown.fraction) a.out.now _ _ 12 20 refl refl
+    in_two (date_bytes a.shown.date) (float_bytes a.shown.fraction) a.out.now _ _ 12 20 refl refl
     back.if1.false c.before.before.before.before.before.before.put-date.ensures
     c.before.before.put-float.ensures
 

@@ -1,6 +1,6 @@
 -- `c_answers::fields::put_float` meets its contract. Assumes nothing.
 use mathlib.Core.Path.{◌∙◌, ap}
-use Rattle.numerals.specs.little_endian.LittleEndian.{eightBytes}
+use Rattle.numerals.specs.little_endian.LittleEndian.{eight_bytes}
 use Rattle.c_answers.proofs.Deliveries.{same_bytes}
 use borrow.Author.Rules.{rules}
 use Rattle.c_answers.proofs.fields.put_float.Statement.{statement}
@@ -10,7 +10,7 @@ returns : tie.Need-returns
 returns c =
     let p = c.before.before in
     let b = p.before.before.before in
-    same_bytes p.put.type-inv (b.bytes-of-u64.ensures ∙ ap eightBytes b.before.to-bits.ensures) p.put.ensures
+    same_bytes p.put.type-inv (b.bytes-of-u64.ensures ∙ ap eight_bytes b.before.to-bits.ensures) p.put.ensures
 
 pub put-float-spec : {M : Type 1} → statement M
 put-float-spec =

@@ -1,7 +1,7 @@
 -- `c_answers::rules::put_julian_by_rule` meets its contract. Assumes nothing.
 use mathlib.Core.Path.{refl, ◌∙◌}
-use Rattle.c_answers.specs.Fields.{julianBytes}
-use Rattle.c_answers.specs.rules.RuleFields.{ruleBytes, julianRuleBytes}
+use Rattle.c_answers.specs.Fields.{julian_bytes}
+use Rattle.c_answers.specs.rules.RuleFields.{rule_bytes, julian_rule_bytes}
 use Rattle.c_answers.proofs.Deliveries.{too_short, code-back}
 use Rattle.c_answers.proofs.Pieces.{in_two}
 use borrow.Author.Rules.{rules}
@@ -9,16 +9,16 @@ use Rattle.c_answers.proofs.rules.put_julian_by_rule.Statement.{statement}
 use Rattle.c_answers.proofs.rules.put_julian_by_rule.Tie as tie
 
 returns : tie.Need-returns
-unfolding julianRuleBytes julianBytes
-returns c = too_short (julianRuleBytes (c.before.before.before.args.date, c.before.before.before.args.rule))
+unfolding julian_rule_bytes julian_bytes
+returns c = too_short (julian_rule_bytes (c.before.before.before.args.date, c.before.before.before.args.rule))
     c.before.before.before.args.out.now _ c.before.if1.true (code-back c.refused.type-inv ∙ c.refused.ensures)
 
 returns-2 : tie.Need-returns-2
-unfolding julianRuleBytes julianBytes
+unfolding julian_rule_bytes julian_bytes
 returns-2 c =
     let back = c.before.before.before.before.before.before.before.before in
     let a = back.before.before.args in
-    in_two (julianBytes a.date) (ruleBytes a.rule) a.out.now _ _ 16 24 refl refl
+    in_two (julian_bytes a.date) (rule_bytes a.rule) a.out.now _ _ 16 24 refl refl
     back.if1.false
     c.before.before.before.before.before.before.put-julian.ensures c.before.before.put-rule.ensures
 

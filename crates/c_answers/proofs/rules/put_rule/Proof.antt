@@ -1,6 +1,6 @@
 -- `c_answers::rules::put_rule` meets its contract. Assumes nothing.
 use mathlib.Core.List.{◌++◌}
-use Rattle.c_answers.specs.Fields.{fourBytes}
+use Rattle.c_answers.specs.Fields.{four_bytes}
 use Rattle.c_answers.proofs.Deliveries.{same_bytes}
 use borrow.Author.Rules.{rules}
 use Rattle.c_answers.proofs.rules.put_rule.Statement.{statement}
@@ -10,7 +10,7 @@ returns : tie.Need-returns
 returns c =
     let p = c.before.before in
     let b = p.before.before in
-    same_bytes p.put-two-numbers.type-inv (λ i. fourBytes (b.before.rule-number.ensures i) ++ fourBytes (b.row-pattern.ensures i))
+    same_bytes p.put-two-numbers.type-inv (λ i. four_bytes (b.before.rule-number.ensures i) ++ four_bytes (b.row-pattern.ensures i))
     p.put-two-numbers.ensures
 
 pub put-rule-spec : {M : Type 1} → statement M

@@ -1,13 +1,13 @@
 -- `capi::block_calls::ct_listing_part` meets its contract: of numbers nothing is asked. Assumes nothing.
 use mathlib.Core.Path.{refl}
-use Rattle.stamps.specs.Listing.{lineRoom}
+use Rattle.stamps.specs.Listing.{line_room}
 use Rattle.stamps.specs.Widths.{Wide}
 use borrow.Author.Rules.{rules}
 use Rattle.capi.proofs.block_calls.ct_listing_part.Statement.{statement}
 use Rattle.capi.proofs.block_calls.ct_listing_part.Tie as tie
 
 deliver-part-requires : tie.Need-deliver-part-requires
-unfolding lineRoom Wide
+unfolding line_room Wide
 deliver-part-requires c κs = (refl, tt)
 
 pub ct-listing-part-spec : {M : Type 1} → statement M

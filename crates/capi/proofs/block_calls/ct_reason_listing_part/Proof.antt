@@ -1,14 +1,14 @@
 -- `capi::block_calls::ct_reason_listing_part` meets its contract: the block is one of bytes, and the length has 64 bits. Assumes nothing.
 use mathlib.Core.Path.{refl}
 use native.Mathlib.Omega.{arith}
-use Rattle.stamps.specs.Listing.{lineRoom}
+use Rattle.stamps.specs.Listing.{line_room}
 use Rattle.stamps.proofs.Reportings.{bytes-width}
 use borrow.Author.Rules.{rules}
 use Rattle.capi.proofs.block_calls.ct_reason_listing_part.Statement.{statement}
 use Rattle.capi.proofs.block_calls.ct_reason_listing_part.Tie as tie
 
 deliver-part-requires : tie.Need-deliver-part-requires
-unfolding lineRoom
+unfolding line_room
 deliver-part-requires c κs = (refl, bytes-width _ _ (omega arith) (λ k. omega (arith, c.before.before.before.shared-slice-known.given k)))
 
 pub ct-reason-listing-part-spec : {M : Type 1} → statement M

@@ -2,7 +2,7 @@
 use mathlib.Core.Path.{◌∙◌}
 use Rattle.calendar.specs.Refusals.{next_of}
 use Rattle.calendar.proofs.Signs.{read-date}
-use Rattle.c_answers.specs.Fields.{dateBytes}
+use Rattle.c_answers.specs.Fields.{date_bytes}
 use Rattle.c_answers.proofs.Deliveries.{same_outcome}
 use borrow.Author.Rules.{rules}
 use Rattle.capi.proofs.calendar_calls.ct_next_calendar_day.Statement.{statement}
@@ -13,7 +13,7 @@ returns c =
     let p = c.before.before in
     let n = p.before.before in
     let s = n.before.before in
-    same_outcome dateBytes p.put_next.type-inv
+    same_outcome date_bytes p.put_next.type-inv
     (n.next-calendar-day.ensures ∙ read-date next_of _ _ _ s.ranges.year s.ranges.month s.ranges.day)
     p.put_next.ensures
 

@@ -1,8 +1,8 @@
 -- `capi::date_calls::ct_add_days` meets its contract. Assumes nothing.
 use mathlib.Core.Path.{ap, ◌∙◌}
 use Rattle.julian.specs.declared.JulianDate.{JulianDate}
-use Rattle.julian.specs.JulianDate.{addDays}
-use Rattle.c_answers.specs.Fields.{julianBytes}
+use Rattle.julian.specs.JulianDate.{add_days}
+use Rattle.c_answers.specs.Fields.{julian_bytes}
 use Rattle.c_answers.proofs.Deliveries.{same_bytes}
 use borrow.Author.Rules.{rules}
 use Rattle.capi.proofs.date_calls.ct_add_days.Statement.{statement}
@@ -14,7 +14,7 @@ returns c =
     let n = p.before.before in
     let s = n.before.before.before in
     same_bytes p.put-julian.type-inv
-    (ap julianBytes (n.add-days.ensures ∙ ap (λ (d : JulianDate). addDays d s.args.days) n.before.new.ensures))
+    (ap julian_bytes (n.add-days.ensures ∙ ap (λ (d : JulianDate). add_days d s.args.days) n.before.new.ensures))
     p.put-julian.ensures
 
 pub ct-add-days-spec : {M : Type 1} → statement M

@@ -2,8 +2,8 @@
 use mathlib.Core.Path.{ap, ◌∙◌}
 use lib.IntN.{ℤ}
 use mir.Facts.{to_z-of_z}
-use Rattle.julian.specs.UnixTime.{fromUnixTime}
-use Rattle.c_answers.specs.Fields.{julianBytes}
+use Rattle.julian.specs.UnixTime.{from_unix_time}
+use Rattle.c_answers.specs.Fields.{julian_bytes}
 use Rattle.c_answers.proofs.Deliveries.{same_bytes}
 use borrow.Author.Rules.{rules}
 use Rattle.capi.proofs.date_calls.ct_from_unix_time.Statement.{statement}
@@ -15,7 +15,7 @@ returns c =
     let n = p.before.before in
     let s = n.before.before in
     same_bytes p.put-julian.type-inv
-    (ap julianBytes (n.from-unix-time.ensures ∙ ap (λ (z : ℤ). fromUnixTime z s.args.nanos) (to_z-of_z s.ranges.seconds)))
+    (ap julian_bytes (n.from-unix-time.ensures ∙ ap (λ (z : ℤ). from_unix_time z s.args.nanos) (to_z-of_z s.ranges.seconds)))
     p.put-julian.ensures
 
 pub ct-from-unix-time-spec : {M : Type 1} → statement M

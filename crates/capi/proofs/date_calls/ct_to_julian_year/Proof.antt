@@ -1,12 +1,12 @@
 -- `capi::date_calls::ct_to_julian_year` meets its contract. Assumes nothing.
 use mathlib.Core.Path.{ap, ◌∙◌}
-use Rattle.julian.specs.JulianYear.{toJulianYear}
+use Rattle.julian.specs.JulianYear.{to_julian_year}
 use borrow.Author.Rules.{rules}
 use Rattle.capi.proofs.date_calls.ct_to_julian_year.Statement.{statement}
 use Rattle.capi.proofs.date_calls.ct_to_julian_year.Tie as tie
 
 returns : tie.Need-returns
-returns c = c.to-julian-year.ensures ∙ ap toJulianYear c.before.new.ensures
+returns c = c.to-julian-year.ensures ∙ ap to_julian_year c.before.new.ensures
 
 pub ct-to-julian-year-spec : {M : Type 1} → statement M
 ct-to-julian-year-spec = tie.close (tie.spec (λ c κs. search rules) (λ c κs. search rules) returns)

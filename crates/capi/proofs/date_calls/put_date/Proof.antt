@@ -1,21 +1,21 @@
 -- `capi::date_calls::put_date` meets its contract. Assumes nothing.
 use mathlib.Core.Path.{ap}
-use Rattle.julian.specs.JulianDate.{julianOutcome}
-use Rattle.c_answers.specs.Fields.{julianBytes}
-use Rattle.c_answers.proofs.Deliveries.{delivered-answer, refused-on}
+use Rattle.julian.specs.JulianDate.{julian_outcome}
+use Rattle.c_answers.specs.Fields.{julian_bytes}
+use Rattle.c_answers.proofs.Deliveries.{delivered_answer, refused-on}
 use borrow.Author.Rules.{rules}
 use Rattle.capi.proofs.date_calls.put_date.Statement.{statement}
 use Rattle.capi.proofs.date_calls.put_date.Tie as tie
 
 returns : tie.Need-returns
-unfolding julianOutcome
+unfolding julian_outcome
 returns c =
     let p = c.before.before in
-    delivered-answer julianBytes p.put-julian.type-inv _ (ap julianOutcome p.before.before.before.found.given.1) p.put-julian.ensures
+    delivered_answer julian_bytes p.put-julian.type-inv _ (ap julian_outcome p.before.before.before.found.given.1) p.put-julian.ensures
 
 returns-2 : tie.Need-returns-2
-unfolding julianOutcome
-returns-2 c = refused-on julianBytes c.refused.type-inv _ (ap julianOutcome c.before.before.found2.given.1) c.refused.ensures
+unfolding julian_outcome
+returns-2 c = refused-on julian_bytes c.refused.type-inv _ (ap julian_outcome c.before.before.found2.given.1) c.refused.ensures
 
 pub put-date-spec : {M : Type 1} → statement M
 put-date-spec =

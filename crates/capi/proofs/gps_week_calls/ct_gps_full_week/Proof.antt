@@ -3,7 +3,7 @@ use mathlib.Core.Path.{sym, ap, ◌∙◌}
 use native.Mathlib.Omega.{arith}
 use mir.Syntax.{w64}
 use mir.Facts.{to_z_pos}
-use Rattle.scales.specs.gps_weeks.FullWeek.{fullOutcome}
+use Rattle.scales.specs.gps_weeks.FullWeek.{full_outcome}
 use Rattle.c_answers.specs.Delivery.{code}
 use Rattle.c_answers.proofs.Deliveries.{code-back}
 use borrow.Author.Rules.{rules}
@@ -11,16 +11,16 @@ use Rattle.capi.proofs.gps_week_calls.ct_gps_full_week.Statement.{statement}
 use Rattle.capi.proofs.gps_week_calls.ct_gps_full_week.Tie as tie
 
 returns : tie.Need-returns
-unfolding fullOutcome code
+unfolding full_outcome code
 returns c =
     let w = c.before.week.given.0.0 in
-    to_z_pos w64 {n = w} (omega arith) ∙ ap code (sym (ap fullOutcome c.before.week.given.1) ∙ c.before.before.before.full-week.ensures)
+    to_z_pos w64 {n = w} (omega arith) ∙ ap code (sym (ap full_outcome c.before.week.given.1) ∙ c.before.before.before.full-week.ensures)
 
 returns-2 : tie.Need-returns-2
-unfolding fullOutcome
+unfolding full_outcome
 returns-2 c =
     code-back c.refused.type-inv ∙ c.refused.ensures
-    ∙ ap code (sym (ap fullOutcome c.before.before.number.given.1) ∙ c.before.before.before.before.full-week.ensures)
+    ∙ ap code (sym (ap full_outcome c.before.before.number.given.1) ∙ c.before.before.before.before.full-week.ensures)
 
 pub ct-gps-full-week-spec : {M : Type 1} → statement M
 ct-gps-full-week-spec =

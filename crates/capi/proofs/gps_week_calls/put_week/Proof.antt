@@ -1,21 +1,21 @@
 -- `capi::gps_week_calls::put_week` meets its contract. Assumes nothing.
 use mathlib.Core.Path.{ap}
-use Rattle.scales.specs.gps_weeks.WeekOf.{weekOutcome}
-use Rattle.c_answers.proofs.Deliveries.{delivered-answer, refused-on}
-use Rattle.capi.specs.WeekBytes.{weekBytes}
+use Rattle.scales.specs.gps_weeks.WeekOf.{week_outcome}
+use Rattle.c_answers.proofs.Deliveries.{delivered_answer, refused-on}
+use Rattle.capi.specs.WeekBytes.{week_bytes}
 use borrow.Author.Rules.{rules}
 use Rattle.capi.proofs.gps_week_calls.put_week.Statement.{statement}
 use Rattle.capi.proofs.gps_week_calls.put_week.Tie as tie
 
 returns : tie.Need-returns
-unfolding weekOutcome weekBytes
+unfolding week_outcome week_bytes
 returns c =
     let p = c.before.before in
-    delivered-answer weekBytes p.put-two-numbers.type-inv _ (ap weekOutcome p.before.before.before.found.given.1) p.put-two-numbers.ensures
+    delivered_answer week_bytes p.put-two-numbers.type-inv _ (ap week_outcome p.before.before.before.found.given.1) p.put-two-numbers.ensures
 
 returns-2 : tie.Need-returns-2
-unfolding weekOutcome
-returns-2 c = refused-on weekBytes c.refused.type-inv _ (ap weekOutcome c.before.before.found2.given.1) c.refused.ensures
+unfolding week_outcome
+returns-2 c = refused-on week_bytes c.refused.type-inv _ (ap week_outcome c.before.before.found2.given.1) c.refused.ensures
 
 pub put-week-spec : {M : Type 1} → statement M
 put-week-spec =

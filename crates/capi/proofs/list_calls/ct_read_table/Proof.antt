@@ -5,7 +5,7 @@ use mir.Syntax.{w64}
 use mir.Facts.{to_z_pos}
 use Rattle.c_answers.proofs.Deliveries.{code-back}
 use borrow.Author.Rules.{rules}
-use Rattle.capi.proofs.Lists.{not-read, short-table, short-known, both-put, as-told}
+use Rattle.capi.proofs.Lists.{not_read, short-table, short-known, both_put, as_told}
 use Rattle.capi.proofs.list_calls.ct_read_table.Statement.{statement}
 use Rattle.capi.proofs.list_calls.ct_read_table.Tie as tie
 
@@ -13,21 +13,21 @@ returns : tie.Need-returns
 returns c =
     let f = c.before.before.before in
     let s = f.before.before.before.before.args in
-    as-told f.read.ensures
-    (not-read f.read.result s.table.now s.known.now _ c.before.if1.true (code-back c.refused.type-inv ∙ c.refused.ensures))
+    as_told f.read.ensures
+    (not_read f.read.result s.table.now s.known.now _ c.before.if1.true (code-back c.refused.type-inv ∙ c.refused.ensures))
 
 returns-2 : tie.Need-returns-2
 returns-2 c =
     let f = c.before.before.before.before in
     let s = f.before.before.before.before.args in
-    as-told f.read.ensures
+    as_told f.read.ensures
     (short-table f.read.result s.table.now s.known.now _ c.before.before.if1.false c.before.if2.true (code-back c.refused2.type-inv ∙ c.refused2.ensures))
 
 returns-3 : tie.Need-returns-3
 returns-3 c =
     let f = c.before.before.before.before.before in
     let s = f.before.before.before.before.args in
-    as-told f.read.ensures
+    as_told f.read.ensures
     (short-known f.read.result s.table.now s.known.now _ c.before.before.before.if1.false c.before.before.if2.false
     c.before.if3.true (code-back c.refused3.type-inv ∙ c.refused3.ensures))
 
@@ -38,8 +38,8 @@ returns-4 c =
     let g = p.before.before.before in
     let f = g.before.before.before.before in
     let s = f.before.before.before.before.args in
-    as-told f.read.ensures
-    (both-put f.read.result s.table.now s.known.now _ p.put-table.new.1.0 u.put-u32.new.0 g.before.before.if1.false
+    as_told f.read.ensures
+    (both_put f.read.result s.table.now s.known.now _ p.put-table.new.1.0 u.put-u32.new.0 g.before.before.if1.false
     g.before.if2.false g.if3.false p.put-table.ensures u.put-u32.ensures
     (to_z_pos w64 {n = f.read.result.table.months_size} (omega arith)))
 

@@ -6,13 +6,13 @@ use lib.ListN.{get_or, length}
 use lib.IntN.{ℤ, pos}
 use borrow.Author.Rules.{rules}
 use Rattle.leap_table.proofs.rows.Naturals.{read-natural}
-use Rattle.capi.specs.ListDelivery.{putTo}
+use Rattle.capi.specs.ListDelivery.{put_to}
 use Rattle.capi.proofs.Lists.{put-none, put_next}
 use Rattle.capi.proofs.list_calls.put_numbers.Statement.{statement}
 use Rattle.capi.proofs.list_calls.put_numbers.Tie as tie
 
 abbrev invariant-loop : tie.invariant-loop
-invariant-loop numbers from out₀ i₀ out i = (i ≤ 16) × (length out ≡ length out₀) × (out ≡ putTo out₀ from numbers i)
+invariant-loop numbers from out₀ i₀ out i = (i ≤ 16) × (length out ≡ length out₀) × (out ≡ put_to out₀ from numbers i)
 
 abbrev decreases-loop : tie.decreases-loop
 decreases-loop numbers from out₀ i₀ out i = 16 - i
@@ -40,7 +40,7 @@ returns c =
     let l = c.before in
     let a = l.before.before.args in
     let e : l.loop.i ≡ 16 = omega arith in
-    l.loop.invariant.2 ∙ ap (putTo a.out.now a.from a.numbers.now) e
+    l.loop.invariant.2 ∙ ap (put_to a.out.now a.from a.numbers.now) e
 
 pub put-numbers-spec : {M : Type 1} → statement M
 put-numbers-spec =

@@ -2,10 +2,10 @@
 use mathlib.Core.Path.{◌∙◌, refl}
 use lib.IntN.{ℤ}
 use Rattle.calendar.proofs.Signs.{read-date}
-use Rattle.leap_table.specs.rows.Announced.{rowsIn}
-use Rattle.leap_table.specs.offsets.Rule.{offsetByRule}
-use Rattle.c_answers.specs.rules.RuleFields.{offsetRuleBytes}
-use Rattle.capi.proofs.Arrays.{lent-refused, with-announced}
+use Rattle.leap_table.specs.rows.Announced.{rows_in}
+use Rattle.leap_table.specs.offsets.Rule.{offset_by_rule}
+use Rattle.c_answers.specs.rules.RuleFields.{offset_rule_bytes}
+use Rattle.capi.proofs.Arrays.{lent_refused, with_announced}
 use borrow.Author.Rules.{rules}
 use Rattle.capi.proofs.offset_calls.ct_get_tai_utc_offset.Statement.{statement}
 use Rattle.capi.proofs.offset_calls.ct_get_tai_utc_offset.Tie as tie
@@ -13,7 +13,7 @@ use Rattle.capi.proofs.offset_calls.ct_get_tai_utc_offset.Tie as tie
 returns : tie.Need-returns
 returns c =
     let n = c.before.before in
-    lent-refused _ _ n.read_table.result.number (n.read_table.ensures.0 refl refl) offsetRuleBytes _ c.refused.type-inv
+    lent_refused _ _ n.read_table.result.number (n.read_table.ensures.0 refl refl) offset_rule_bytes _ c.refused.type-inv
     c.before.if1.true c.refused.ensures
 
 returns-2 : tie.Need-returns-2
@@ -22,10 +22,10 @@ returns-2 c =
     let b = p.before.before in
     let n = b.before.before.before.before in
     let s = n.before.before.before.before.before in
-    with-announced _ _ n.read_table.result.number (n.read_table.ensures.0 refl refl) offsetRuleBytes _ p.put-offset.type-inv
+    with_announced _ _ n.read_table.result.number (n.read_table.ensures.0 refl refl) offset_rule_bytes _ p.put-offset.type-inv
     b.before.before.before.if1.false
     (b.get-tai-utc-offset-by-arrays.ensures
-    ∙ read-date (λ (y m d : ℤ). offsetByRule (rowsIn n.read_table.result.size n.read_table.new.1.0 n.read_table.new.1.1.0) y m d
+    ∙ read-date (λ (y m d : ℤ). offset_by_rule (rows_in n.read_table.result.size n.read_table.new.1.0 n.read_table.new.1.1.0) y m d
     s.args.fraction) _ _ _ s.ranges.year s.ranges.month s.ranges.day)
     p.put-offset.ensures
 

@@ -1,12 +1,12 @@
 -- `capi::offset_calls::ct_leap_at_end_of_day` meets its contract. Assumes nothing.
 use mathlib.Core.Path.{ap, ◌∙◌, refl}
 use Rattle.calendar.proofs.Signs.{read-date}
-use Rattle.leap_table.specs.rows.Announced.{rowsIn}
-use Rattle.leap_table.specs.offsets.Leap.{leapAtEndOfDay}
+use Rattle.leap_table.specs.rows.Announced.{rows_in}
+use Rattle.leap_table.specs.offsets.Leap.{leap_at_end_of_day}
 use Rattle.leap_table.specs.offsets.Rule.{forget}
 use Rattle.leap_table.proofs.offsets.Rules.{leap-forgets}
-use Rattle.c_answers.specs.Fields.{floatBytes}
-use Rattle.capi.proofs.Arrays.{lent-refused, with-announced}
+use Rattle.c_answers.specs.Fields.{float_bytes}
+use Rattle.capi.proofs.Arrays.{lent_refused, with_announced}
 use borrow.Author.Rules.{rules}
 use Rattle.capi.proofs.offset_calls.ct_leap_at_end_of_day.Statement.{statement}
 use Rattle.capi.proofs.offset_calls.ct_leap_at_end_of_day.Tie as tie
@@ -14,7 +14,7 @@ use Rattle.capi.proofs.offset_calls.ct_leap_at_end_of_day.Tie as tie
 returns : tie.Need-returns
 returns c =
     let n = c.before.before in
-    lent-refused _ _ n.read_table.result.number (n.read_table.ensures.0 refl refl) floatBytes _ c.refused.type-inv
+    lent_refused _ _ n.read_table.result.number (n.read_table.ensures.0 refl refl) float_bytes _ c.refused.type-inv
     c.before.if1.true c.refused.ensures
 
 returns-2 : tie.Need-returns-2
@@ -23,11 +23,11 @@ returns-2 c =
     let b = p.before.before in
     let n = b.before.before.before.before in
     let s = n.before.before.before.before.before in
-    with-announced _ _ n.read_table.result.number (n.read_table.ensures.0 refl refl) floatBytes _ p.put-leap.type-inv
+    with_announced _ _ n.read_table.result.number (n.read_table.ensures.0 refl refl) float_bytes _ p.put-leap.type-inv
     b.before.before.before.if1.false
     (ap forget b.leap-at-end-of-day-by-arrays.ensures
-    ∙ leap-forgets (rowsIn n.read_table.result.size n.read_table.new.1.0 n.read_table.new.1.1.0) _ _ _
-    ∙ read-date (leapAtEndOfDay (rowsIn n.read_table.result.size n.read_table.new.1.0 n.read_table.new.1.1.0)) _ _ _ s.ranges.year
+    ∙ leap-forgets (rows_in n.read_table.result.size n.read_table.new.1.0 n.read_table.new.1.1.0) _ _ _
+    ∙ read-date (leap_at_end_of_day (rows_in n.read_table.result.size n.read_table.new.1.0 n.read_table.new.1.1.0)) _ _ _ s.ranges.year
     s.ranges.month s.ranges.day)
     p.put-leap.ensures
 

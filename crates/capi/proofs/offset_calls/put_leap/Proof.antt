@@ -3,23 +3,23 @@ use mathlib.Core.Path.{ap}
 use Rattle.refusals.specs.Outcome.{onward}
 use Rattle.leap_table.specs.declared.offsets.SecondsByRule.{SecondsByRule}
 use Rattle.leap_table.specs.offsets.Rule.{forget}
-use Rattle.leap_table.specs.offsets.Answers.{secondsByRuleOutcome}
-use Rattle.c_answers.specs.Fields.{floatBytes}
-use Rattle.c_answers.proofs.Deliveries.{delivered-answer, refused-on}
+use Rattle.leap_table.specs.offsets.Answers.{seconds_by_rule_outcome}
+use Rattle.c_answers.specs.Fields.{float_bytes}
+use Rattle.c_answers.proofs.Deliveries.{delivered_answer, refused-on}
 use borrow.Author.Rules.{rules}
 use Rattle.capi.proofs.offset_calls.put_leap.Statement.{statement}
 use Rattle.capi.proofs.offset_calls.put_leap.Tie as tie
 
 returns : tie.Need-returns
-unfolding secondsByRuleOutcome forget onward
+unfolding seconds_by_rule_outcome forget onward
 returns c =
     let p = c.before.before in
-    delivered-answer floatBytes p.put-float.type-inv _
-    (ap (λ (x : SecondsByRule). forget (secondsByRuleOutcome x)) p.before.before.before.found.given.1) p.put-float.ensures
+    delivered_answer float_bytes p.put-float.type-inv _
+    (ap (λ (x : SecondsByRule). forget (seconds_by_rule_outcome x)) p.before.before.before.found.given.1) p.put-float.ensures
 
 returns-2 : tie.Need-returns-2
-unfolding secondsByRuleOutcome forget onward
-returns-2 c = refused-on floatBytes c.refused.type-inv _ (ap (λ (x : SecondsByRule). forget (secondsByRuleOutcome x)) c.before.before.found2.given.1)
+unfolding seconds_by_rule_outcome forget onward
+returns-2 c = refused-on float_bytes c.refused.type-inv _ (ap (λ (x : SecondsByRule). forget (seconds_by_rule_outcome x)) c.before.before.found2.given.1)
     c.refused.ensures
 
 pub put-leap-spec : {M : Type 1} → statement M

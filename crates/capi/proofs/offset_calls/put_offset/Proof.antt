@@ -1,22 +1,22 @@
 -- `capi::offset_calls::put_offset` meets its contract. Assumes nothing.
 use mathlib.Core.Path.{ap}
-use Rattle.leap_table.specs.offsets.Answers.{secondsByRuleOutcome}
-use Rattle.c_answers.specs.rules.RuleFields.{offsetRuleBytes}
-use Rattle.c_answers.proofs.Deliveries.{delivered-answer, refused-on}
+use Rattle.leap_table.specs.offsets.Answers.{seconds_by_rule_outcome}
+use Rattle.c_answers.specs.rules.RuleFields.{offset_rule_bytes}
+use Rattle.c_answers.proofs.Deliveries.{delivered_answer, refused-on}
 use borrow.Author.Rules.{rules}
 use Rattle.capi.proofs.offset_calls.put_offset.Statement.{statement}
 use Rattle.capi.proofs.offset_calls.put_offset.Tie as tie
 
 returns : tie.Need-returns
-unfolding secondsByRuleOutcome
+unfolding seconds_by_rule_outcome
 returns c =
     let p = c.before.before in
-    delivered-answer offsetRuleBytes p.put-offset-by-rule.type-inv _ (ap secondsByRuleOutcome p.before.before.before.found.given.1)
+    delivered_answer offset_rule_bytes p.put-offset-by-rule.type-inv _ (ap seconds_by_rule_outcome p.before.before.before.found.given.1)
     p.put-offset-by-rule.ensures
 
 returns-2 : tie.Need-returns-2
-unfolding secondsByRuleOutcome
-returns-2 c = refused-on offsetRuleBytes c.refused.type-inv _ (ap secondsByRuleOutcome c.before.before.found2.given.1) c.refused.ensures
+unfolding seconds_by_rule_outcome
+returns-2 c = refused-on offset_rule_bytes c.refused.type-inv _ (ap seconds_by_rule_outcome c.before.before.found2.given.1) c.refused.ensures
 
 pub put-offset-spec : {M : Type 1} → statement M
 put-offset-spec =

@@ -4,20 +4,20 @@ use Prim.Native.Nat.{ℕ}
 use lib.IntN.{pos}
 use Rattle.refusals.specs.Outcome.{Outcome, answer, refusal, onward}
 use Rattle.julian.specs.JulianDate.{julian}
-use Rattle.julian.specs.order.Order.{Order, orderOutcome, comparison}
+use Rattle.julian.specs.order.Order.{Order, order_outcome, comparison}
 use Rattle.c_answers.specs.Delivery.{code}
 use Rattle.c_answers.proofs.Deliveries.{code-back}
-use Rattle.capi.specs.OrderNumber.{orderNumber, numbered}
+use Rattle.capi.specs.OrderNumber.{order_number, numbered}
 use borrow.Author.Rules.{rules}
 use Rattle.capi.proofs.order_calls.ct_compare.Statement.{statement}
 use Rattle.capi.proofs.order_calls.ct_compare.Tie as tie
 
 is : (c : tie.After-compare)
-    → orderOutcome c.compare.result ≡ comparison (julian c.before.before.before.args.jd1 c.before.before.before.args.jd2)
+    → order_outcome c.compare.result ≡ comparison (julian c.before.before.before.args.jd1 c.before.before.before.args.jd2)
     (julian c.before.before.before.args.other1 c.before.before.before.args.other2)
 is c = let n = c.before in c.compare.ensures ∙ λ i. comparison (n.before.new.ensures i) (n.new2.ensures i)
 
-numbered-order : {o : Outcome Order} (x : Order) → o ≡ answer x → pos (orderNumber x) ≡ code (numbered o)
+numbered-order : {o : Outcome Order} (x : Order) → o ≡ answer x → pos (order_number x) ≡ code (numbered o)
 unfolding code numbered onward
 numbered-order x e = rw e
 
@@ -26,21 +26,21 @@ unfolding numbered onward
 not_taken k e = rw e
 
 returns : tie.Need-returns
-unfolding orderOutcome orderNumber
-returns c = numbered-order _ (sym (is c.before.before) ∙ ap orderOutcome c.enum_told.given.1)
+unfolding order_outcome order_number
+returns c = numbered-order _ (sym (is c.before.before) ∙ ap order_outcome c.enum_told.given.1)
 
 returns-2 : tie.Need-returns-2
-unfolding orderOutcome orderNumber
-returns-2 c = numbered-order _ (sym (is c.before.before) ∙ ap orderOutcome c.enum-told2.given.1)
+unfolding order_outcome order_number
+returns-2 c = numbered-order _ (sym (is c.before.before) ∙ ap order_outcome c.enum-told2.given.1)
 
 returns-3 : tie.Need-returns-3
-unfolding orderOutcome orderNumber
-returns-3 c = numbered-order _ (sym (is c.before.before) ∙ ap orderOutcome c.enum-told3.given.1)
+unfolding order_outcome order_number
+returns-3 c = numbered-order _ (sym (is c.before.before) ∙ ap order_outcome c.enum-told3.given.1)
 
 returns-4 : tie.Need-returns-4
-unfolding orderOutcome
+unfolding order_outcome
 returns-4 c = code-back c.refused.type-inv ∙ c.refused.ensures
-    ∙ not_taken _ (sym (is c.before.before.before.before) ∙ ap orderOutcome c.before.before.number.given.1)
+    ∙ not_taken _ (sym (is c.before.before.before.before) ∙ ap order_outcome c.before.before.number.given.1)
 
 pub ct-compare-spec : {M : Type 1} → statement M
 ct-compare-spec =

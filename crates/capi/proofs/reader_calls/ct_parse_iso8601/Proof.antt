@@ -1,5 +1,5 @@
 -- `capi::reader_calls::ct_parse_iso8601` meets its contract. Assumes nothing.
-use Rattle.capi.specs.ReaderFields.{parsedBytes}
+use Rattle.capi.specs.ReaderFields.{parsed_bytes}
 use Rattle.c_answers.proofs.Deliveries.{same_outcome}
 use borrow.Author.Rules.{rules}
 use Rattle.capi.proofs.reader_calls.ct_parse_iso8601.Statement.{statement}
@@ -8,7 +8,7 @@ use Rattle.capi.proofs.reader_calls.ct_parse_iso8601.Tie as tie
 returns : tie.Need-returns
 returns c =
     let p = c.before.before in
-    same_outcome parsedBytes p.put-parsed.type-inv p.before.before.parse-iso8601.ensures p.put-parsed.ensures
+    same_outcome parsed_bytes p.put-parsed.type-inv p.before.before.parse-iso8601.ensures p.put-parsed.ensures
 
 pub ct-parse-iso8601-spec : {M : Type 1} → statement M
 ct-parse-iso8601-spec =

@@ -1,6 +1,6 @@
 -- `capi::reason_calls::deliver_reason` meets its contract. Assumes nothing.
 use native.Mathlib.Omega.{arith}
-use Rattle.capi.proofs.Texts.{text-count, text-put, text-refused}
+use Rattle.capi.proofs.Texts.{text-count, text-put, text_refused}
 use borrow.Author.Rules.{rules}
 use Rattle.capi.proofs.reason_calls.deliver_reason.Statement.{statement}
 use Rattle.capi.proofs.reason_calls.deliver_reason.Tie as tie
@@ -12,7 +12,7 @@ cast-result c =
       sfits = omega (
         arith,
         text-count q.ensures _ c.before.n.given.1,
-        c.before.before.before.before.before.before.before.before.well-formed,
+        c.before.before.before.before.before.before.before.before.well_formed,
       );
     }
 
@@ -20,10 +20,10 @@ returns : tie.Need-returns
 returns c =
     let q = c.before.before.before.before.before.put-reason in
     text-put q.ensures _ c.before.n.given.1
-    (omega (arith, text-count q.ensures _ c.before.n.given.1, c.before.before.before.before.before.before.before.before.well-formed))
+    (omega (arith, text-count q.ensures _ c.before.n.given.1, c.before.before.before.before.before.before.before.before.well_formed))
 
 returns-2 : tie.Need-returns-2
-returns-2 c = text-refused c.before.before.before.before.before.before.put-reason.ensures _ c.refused.type-inv c.before.before.other.given.1
+returns-2 c = text_refused c.before.before.before.before.before.before.put-reason.ensures _ c.refused.type-inv c.before.before.other.given.1
     c.refused.ensures
 
 pub deliver-reason-spec : {M : Type 1} → statement M

@@ -26,7 +26,7 @@ cast-result c =
         run-counted _ _ n.read_table.result.number (n.read_table.ensures.0 refl refl) s.args.from s.args.to
             s.args.jd1.now s.args.jd2.now s.args.out1.now s.args.out2.now s.args.numbers.now i.if1.false
             f.convert-run-by-arrays.result f.convert-run-by-arrays.ensures _ c.before.n.given.1,
-        s.well-formed,
+        s.well_formed,
       );
     }
 
@@ -45,7 +45,7 @@ returns-2 c =
       run-counted _ _ n.read_table.result.number (n.read_table.ensures.0 refl refl) s.args.from s.args.to s.args.jd1.now
           s.args.jd2.now s.args.out1.now s.args.out2.now s.args.numbers.now i.if1.false f.convert-run-by-arrays.result
           f.convert-run-by-arrays.ensures _ c.before.n.given.1,
-      s.well-formed,
+      s.well_formed,
     ))
 
 returns-3 : tie.Need-returns-3

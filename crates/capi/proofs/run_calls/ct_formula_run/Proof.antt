@@ -1,6 +1,6 @@
 -- `capi::run_calls::ct_formula_run` meets its contract. Assumes nothing.
 use native.Mathlib.Omega.{arith}
-use Rattle.capi.proofs.Runs.{all-converted, all-refused, formula-counted}
+use Rattle.capi.proofs.Runs.{all-converted, all-refused, formula_counted}
 use borrow.Author.Rules.{rules}
 use Rattle.capi.proofs.run_calls.ct_formula_run.Statement.{statement}
 use Rattle.capi.proofs.run_calls.ct_formula_run.Tie as tie
@@ -14,9 +14,9 @@ cast-result c =
     record {
       sfits = omega (
         arith,
-        formula-counted s.args.from s.args.to s.args.jd1.now s.args.jd2.now s.args.offsets.now
+        formula_counted s.args.from s.args.to s.args.jd1.now s.args.jd2.now s.args.offsets.now
             s.args.out1.now s.args.out2.now s.args.numbers.now f.formula-run.result f.formula-run.ensures _ c.before.n.given.1,
-        s.well-formed,
+        s.well_formed,
       );
     }
 
@@ -29,9 +29,9 @@ returns c =
     all-converted _ f.formula-run.result f.formula-run.ensures _ c.before.n.given.1
     (omega (
       arith,
-      formula-counted s.args.from s.args.to s.args.jd1.now s.args.jd2.now s.args.offsets.now s.args.out1.now
+      formula_counted s.args.from s.args.to s.args.jd1.now s.args.jd2.now s.args.offsets.now s.args.out1.now
           s.args.out2.now s.args.numbers.now f.formula-run.result f.formula-run.ensures _ c.before.n.given.1,
-      s.well-formed,
+      s.well_formed,
     ))
 
 returns-2 : tie.Need-returns-2

@@ -6,5 +6,5 @@ use Rattle.capi.proofs.same_stamp_calls.ct_same_stamp.Statement.{statement}
 use Rattle.capi.proofs.same_stamp_calls.ct_same_stamp.Tie as tie
 
 pub ct-same-stamp-spec : {M : Type 1} → statement M
-ct-same-stamp-spec = tie.close (tie.spec (λ c κs. search rules) (λ c. ap truth (sym c.if1.true ∙ c.before.same-stamp.ensures))
-    (λ c. ap truth (sym c.if1.false ∙ c.before.same-stamp.ensures)))
+ct-same-stamp-spec = tie.close (tie.spec (λ c κs. search rules) (λ c. ap truth (sym c.if1.true ∙ c.before.same_stamp.ensures))
+    (λ c. ap truth (sym c.if1.false ∙ c.before.same_stamp.ensures)))

@@ -1,5 +1,5 @@
 -- `capi::scale_calls::ct_tt_to_tcg` meets its contract. Assumes nothing.
-use Rattle.c_answers.specs.Fields.{julianBytes}
+use Rattle.c_answers.specs.Fields.{julian_bytes}
 use Rattle.c_answers.proofs.Deliveries.{same_outcome}
 use borrow.Author.Rules.{rules}
 use Rattle.capi.proofs.scale_calls.ct_tt_to_tcg.Statement.{statement}
@@ -8,7 +8,7 @@ use Rattle.capi.proofs.scale_calls.ct_tt_to_tcg.Tie as tie
 returns : tie.Need-returns
 returns c =
     let p = c.before.before in
-    same_outcome julianBytes p.put-tcg.type-inv p.before.before.tt-to-tcg.ensures p.put-tcg.ensures
+    same_outcome julian_bytes p.put-tcg.type-inv p.before.before.tt-to-tcg.ensures p.put-tcg.ensures
 
 pub ct-tt-to-tcg-spec : {M : Type 1} → statement M
 ct-tt-to-tcg-spec = tie.close (tie.spec (λ c κs. search rules) (λ c κs. search rules) (λ c. search rules) returns)

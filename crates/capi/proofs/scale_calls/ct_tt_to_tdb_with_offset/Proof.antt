@@ -1,5 +1,5 @@
 -- `capi::scale_calls::ct_tt_to_tdb_with_offset` meets its contract. Assumes nothing.
-use Rattle.c_answers.specs.Fields.{julianBytes}
+use Rattle.c_answers.specs.Fields.{julian_bytes}
 use Rattle.c_answers.proofs.Deliveries.{same_outcome}
 use borrow.Author.Rules.{rules}
 use Rattle.capi.proofs.scale_calls.ct_tt_to_tdb_with_offset.Statement.{statement}
@@ -8,7 +8,7 @@ use Rattle.capi.proofs.scale_calls.ct_tt_to_tdb_with_offset.Tie as tie
 returns : tie.Need-returns
 returns c =
     let p = c.before.before in
-    same_outcome julianBytes p.put-tdb.type-inv p.before.before.tt-to-tdb-with-offset.ensures p.put-tdb.ensures
+    same_outcome julian_bytes p.put-tdb.type-inv p.before.before.tt-to-tdb-with-offset.ensures p.put-tdb.ensures
 
 pub ct-tt-to-tdb-with-offset-spec : {M : Type 1} → statement M
 ct-tt-to-tdb-with-offset-spec =

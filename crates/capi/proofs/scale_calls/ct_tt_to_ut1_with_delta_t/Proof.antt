@@ -1,5 +1,5 @@
 -- `capi::scale_calls::ct_tt_to_ut1_with_delta_t` meets its contract. Assumes nothing.
-use Rattle.c_answers.specs.Fields.{julianBytes}
+use Rattle.c_answers.specs.Fields.{julian_bytes}
 use Rattle.c_answers.proofs.Deliveries.{same_outcome}
 use borrow.Author.Rules.{rules}
 use Rattle.capi.proofs.scale_calls.ct_tt_to_ut1_with_delta_t.Statement.{statement}
@@ -8,7 +8,7 @@ use Rattle.capi.proofs.scale_calls.ct_tt_to_ut1_with_delta_t.Tie as tie
 returns : tie.Need-returns
 returns c =
     let p = c.before.before in
-    same_outcome julianBytes p.put-ut1.type-inv p.before.before.tt-to-ut1-with-delta-t.ensures p.put-ut1.ensures
+    same_outcome julian_bytes p.put-ut1.type-inv p.before.before.tt-to-ut1-with-delta-t.ensures p.put-ut1.ensures
 
 pub ct-tt-to-ut1-with-delta-t-spec : {M : Type 1} → statement M
 ct-tt-to-ut1-with-delta-t-spec =

@@ -1,21 +1,21 @@
 -- `capi::scale_calls::put_tcb` meets its contract. Assumes nothing.
 use mathlib.Core.Path.{ap}
-use Rattle.scales.specs.Scales.{tcbOutcome}
-use Rattle.c_answers.specs.Fields.{julianBytes}
-use Rattle.c_answers.proofs.Deliveries.{delivered-answer, refused-on}
+use Rattle.scales.specs.Scales.{tcb_outcome}
+use Rattle.c_answers.specs.Fields.{julian_bytes}
+use Rattle.c_answers.proofs.Deliveries.{delivered_answer, refused-on}
 use borrow.Author.Rules.{rules}
 use Rattle.capi.proofs.scale_calls.put_tcb.Statement.{statement}
 use Rattle.capi.proofs.scale_calls.put_tcb.Tie as tie
 
 returns : tie.Need-returns
-unfolding tcbOutcome
+unfolding tcb_outcome
 returns c =
     let p = c.before.before in
-    delivered-answer julianBytes p.put-julian.type-inv _ (ap tcbOutcome p.before.before.before.found.given.1) p.put-julian.ensures
+    delivered_answer julian_bytes p.put-julian.type-inv _ (ap tcb_outcome p.before.before.before.found.given.1) p.put-julian.ensures
 
 returns-2 : tie.Need-returns-2
-unfolding tcbOutcome
-returns-2 c = refused-on julianBytes c.refused.type-inv _ (ap tcbOutcome c.before.before.found2.given.1) c.refused.ensures
+unfolding tcb_outcome
+returns-2 c = refused-on julian_bytes c.refused.type-inv _ (ap tcb_outcome c.before.before.found2.given.1) c.refused.ensures
 
 pub put-tcb-spec : {M : Type 1} → statement M
 put-tcb-spec =

@@ -15,7 +15,7 @@ cast-result c =
         arith,
         written_count (julian s.args.from1 s.args.from2) s.args.jd1.now s.args.jd2.now s.args.millis.now s.args.numbers.now
             f.milliseconds-of-run.result f.milliseconds-of-run.ensures _ c.before.n.given.1,
-        s.well-formed,
+        s.well_formed,
       );
     }
 
@@ -30,7 +30,7 @@ returns c =
       arith,
       written_count d s.args.jd1.now s.args.jd2.now s.args.millis.now s.args.numbers.now f.milliseconds-of-run.result
           f.milliseconds-of-run.ensures _ c.before.n.given.1,
-      s.well-formed,
+      s.well_formed,
     ))
 
 returns-2 : tie.Need-returns-2

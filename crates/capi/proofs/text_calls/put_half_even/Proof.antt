@@ -1,28 +1,28 @@
 -- `capi::text_calls::put_half_even` meets its contract. Assumes nothing.
 use Rattle.capi.proofs.TextRules.{short-lent, count_fits, two-written, two-refused, text-few}
 use Rattle.utc.specs.declared.iso_texts.NamedForm.TheVariants.{HalfEven}
-use Rattle.utc.specs.iso_texts.Named.{formNamed}
+use Rattle.utc.specs.iso_texts.Named.{form_named}
 use borrow.Author.Rules.{rules}
 use Rattle.capi.proofs.text_calls.put_half_even.Statement.{statement}
 use Rattle.capi.proofs.text_calls.put_half_even.Tie as tie
 
 returns : tie.Need-returns
-unfolding formNamed
+unfolding form_named
 returns c = short-lent _ _ _ _ c.before.before.with-short-rule.type-inv c.before.before.with-short-rule.ensures
 
 cast-result : tie.Need-overflow-cast-result
-unfolding formNamed
+unfolding form_named
 cast-result c = count_fits _ (text-few HalfEven _ _)
     c.before.before.before.before.before.before.before.before.before.to-iso8601-half-even-by-arrays.ensures
     c.before.before.before.before.before.n.given.1
 
 returns-2 : tie.Need-returns-2
-unfolding formNamed
+unfolding form_named
 returns-2 c = two-refused _ (text-few HalfEven _ _) c.before.before.before.before.before.before.to-iso8601-half-even-by-arrays.ensures _
     c.refused.type-inv c.before.before.number.given.1 c.refused.ensures
 
 returns-3 : tie.Need-returns-3
-unfolding formNamed
+unfolding form_named
 returns-3 c =
     let back = c.before.before.before.before.before.before.before.before in
     two-written _ (text-few HalfEven _ _)

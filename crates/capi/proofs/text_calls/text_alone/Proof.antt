@@ -1,6 +1,6 @@
 -- `capi::text_calls::text_alone` meets its contract. Assumes nothing.
 use mathlib.Core.List.{[]}
-use Rattle.capi.proofs.TextRules.{count_fits, alone-written, two-refused, text-few}
+use Rattle.capi.proofs.TextRules.{count_fits, alone_written, two-refused, text-few}
 use borrow.Author.Rules.{rules}
 use Rattle.capi.proofs.text_calls.text_alone.Statement.{statement}
 use Rattle.capi.proofs.text_calls.text_alone.Tie as tie
@@ -13,7 +13,7 @@ returns c = two-refused _ (text-few _ _ _) c.before.before.before.before.before.
     c.before.before.number.given.1 c.refused.ensures
 
 returns-2 : tie.Need-returns-2
-returns-2 c = alone-written _ (text-few _ _ _) c.before.before.before.before.before.to-text-by-arrays.ensures c.before.n.given.1
+returns-2 c = alone_written _ (text-few _ _ _) c.before.before.before.before.before.to-text-by-arrays.ensures c.before.n.given.1
 
 pub text-alone-spec : {M : Type 1} → statement M
 text-alone-spec =

@@ -38,7 +38,7 @@ cast-result c =
         texts-counted _ _ n.read_table.result.number (n.read_table.ensures.0 refl refl) a.text-form a.jd1.now a.jd2.now
             a.texts.now a.lengths.now a.numbers.now i.if1.false i2.if2.false o.form_of.result o.form_of.ensures
             f.texts-of-run-by-arrays.result f.texts-of-run-by-arrays.ensures _ c.before.n.given.1,
-        s.well-formed,
+        s.well_formed,
       );
     }
 
@@ -59,7 +59,7 @@ returns-3 c =
       texts-counted _ _ n.read_table.result.number (n.read_table.ensures.0 refl refl) a.text-form a.jd1.now a.jd2.now
           a.texts.now a.lengths.now a.numbers.now i.if1.false i2.if2.false o.form_of.result o.form_of.ensures
           f.texts-of-run-by-arrays.result f.texts-of-run-by-arrays.ensures _ c.before.n.given.1,
-      s.well-formed,
+      s.well_formed,
     ))
 
 returns-4 : tie.Need-returns-4

@@ -15,7 +15,7 @@ cast-result c =
         arith,
         places-counted a.pass-millis.now a.pass-places.now a.millis.now a.places.now a.numbers.now q.place-readings.result
             q.place-readings.ensures _ c.before.n.given.1,
-        s.well-formed,
+        s.well_formed,
       );
     }
 
@@ -30,7 +30,7 @@ returns c =
       arith,
       places-counted a.pass-millis.now a.pass-places.now a.millis.now a.places.now a.numbers.now q.place-readings.result
           q.place-readings.ensures _ c.before.n.given.1,
-      s.well-formed,
+      s.well_formed,
     ))
 
 returns-2 : tie.Need-returns-2

@@ -1,7 +1,7 @@
 -- `capi::tick_calls::ct_place_ticks` meets its contract. Assumes nothing.
 use native.Mathlib.Omega.{arith}
 use lib.ListN.{length}
-use Rattle.ticks.specs.Ticks.{placedTicks}
+use Rattle.ticks.specs.Ticks.{placed_ticks}
 use Rattle.ticks.proofs.Calls.{placed-fits}
 use Rattle.capi.proofs.Ticks.{ticks-count, ticks-put, ticks-refused}
 use borrow.Author.Rules.{rules}
@@ -17,10 +17,10 @@ cast-result c =
     record {
       sfits = omega (
         arith,
-        ticks-count (placedTicks a.pass-ticks.now a.pass-millis.now a.ticks.now (length a.out.now))
+        ticks-count (placed_ticks a.pass-ticks.now a.pass-millis.now a.ticks.now (length a.out.now))
             a.out.now _ q.result (placed-fits a.pass-ticks.now a.pass-millis.now a.ticks.now (length a.out.now)) q.ensures _
             c.before.n.given.1,
-        s.well-formed,
+        s.well_formed,
       );
     }
 
@@ -30,14 +30,14 @@ returns c =
     let s = back.before.before.before in
     let a = s.args in
     let q = c.before.before.before.before.before.place-ticks in
-    ticks-put (placedTicks a.pass-ticks.now a.pass-millis.now a.ticks.now (length a.out.now)) a.out.now _ q.result
+    ticks-put (placed_ticks a.pass-ticks.now a.pass-millis.now a.ticks.now (length a.out.now)) a.out.now _ q.result
     (placed-fits a.pass-ticks.now a.pass-millis.now a.ticks.now (length a.out.now)) q.ensures _ c.before.n.given.1
     (omega (
       arith,
-      ticks-count (placedTicks a.pass-ticks.now a.pass-millis.now a.ticks.now (length a.out.now)) a.out.now _
+      ticks-count (placed_ticks a.pass-ticks.now a.pass-millis.now a.ticks.now (length a.out.now)) a.out.now _
           q.result (placed-fits a.pass-ticks.now a.pass-millis.now a.ticks.now (length a.out.now)) q.ensures _
           c.before.n.given.1,
-      s.well-formed,
+      s.well_formed,
     ))
 
 returns-2 : tie.Need-returns-2
@@ -45,7 +45,7 @@ returns-2 c =
     let back = c.before.before.before.before.before.before.before.before in
     let a = back.before.before.before.before.args in
     let q = c.before.before.before.before.before.before.place-ticks in
-    ticks-refused (placedTicks a.pass-ticks.now a.pass-millis.now a.ticks.now (length a.out.now)) a.out.now _ q.result
+    ticks-refused (placed_ticks a.pass-ticks.now a.pass-millis.now a.ticks.now (length a.out.now)) a.out.now _ q.result
     q.ensures _ c.refused.type-inv c.before.before.number.given.1 c.refused.ensures
 
 pub ct-place-ticks-spec : {M : Type 1} → statement M

@@ -1,7 +1,7 @@
 -- `capi::utc_calls::ct_tai_to_utc` meets its contract. Assumes nothing.
 use mathlib.Core.Path.{refl}
-use Rattle.c_answers.specs.Fields.{julianBytes}
-use Rattle.capi.proofs.Arrays.{lent-refused, with-announced}
+use Rattle.c_answers.specs.Fields.{julian_bytes}
+use Rattle.capi.proofs.Arrays.{lent_refused, with_announced}
 use borrow.Author.Rules.{rules}
 use Rattle.capi.proofs.utc_calls.ct_tai_to_utc.Statement.{statement}
 use Rattle.capi.proofs.utc_calls.ct_tai_to_utc.Tie as tie
@@ -9,7 +9,7 @@ use Rattle.capi.proofs.utc_calls.ct_tai_to_utc.Tie as tie
 returns : tie.Need-returns
 returns c =
     let n = c.before.before in
-    lent-refused _ _ n.read_table.result.number (n.read_table.ensures.0 refl refl) julianBytes _ c.refused.type-inv
+    lent_refused _ _ n.read_table.result.number (n.read_table.ensures.0 refl refl) julian_bytes _ c.refused.type-inv
     c.before.if1.true c.refused.ensures
 
 returns-2 : tie.Need-returns-2
@@ -17,7 +17,7 @@ returns-2 c =
     let p = c.before.before in
     let b = p.before.before in
     let n = b.before.before.before.before in
-    with-announced _ _ n.read_table.result.number (n.read_table.ensures.0 refl refl) julianBytes _ p.put-utc.type-inv
+    with_announced _ _ n.read_table.result.number (n.read_table.ensures.0 refl refl) julian_bytes _ p.put-utc.type-inv
     b.before.before.before.if1.false
     b.tai-to-utc-by-arrays.ensures
     p.put-utc.ensures

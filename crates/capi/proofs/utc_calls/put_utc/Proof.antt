@@ -1,21 +1,21 @@
 -- `capi::utc_calls::put_utc` meets its contract. Assumes nothing.
 use mathlib.Core.Path.{ap}
-use Rattle.scales.specs.Scales.{utcOutcome}
-use Rattle.c_answers.specs.Fields.{julianBytes}
-use Rattle.c_answers.proofs.Deliveries.{delivered-answer, refused-on}
+use Rattle.scales.specs.Scales.{utc_outcome}
+use Rattle.c_answers.specs.Fields.{julian_bytes}
+use Rattle.c_answers.proofs.Deliveries.{delivered_answer, refused-on}
 use borrow.Author.Rules.{rules}
 use Rattle.capi.proofs.utc_calls.put_utc.Statement.{statement}
 use Rattle.capi.proofs.utc_calls.put_utc.Tie as tie
 
 returns : tie.Need-returns
-unfolding utcOutcome
+unfolding utc_outcome
 returns c =
     let p = c.before.before in
-    delivered-answer julianBytes p.put-julian.type-inv _ (ap utcOutcome p.before.before.before.found.given.1) p.put-julian.ensures
+    delivered_answer julian_bytes p.put-julian.type-inv _ (ap utc_outcome p.before.before.before.found.given.1) p.put-julian.ensures
 
 returns-2 : tie.Need-returns-2
-unfolding utcOutcome
-returns-2 c = refused-on julianBytes c.refused.type-inv _ (ap utcOutcome c.before.before.found2.given.1) c.refused.ensures
+unfolding utc_outcome
+returns-2 c = refused-on julian_bytes c.refused.type-inv _ (ap utc_outcome c.before.before.found2.given.1) c.refused.ensures
 
 pub put-utc-spec : {M : Type 1} → statement M
 put-utc-spec =

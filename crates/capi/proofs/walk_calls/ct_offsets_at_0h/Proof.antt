@@ -21,7 +21,7 @@ cast-result c =
         arith,
         walk-count _ s.args.dates.now s.args.out.now i.if1.false n.announced-rows-at.result
             n.announced-rows-at.ensures q.offsets-at-0h-bytes.result q.offsets-at-0h-bytes.ensures _ c.before.n.given.1,
-        s.well-formed,
+        s.well_formed,
       );
     }
 
@@ -37,7 +37,7 @@ returns-2 c =
       arith,
       walk-count _ s.args.dates.now s.args.out.now i.if1.false n.announced-rows-at.result n.announced-rows-at.ensures
           q.offsets-at-0h-bytes.result q.offsets-at-0h-bytes.ensures _ c.before.n.given.1,
-      s.well-formed,
+      s.well_formed,
     ))
 
 returns-3 : tie.Need-returns-3

@@ -1,11 +1,11 @@
 -- `julian::JulianDate::add_days` meets its contract. Assumes nothing.
 use borrow.Author.Rules.{rules}
-use Rattle.julian.specs.JulianDate.{addDays, uncarried}
+use Rattle.julian.specs.JulianDate.{add_days, uncarried}
 use Rattle.julian.proofs.JulianDate.add_days.Statement.{statement}
 use Rattle.julian.proofs.JulianDate.add_days.Tie as tie
 
 returns : tie.Need-returns
-unfolding addDays uncarried
+unfolding add_days uncarried
 returns c = cc
 
 pub add-days-spec : {M : Type 1} → statement M

@@ -3,15 +3,15 @@ use mathlib.Core.Path.{ap, ◌∙◌}
 use lib.Ieee.{Float, binary64, div}
 use borrow.Author.Rules.{rules}
 use Rattle.constants.proofs.Bits.{seconds-per-day}
-use Rattle.julian.specs.JulianDate.{addDays, addSeconds}
+use Rattle.julian.specs.JulianDate.{add_days, add_seconds}
 use Rattle.julian.proofs.JulianDate.add_seconds.Statement.{statement}
 use Rattle.julian.proofs.JulianDate.add_seconds.Tie as tie
 
 returns : tie.Need-returns
-unfolding addSeconds
+unfolding add_seconds
 returns c =
     let a = c.before.args in
-    c.add-days.ensures ∙ ap (λ (k : Float). addDays a.self (div binary64 a.seconds k)) seconds-per-day
+    c.add-days.ensures ∙ ap (λ (k : Float). add_days a.self (div binary64 a.seconds k)) seconds-per-day
 
 pub add-seconds-spec : {M : Type 1} → statement M
 add-seconds-spec = tie.close (tie.spec (λ c κs. search rules) returns)

@@ -11,7 +11,7 @@ unfolding sums
 returns c =
     let a = c.before.before.before.before in
     let b = c.before.before.before in
-    c.same-pair.ensures ∙ equal-finite a.before.args.self a.before.args.other a.exact-sum.result b.exact-sum2.result
+    c.same_pair.ensures ∙ equal-finite a.before.args.self a.before.args.other a.exact-sum.result b.exact-sum2.result
     a.exact-sum.ensures b.exact-sum2.ensures (sym c.before.before.both-finite.ensures ∙ c.before.if1.true)
 
 returns-2 : tie.Need-returns-2

@@ -10,16 +10,16 @@ use mir.Val.{SFits, to_z, of_z}
 use mir.Facts.{to_z-of_z}
 use borrow.Author.Rules.{rules}
 use Rattle.constants.proofs.Bits.{seconds-per-day, nanoseconds-per-second, unix-epoch-jd}
-use Rattle.julian.specs.UnixTime.{daysTowardZero, secondsLeft, secondOfDay, fromUnixTime}
+use Rattle.julian.specs.UnixTime.{days_toward_zero, seconds_left, second_of_day, from_unix_time}
 use Rattle.julian.proofs.Seconds.{quotient_is, remainder_is, days-fit, left-fit, days-in-float, left-in-float}
 use Rattle.julian.proofs.JulianDate.from_unix_time.Statement.{statement}
 use Rattle.julian.proofs.JulianDate.from_unix_time.Tie as tie
 
 -- the quotient as the machine takes it, of a number read back from its bits
-days-read : (z : ℤ) → SFits w64 z → quot_z (to_z w64 (of_z w64 z)) (pos 86400) ≡ daysTowardZero z
+days-read : (z : ℤ) → SFits w64 z → quot_z (to_z w64 (of_z w64 z)) (pos 86400) ≡ days_toward_zero z
 days-read z f = ap (λ (x : ℤ). quot_z x (pos 86400)) (to_z-of_z f) ∙ quotient_is z
 
-left-read : (z : ℤ) → SFits w64 z → rem_z (to_z w64 (of_z w64 z)) (pos 86400) ≡ secondsLeft z
+left-read : (z : ℤ) → SFits w64 z → rem_z (to_z w64 (of_z w64 z)) (pos 86400) ≡ seconds_left z
 left-read z f = ap (λ (x : ℤ). rem_z x (pos 86400)) (to_z-of_z f) ∙ remainder_is z
 
 divides : (z : ℤ) → SFits w64 z → (0 < 86400) × SFits w64 (quot_z (to_z w64 (of_z w64 z)) (pos 86400))
@@ -37,7 +37,7 @@ int-to-float-rest c =
     rw (left-read s.args.seconds s.ranges.seconds, to_z-of_z (left-fit s.args.seconds)) (left-in-float s.args.seconds)
 
 returns : tie.Need-returns
-unfolding fromUnixTime secondOfDay
+unfolding from_unix_time second_of_day
 returns c =
     let s = c.before.before.before.before in
     cc (

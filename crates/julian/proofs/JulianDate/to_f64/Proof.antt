@@ -1,11 +1,11 @@
 -- `julian::JulianDate::to_f64` meets its contract. Assumes nothing.
 use mathlib.Core.Path.{refl}
-use Rattle.julian.specs.JulianDate.{roundedSum}
+use Rattle.julian.specs.JulianDate.{rounded_sum}
 use Rattle.julian.proofs.JulianDate.to_f64.Statement.{statement}
 use Rattle.julian.proofs.JulianDate.to_f64.Tie as tie
 
 returns : tie.Need-returns
-unfolding roundedSum
+unfolding rounded_sum
 returns c = refl
 
 pub to-f64-spec : {M : Type 1} → statement M

@@ -1,13 +1,13 @@
 -- `julian::JulianDate::to_julian_year` meets its contract. Assumes nothing.
 use mathlib.Core.Path.{refl}
 use lib.Ieee.{of_bits, round}
-use Rattle.constants.specs.Constants.{j2000Jd, daysPerJulianYear}
-use Rattle.julian.specs.JulianYear.{toJulianYear}
+use Rattle.constants.specs.Constants.{j2000_jd, days_per_julian_year}
+use Rattle.julian.specs.JulianYear.{to_julian_year}
 use Rattle.julian.proofs.JulianDate.to_julian_year.Statement.{statement}
 use Rattle.julian.proofs.JulianDate.to_julian_year.Tie as tie
 
 returns : tie.Need-returns
-unfolding toJulianYear j2000Jd daysPerJulianYear of_bits round
+unfolding to_julian_year j2000_jd days_per_julian_year of_bits round
 returns c = refl
 
 pub to-julian-year-spec : {M : Type 1} → statement M

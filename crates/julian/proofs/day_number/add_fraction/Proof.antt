@@ -1,13 +1,13 @@
 -- `add_fraction` meets its contract. Assumes nothing.
 use lib.Ieee.{of_bits}
-use Rattle.julian.proofs.day_number.Steps.{added-day, added_none}
+use Rattle.julian.proofs.day_number.Steps.{added_day, added_none}
 use borrow.Author.Rules.{rules}
 use Rattle.julian.proofs.day_number.add_fraction.Statement.{statement}
 use Rattle.julian.proofs.day_number.add_fraction.Tie as tie
 
 returns : tie.Need-returns
 unfolding of_bits
-returns c = let s = c.before.before.before.before.args in added-day s.carry s.kahan s.frac c.before.before.compensation.result
+returns c = let s = c.before.before.before.before.args in added_day s.carry s.kahan s.frac c.before.before.compensation.result
     c.before.before.compensation.ensures c.if1.true
 
 returns-2 : tie.Need-returns-2

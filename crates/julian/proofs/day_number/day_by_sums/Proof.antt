@@ -10,7 +10,7 @@ total-day-requires c κs =
     let n = c.before.before in
     let k = n.before.before in
     let s = k.before.before.before in
-    asks s.args.jd1 s.args.jd2 (yes s.well-formed.0.1) (yes s.well-formed.1.0.1) s.requires.0 s.args.first s.args.second s.requires.1 s.requires.2
+    asks s.args.jd1 s.args.jd2 (yes s.well_formed.0.1) (yes s.well_formed.1.0.1) s.requires.0 s.args.first s.args.second s.requires.1 s.requires.2
     k.sum-fractions.result k.sum-fractions.ensures n.normalize-fraction.result n.normalize-fraction.ensures
 
 returns : tie.Need-returns
@@ -18,7 +18,7 @@ returns c =
     let n = c.before.before.before in
     let k = n.before.before in
     let s = k.before.before.before in
-    gives s.args.jd1 s.args.jd2 (yes s.well-formed.0.1) (yes s.well-formed.1.0.1) s.requires.0 s.args.first s.args.second s.requires.1 s.requires.2
+    gives s.args.jd1 s.args.jd2 (yes s.well_formed.0.1) (yes s.well_formed.1.0.1) s.requires.0 s.args.first s.args.second s.requires.1 s.requires.2
     k.sum-fractions.result k.sum-fractions.ensures n.normalize-fraction.result n.normalize-fraction.ensures c.total-day.result
     c.total-day.ensures
 

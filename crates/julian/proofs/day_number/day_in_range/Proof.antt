@@ -1,9 +1,9 @@
 -- `day_in_range` meets its contract. Assumes nothing.
 use Rattle.floats.proofs.Laws.{yes}
 use Rattle.julian.proofs.day_number.DayInRange.{asks, gives}
-use Rattle.julian.proofs.day_number.Midnight.{quick, quick-borrowed}
+use Rattle.julian.proofs.day_number.Midnight.{quick, quick_borrowed}
 use lib.Ieee.{binary64, of_bits, neg, sub}
-use lib.Ieee.Fits.{sub-fits}
+use lib.Ieee.Fits.{sub_fits}
 use borrow.Author.Rules.{rules}
 use Rattle.julian.proofs.day_number.day_in_range.Statement.{statement}
 use Rattle.julian.proofs.day_number.day_in_range.Tie as tie
@@ -19,9 +19,9 @@ total-day-requires c κs =
     let s = a.before in
     let x = s.args.jd1 in
     let y = s.args.jd2 in
-    let q = quick (sub binary64 x a.nearest-whole.result.value) (sub binary64 y b.nearest-whole2.result.value) (sub-fits binary64 x _)
-    (sub-fits binary64 y _) m.if1.true j.if2.true i.if3.true in
-    asks x y (yes s.well-formed.0.1) (yes s.well-formed.1.0.1) s.requires a.nearest-whole.result b.nearest-whole2.result a.nearest-whole.ensures
+    let q = quick (sub binary64 x a.nearest-whole.result.value) (sub binary64 y b.nearest-whole2.result.value) (sub_fits binary64 x _)
+    (sub_fits binary64 y _) m.if1.true j.if2.true i.if3.true in
+    asks x y (yes s.well_formed.0.1) (yes s.well_formed.1.0.1) s.requires a.nearest-whole.result b.nearest-whole2.result a.nearest-whole.ensures
     b.nearest-whole2.ensures _ q.summed _ q.normal
 
 returns : tie.Need-returns
@@ -35,9 +35,9 @@ returns c =
     let s = a.before in
     let x = s.args.jd1 in
     let y = s.args.jd2 in
-    let q = quick (sub binary64 x a.nearest-whole.result.value) (sub binary64 y b.nearest-whole2.result.value) (sub-fits binary64 x _)
-    (sub-fits binary64 y _) m.if1.true j.if2.true i.if3.true in
-    gives x y (yes s.well-formed.0.1) (yes s.well-formed.1.0.1) s.requires a.nearest-whole.result b.nearest-whole2.result a.nearest-whole.ensures
+    let q = quick (sub binary64 x a.nearest-whole.result.value) (sub binary64 y b.nearest-whole2.result.value) (sub_fits binary64 x _)
+    (sub_fits binary64 y _) m.if1.true j.if2.true i.if3.true in
+    gives x y (yes s.well_formed.0.1) (yes s.well_formed.1.0.1) s.requires a.nearest-whole.result b.nearest-whole2.result a.nearest-whole.ensures
     b.nearest-whole2.ensures _ q.summed _ q.normal c.total-day.result c.total-day.ensures
 
 total-day-requires-2 : tie.Need-total-day-requires-2
@@ -52,9 +52,9 @@ total-day-requires-2 c κs =
     let s = a.before in
     let x = s.args.jd1 in
     let y = s.args.jd2 in
-    let q = quick-borrowed (sub binary64 x a.nearest-whole.result.value) (sub binary64 y b.nearest-whole2.result.value) (sub-fits binary64 x _)
-    (sub-fits binary64 y _) m.if1.true k.if2.false j.if4.true i.if5.true in
-    asks x y (yes s.well-formed.0.1) (yes s.well-formed.1.0.1) s.requires a.nearest-whole.result b.nearest-whole2.result a.nearest-whole.ensures
+    let q = quick_borrowed (sub binary64 x a.nearest-whole.result.value) (sub binary64 y b.nearest-whole2.result.value) (sub_fits binary64 x _)
+    (sub_fits binary64 y _) m.if1.true k.if2.false j.if4.true i.if5.true in
+    asks x y (yes s.well_formed.0.1) (yes s.well_formed.1.0.1) s.requires a.nearest-whole.result b.nearest-whole2.result a.nearest-whole.ensures
     b.nearest-whole2.ensures _ q.summed _ q.normal
 
 returns-2 : tie.Need-returns-2
@@ -69,9 +69,9 @@ returns-2 c =
     let s = a.before in
     let x = s.args.jd1 in
     let y = s.args.jd2 in
-    let q = quick-borrowed (sub binary64 x a.nearest-whole.result.value) (sub binary64 y b.nearest-whole2.result.value) (sub-fits binary64 x _)
-    (sub-fits binary64 y _) m.if1.true k.if2.false j.if4.true i.if5.true in
-    gives x y (yes s.well-formed.0.1) (yes s.well-formed.1.0.1) s.requires a.nearest-whole.result b.nearest-whole2.result a.nearest-whole.ensures
+    let q = quick_borrowed (sub binary64 x a.nearest-whole.result.value) (sub binary64 y b.nearest-whole2.result.value) (sub_fits binary64 x _)
+    (sub_fits binary64 y _) m.if1.true k.if2.false j.if4.true i.if5.true in
+    gives x y (yes s.well_formed.0.1) (yes s.well_formed.1.0.1) s.requires a.nearest-whole.result b.nearest-whole2.result a.nearest-whole.ensures
     b.nearest-whole2.ensures _ q.summed _ q.normal c.total-day2.result c.total-day2.ensures
 
 pub day-in-range-spec : {M : Type 1} → statement M

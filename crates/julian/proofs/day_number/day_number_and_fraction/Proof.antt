@@ -2,7 +2,7 @@
 use mathlib.Core.Path.{sym, ap, ◌∙◌}
 use mathlib.Core.Bool.{true, false}
 use Rattle.refusals.specs.Outcome.{answer}
-use Rattle.julian.specs.day_number.Answer.{dayOutcome}
+use Rattle.julian.specs.day_number.Answer.{day_outcome}
 use Rattle.julian.proofs.day_number.Answer.{answered, refused, tested}
 use borrow.Author.Rules.{rules}
 use Rattle.julian.proofs.day_number.day_number_and_fraction.Statement.{statement}
@@ -13,7 +13,7 @@ day-in-range-requires c κs = let s =
     c.before.before.args in tested s.jd1 s.jd2 c.before.check-julian-range.result true c.before.check-julian-range.ensures c.if1.true
 
 returns : tie.Need-returns
-unfolding dayOutcome
+unfolding day_outcome
 returns c =
     let r = c.before.before in
     let s = r.before.args in
@@ -22,7 +22,7 @@ returns c =
     (tested s.jd1 s.jd2 r.check-julian-range.result true r.check-julian-range.ensures c.before.if1.true))
 
 returns-2 : tie.Need-returns-2
-unfolding dayOutcome
+unfolding day_outcome
 returns-2 c =
     let r = c.before in
     let s = r.before.args in

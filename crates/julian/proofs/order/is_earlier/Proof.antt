@@ -2,12 +2,12 @@
 use mathlib.Core.Path.{◌∙◌}
 use borrow.Author.Rules.{rules}
 use Rattle.julian.specs.Equality.{sums}
-use Rattle.julian.specs.order.Places.{isEarlier}
+use Rattle.julian.specs.order.Places.{is_earlier}
 use Rattle.julian.proofs.order.is_earlier.Statement.{statement}
 use Rattle.julian.proofs.order.is_earlier.Tie as tie
 
 returns : tie.Need-returns
-unfolding sums isEarlier
+unfolding sums is_earlier
 returns c = c.sooner.ensures ∙ rw (c.before.before.exact-sum.ensures, c.before.exact-sum2.ensures)
 
 pub is-earlier-spec : {M : Type 1} → statement M

@@ -2,12 +2,12 @@
 use borrow.Author.Rules.{rules}
 use native.Mathlib.Omega.{arith}
 use mathlib.Core.Path.{◌≡◌, ◌∙◌}
-use Rattle.leap_table.specs.rows.Table.{lastMonth}
+use Rattle.leap_table.specs.rows.Table.{last_month}
 use Rattle.leap_lists.proofs.held.Tests.{own-last}
 use Rattle.leap_lists.proofs.held.last_month.Statement.{statement}
 use Rattle.leap_lists.proofs.held.last_month.Tie as tie
 
-is_last : (c : tie.After-row-start) → c.row-start.result ≡ lastMonth
+is_last : (c : tie.After-row-start) → c.row-start.result ≡ last_month
 is_last c = c.row-start.ensures ∙ own-last _ c.before.no_rows.ensures
 
 cast-result : tie.Need-overflow-cast-result

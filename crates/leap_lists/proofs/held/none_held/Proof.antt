@@ -5,7 +5,7 @@ use Prim.Native.Nat.{ℕ}
 use lib.IntN.{pos}
 use lib.ListN.{replicate}
 use Rattle.leap_lists.specs.declared.held.Held.{Held}
-use Rattle.leap_lists.specs.Held.{secondsFrom, noneHeld}
+use Rattle.leap_lists.specs.Held.{seconds_from, none_held}
 use Rattle.leap_lists.proofs.held.Tests.{last-second}
 use Rattle.leap_lists.proofs.held.none_held.Statement.{statement}
 use Rattle.leap_lists.proofs.held.none_held.Tie as tie
@@ -14,10 +14,10 @@ held : ℕ → ℕ → Held
 held m s = record { size = 0; months = replicate 16 (pos 0); seconds = replicate 16 (pos 0); month = m; second = s; known = 0 }
 
 returns : tie.Need-returns
-unfolding noneHeld held
+unfolding none_held held
 returns c =
     let m = c.before.last-month.ensures in
-    let s = c.seconds-from.ensures.0 ∙ ap secondsFrom m ∙ last-second in
+    let s = c.seconds-from.ensures.0 ∙ ap seconds_from m ∙ last-second in
     λ i. held (m i) (s i)
 
 pub none-held-spec : {M : Type 1} → statement M

@@ -4,8 +4,8 @@ use native.Mathlib.Omega.{arith}
 use Prim.Native.Nat.{◌<◌, ◌≤◌}
 use mathlib.Core.Path.{sym, ◌∙◌}
 use mathlib.Core.Bool.{true, false}
-use Rattle.leap_table.specs.rows.Table.{lastMonth}
-use Rattle.leap_lists.proofs.held.Tests.{as-later, as_own}
+use Rattle.leap_table.specs.rows.Table.{last_month}
+use Rattle.leap_lists.proofs.held.Tests.{as_later, as_own}
 use Rattle.leap_lists.proofs.held.row_fault.Statement.{statement}
 use Rattle.leap_lists.proofs.held.row_fault.Tie as tie
 
@@ -13,7 +13,7 @@ returns : tie.Need-returns
 returns c =
     let m = c.before.before in
     let a = m.before.args in
-    as-later a.held a.month a.seconds _ (omega (arith, m.last-month.ensures, c.before.if1.true)) c.later-fault.ensures
+    as_later a.held a.month a.seconds _ (omega (arith, m.last-month.ensures, c.before.if1.true)) c.later-fault.ensures
 
 returns-2 : tie.Need-returns-2
 returns-2 c =

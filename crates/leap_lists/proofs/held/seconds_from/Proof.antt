@@ -7,7 +7,7 @@ use lib.IntN.{ℤ}
 use mir.Syntax.{w32}
 use mir.Facts.{to_z_pos}
 use Rattle.leap_table.specs.rows.Announced.{rows_of}
-use Rattle.leap_table.specs.offsets.WholeSeconds.{wholeSeconds}
+use Rattle.leap_table.specs.offsets.WholeSeconds.{whole_seconds}
 use Rattle.leap_lists.proofs.held.Tests.{own-seconds}
 use Rattle.leap_lists.proofs.held.seconds_from.Statement.{statement}
 use Rattle.leap_lists.proofs.held.seconds_from.Tie as tie
@@ -17,7 +17,7 @@ returns c =
     let t = c.before.no_rows.result in
     let m = c.before.before.args.month in (
       c.whole-seconds-by-rows.ensures.0
-          ∙ ap (λ (y : ℤ). wholeSeconds (rows_of t) y (m % 12 + 1)) (to_z_pos w32 {n = m / 12} (omega arith))
+          ∙ ap (λ (y : ℤ). whole_seconds (rows_of t) y (m % 12 + 1)) (to_z_pos w32 {n = m / 12} (omega arith))
           ∙ own-seconds t m c.before.no_rows.ensures,
       c.whole-seconds-by-rows.ensures.1,
     )

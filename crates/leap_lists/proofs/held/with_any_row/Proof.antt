@@ -2,7 +2,7 @@
 use borrow.Author.Rules.{rules}
 use native.Mathlib.Omega.{arith}
 use mathlib.Core.Path.{◌∙◌}
-use Rattle.leap_lists.proofs.held.Tests.{room, is_held, not-held}
+use Rattle.leap_lists.proofs.held.Tests.{room, is_held, not_held}
 use Rattle.leap_lists.proofs.held.with_any_row.Statement.{statement}
 use Rattle.leap_lists.proofs.held.with_any_row.Tie as tie
 
@@ -23,7 +23,7 @@ returns-2 : tie.Need-returns-2
 returns-2 c =
     let m = c.before in
     let a = m.before.args in
-    not-held a.held a.month a.seconds (omega (arith, m.last-month.ensures, c.if1.false))
+    not_held a.held a.month a.seconds (omega (arith, m.last-month.ensures, c.if1.false))
 
 pub with-any-row-spec : {M : Type 1} → statement M
 with-any-row-spec = tie.close (tie.spec (λ c κs. search rules) with-row-requires returns returns-2)

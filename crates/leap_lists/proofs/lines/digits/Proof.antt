@@ -2,13 +2,13 @@
 use borrow.Author.Rules.{rules}
 use native.Mathlib.Omega.{arith}
 use Prim.Native.Nat.{suc, ◌+◌, ◌-◌, ◌*◌, ◌≤◌, ◌<◌}
-use borrow.Author.Tests.{not-true, not-false}
+use borrow.Author.Tests.{not_true, not_false}
 use mathlib.Core.Path.{◌≡◌, refl, sym, ap, subst, ◌∙◌}
 use mathlib.Core.Bool.{true}
 use lib.ListN.{length, get_or}
-use Rattle.numerals.specs.digits.Decimal.{isDigit}
-use Rattle.numerals.proofs.digits.Decimal.{digit-bounds}
-use Rattle.leap_lists.proofs.lines.Runs.{RunsOn, run-start, run_small, run_on, run_ends, leading-stop, none_more, digit-inside}
+use Rattle.numerals.specs.digits.Decimal.{is_digit}
+use Rattle.numerals.proofs.digits.Decimal.{digit_bounds}
+use Rattle.leap_lists.proofs.lines.Runs.{RunsOn, run-start, run_small, run_on, run_ends, leading-stop, none_more, digit_inside}
 use Rattle.leap_lists.proofs.lines.digits.Statement.{statement}
 use Rattle.leap_lists.proofs.lines.digits.Tie as tie
 
@@ -27,7 +27,7 @@ returns c =
     let a = l.before.before.args in
     run_ends a.most a.at a.line.now l.loop.value l.loop.i l.loop.left
     (leading-stop a.line.now l.loop.i l.loop.left
-    (ap isDigit (sym c.before.before.byte_at.ensures) ∙ sym c.before.digit.ensures ∙ not-true _ c.if1.true))
+    (ap is_digit (sym c.before.before.byte_at.ensures) ∙ sym c.before.digit.ensures ∙ not_true _ c.if1.true))
     l.loop.invariant
 
 -- the byte is a digit, and what is read before it is below 10 ^ 12
@@ -38,27 +38,27 @@ module _ (c : tie.Else1 invariant-loop decreases-loop) where
   abbrev s : tie.Start invariant-loop decreases-loop
   s = l.before.before
 
-  is_digit : isDigit (get_or s.args.line.now l.loop.i 0) ≡ true
-  is_digit = ap isDigit (sym c.before.before.byte_at.ensures) ∙ sym c.before.digit.ensures ∙ not-false _ c.if1.false
+  is_digit_lem : is_digit (get_or s.args.line.now l.loop.i 0) ≡ true
+  is_digit_lem = ap is_digit (sym c.before.before.byte_at.ensures) ∙ sym c.before.digit.ensures ∙ not_false _ c.if1.false
 
   low : 48 ≤ c.before.before.byte_at.result
-  low = omega (arith, c.before.before.byte_at.ensures, (digit-bounds _ is_digit).0)
+  low = omega (arith, c.before.before.byte_at.ensures, (digit_bounds _ is_digit_lem).0)
 
   high : c.before.before.byte_at.result ≤ 57
-  high = omega (arith, c.before.before.byte_at.ensures, (digit-bounds _ is_digit).1)
+  high = omega (arith, c.before.before.byte_at.ensures, (digit_bounds _ is_digit_lem).1)
 
   few : l.loop.value < 1000000000000
   few = run_small s.args.most s.args.at s.args.line.now _ l.loop.i l.loop.left s.pre.1 l.loop.inv
 
   there : l.loop.i < length s.args.line.now
-  there = digit-inside s.args.line.now l.loop.i is_digit
+  there = digit_inside s.args.line.now l.loop.i is_digit_lem
 
 loop-again : tie.Need-loop-preserved invariant-loop decreases-loop
 loop-again c =
     let l = c.before.before.before.before in
     let a = l.before.before.args in
     let e : l.loop.left ≡ suc (l.loop.left - 1) = omega arith in
-    run_on a.most a.at a.line.now l.loop.value l.loop.i (l.loop.left - 1) _ (is_digit c)
+    run_on a.most a.at a.line.now l.loop.value l.loop.i (l.loop.left - 1) _ (is_digit_lem c)
     (ap (λ n. 10 * l.loop.value + (n - 48)) c.before.before.byte_at.ensures)
     (subst (RunsOn a.most a.at a.line.now l.loop.value l.loop.i) e l.loop.invariant)
 

@@ -3,18 +3,18 @@ use borrow.Author.Rules.{rules}
 use native.Mathlib.Omega.{arith}
 use Prim.Native.Nat.{◌<◌, ◌≤◌}
 use mathlib.Core.Path.{sym, ◌∙◌}
-use Rattle.leap_lists.proofs.lines.Ladder.{other-year, other-month, month-low, month-high, month-is}
+use Rattle.leap_lists.proofs.lines.Ladder.{other_year, other_month, month-low, month-high, month_is}
 use Rattle.leap_lists.proofs.lines.month_row.Statement.{statement}
 use Rattle.leap_lists.proofs.lines.month_row.Tie as tie
 
 returns : tie.Need-returns
-returns c = let a = c.before.before.args in (other-year a.year a.places a.at a.line.now c.if1.true, tt)
+returns c = let a = c.before.before.args in (other_year a.year a.places a.at a.line.now c.if1.true, tt)
 
 returns-2 : tie.Need-returns-2
 returns-2 c =
     let d = c.before in
     let a = d.before.before.before.args in
-    (other-month a.year a.places a.at a.line.now d.digits.result d.digits.ensures c.if2.true, tt)
+    (other_month a.year a.places a.at a.line.now d.digits.result d.digits.ensures c.if2.true, tt)
 
 returns-3 : tie.Need-returns-3
 returns-3 c =
@@ -47,7 +47,7 @@ returns-5 c =
     let e = c.before.before in
     let d = e.before.before.before.before.before in
     let a = d.before.before.before.args in (
-      c.row-with.ensures.0 ∙ month-is a.year a.places a.at a.line.now d.digits.result d.digits.ensures d.before.if1.false
+      c.row-with.ensures.0 ∙ month_is a.year a.places a.at a.line.now d.digits.result d.digits.ensures d.before.if1.false
           e.before.before.before.before.if2.false (low e) (high e),
       c.row-with.ensures.1,
     )

@@ -6,7 +6,7 @@ use lib.ListN.{length}
 use lib.Dec.{lit<}
 use mathlib.Core.Path.{sym, ◌∙◌}
 use Rattle.leap_lists.proofs.lines.Runs.{inside}
-use Rattle.leap_lists.proofs.lines.Ladder.{nothing-there, a-row, a-comment, an-expiry}
+use Rattle.leap_lists.proofs.lines.Ladder.{nothing-there, a-row, a_comment, an_expiry}
 use Rattle.leap_lists.proofs.lines.read_line.Statement.{statement}
 use Rattle.leap_lists.proofs.lines.read_line.Tie as tie
 
@@ -29,7 +29,7 @@ returns-3 c =
     let b = y.before.before.before.before in
     let t = b.before.before.args.line.now in
     let h : b.blanks-end.result < length t = omega arith in
-    (a-comment t b.blanks-end.result b.blanks-end.ensures.0 h y.before.if2.false (λ e. c.if3.true (y.byte_at.ensures ∙ e)), tt)
+    (a_comment t b.blanks-end.result b.blanks-end.ensures.0 h y.before.if2.false (λ e. c.if3.true (y.byte_at.ensures ∙ e)), tt)
 
 -- the @ stands inside
 at_there : (c : tie.Else3) → let b = c.before.before.before.before.before in b.blanks-end.result + 1 < length b.before.before.args.line.now
@@ -44,7 +44,7 @@ returns-4 c =
     let b = y.before.before.before.before in
     let t = b.before.before.args.line.now in
     let h : b.blanks-end.result < length t = omega arith in (
-      an-expiry t b.blanks-end.result b.blanks-end.ensures.0 h y.before.if2.false _ (sym y.byte_at.ensures ∙ c.before.if3.false)
+      an_expiry t b.blanks-end.result b.blanks-end.ensures.0 h y.before.if2.false _ (sym y.byte_at.ensures ∙ c.before.if3.false)
           c.expiry-at.ensures.0,
       c.expiry-at.ensures.1,
     )

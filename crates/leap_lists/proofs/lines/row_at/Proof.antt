@@ -7,7 +7,7 @@ use lib.Dec.{lit<}
 use native.Mathlib.Numerals.{add-one-le}
 use mathlib.Core.Path.{sym, ◌∙◌}
 use Rattle.leap_lists.proofs.lines.Runs.{inside}
-use Rattle.leap_lists.proofs.lines.Ladder.{hyphen, no-hyphen, four-digits}
+use Rattle.leap_lists.proofs.lines.Ladder.{hyphen, no_hyphen, four-digits}
 use Rattle.leap_lists.proofs.lines.row_at.Statement.{statement}
 use Rattle.leap_lists.proofs.lines.row_at.Tie as tie
 
@@ -34,7 +34,7 @@ returns-2 c =
     let y = c.before.before in
     let d = y.before in
     let a = d.before.before.args in (
-      no-hyphen a.at a.line.now d.digits.result d.digits.ensures _ (λ e. c.before.if1.false (y.byte_at.ensures ∙ e)) c.ntp-row.ensures.0,
+      no_hyphen a.at a.line.now d.digits.result d.digits.ensures _ (λ e. c.before.if1.false (y.byte_at.ensures ∙ e)) c.ntp-row.ensures.0,
       c.ntp-row.ensures.1,
     )
 

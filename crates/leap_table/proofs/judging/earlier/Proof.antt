@@ -1,6 +1,6 @@
 -- `leap_table::judging::earlier` meets its contract. Assumes nothing.
 use mathlib.Core.Path.{refl}
-use Rattle.leap_table.proofs.judging.Judges.{lt-read, year-earlier, year-later, month-earlier, month-later, by-day}
+use Rattle.leap_table.proofs.judging.Judges.{lt_read, year-earlier, year-later, month-earlier, month-later, by_day}
 use Rattle.leap_table.proofs.judging.earlier.Statement.{statement}
 use Rattle.leap_table.proofs.judging.earlier.Tie as tie
 
@@ -10,7 +10,7 @@ returns c =
     let t1 = t2.before.before in
     let s = t1.before.before.args in
     year-earlier s.a s.b
-    (lt-read s.a.year s.b.year _ (record { sfits = t1.struct_told.given.0.1 }) (record { sfits = t2.struct-told2.given.0.1 }) c.if1.true)
+    (lt_read s.a.year s.b.year _ (record { sfits = t1.struct_told.given.0.1 }) (record { sfits = t2.struct-told2.given.0.1 }) c.if1.true)
 
 returns-2 : tie.Need-returns-2
 returns-2 c =
@@ -20,8 +20,8 @@ returns-2 c =
     let t1 = t2.before.before in
     let s = t1.before.before.args in
     year-later s.a s.b
-    (lt-read s.a.year s.b.year _ (record { sfits = t1.struct_told.given.0.1 }) (record { sfits = t2.struct-told2.given.0.1 }) i1.if1.false)
-    (lt-read s.b.year s.a.year _ (record { sfits = t2.struct-told2.given.0.1 }) (record { sfits = t1.struct_told.given.0.1 }) c.if2.true)
+    (lt_read s.a.year s.b.year _ (record { sfits = t1.struct_told.given.0.1 }) (record { sfits = t2.struct-told2.given.0.1 }) i1.if1.false)
+    (lt_read s.b.year s.a.year _ (record { sfits = t2.struct-told2.given.0.1 }) (record { sfits = t1.struct_told.given.0.1 }) c.if2.true)
 
 returns-3 : tie.Need-returns-3
 returns-3 c =
@@ -33,9 +33,9 @@ returns-3 c =
     let t1 = t2.before.before in
     let s = t1.before.before.args in
     month-earlier s.a s.b
-    (lt-read s.a.year s.b.year _ (record { sfits = t1.struct_told.given.0.1 }) (record { sfits = t2.struct-told2.given.0.1 }) i1.if1.false)
-    (lt-read s.b.year s.a.year _ (record { sfits = t2.struct-told2.given.0.1 }) (record { sfits = t1.struct_told.given.0.1 }) i2.if2.false)
-    (lt-read s.a.month s.b.month _ (record { sfits = t1.struct_told.given.1.0.1 }) (record { sfits = t2.struct-told2.given.1.0.1 })
+    (lt_read s.a.year s.b.year _ (record { sfits = t1.struct_told.given.0.1 }) (record { sfits = t2.struct-told2.given.0.1 }) i1.if1.false)
+    (lt_read s.b.year s.a.year _ (record { sfits = t2.struct-told2.given.0.1 }) (record { sfits = t1.struct_told.given.0.1 }) i2.if2.false)
+    (lt_read s.a.month s.b.month _ (record { sfits = t1.struct_told.given.1.0.1 }) (record { sfits = t2.struct-told2.given.1.0.1 })
     c.if3.true)
 
 returns-4 : tie.Need-returns-4
@@ -50,11 +50,11 @@ returns-4 c =
     let t1 = t2.before.before in
     let s = t1.before.before.args in
     month-later s.a s.b
-    (lt-read s.a.year s.b.year _ (record { sfits = t1.struct_told.given.0.1 }) (record { sfits = t2.struct-told2.given.0.1 }) i1.if1.false)
-    (lt-read s.b.year s.a.year _ (record { sfits = t2.struct-told2.given.0.1 }) (record { sfits = t1.struct_told.given.0.1 }) i2.if2.false)
-    (lt-read s.a.month s.b.month _ (record { sfits = t1.struct_told.given.1.0.1 }) (record { sfits = t2.struct-told2.given.1.0.1 })
+    (lt_read s.a.year s.b.year _ (record { sfits = t1.struct_told.given.0.1 }) (record { sfits = t2.struct-told2.given.0.1 }) i1.if1.false)
+    (lt_read s.b.year s.a.year _ (record { sfits = t2.struct-told2.given.0.1 }) (record { sfits = t1.struct_told.given.0.1 }) i2.if2.false)
+    (lt_read s.a.month s.b.month _ (record { sfits = t1.struct_told.given.1.0.1 }) (record { sfits = t2.struct-told2.given.1.0.1 })
     i3.if3.false)
-    (lt-read s.b.month s.a.month _ (record { sfits = t2.struct-told2.given.1.0.1 }) (record { sfits = t1.struct_told.given.1.0.1 })
+    (lt_read s.b.month s.a.month _ (record { sfits = t2.struct-told2.given.1.0.1 }) (record { sfits = t1.struct_told.given.1.0.1 })
     c.if4.true)
 
 returns-5 : tie.Need-returns-5
@@ -69,15 +69,15 @@ returns-5 c =
     let t2 = i1.before in
     let t1 = t2.before.before in
     let s = t1.before.before.args in
-    by-day s.a s.b
-    (lt-read s.a.year s.b.year _ (record { sfits = t1.struct_told.given.0.1 }) (record { sfits = t2.struct-told2.given.0.1 }) i1.if1.false)
-    (lt-read s.b.year s.a.year _ (record { sfits = t2.struct-told2.given.0.1 }) (record { sfits = t1.struct_told.given.0.1 }) i2.if2.false)
-    (lt-read s.a.month s.b.month _ (record { sfits = t1.struct_told.given.1.0.1 }) (record { sfits = t2.struct-told2.given.1.0.1 })
+    by_day s.a s.b
+    (lt_read s.a.year s.b.year _ (record { sfits = t1.struct_told.given.0.1 }) (record { sfits = t2.struct-told2.given.0.1 }) i1.if1.false)
+    (lt_read s.b.year s.a.year _ (record { sfits = t2.struct-told2.given.0.1 }) (record { sfits = t1.struct_told.given.0.1 }) i2.if2.false)
+    (lt_read s.a.month s.b.month _ (record { sfits = t1.struct_told.given.1.0.1 }) (record { sfits = t2.struct-told2.given.1.0.1 })
     i3.if3.false)
-    (lt-read s.b.month s.a.month _ (record { sfits = t2.struct-told2.given.1.0.1 }) (record { sfits = t1.struct_told.given.1.0.1 })
+    (lt_read s.b.month s.a.month _ (record { sfits = t2.struct-told2.given.1.0.1 }) (record { sfits = t1.struct_told.given.1.0.1 })
     i4.if4.false)
     _
-    (lt-read s.a.day s.b.day _ (record { sfits = t1.struct_told.given.1.1.0.1 }) (record { sfits = t2.struct-told2.given.1.1.0.1 }) refl)
+    (lt_read s.a.day s.b.day _ (record { sfits = t1.struct_told.given.1.1.0.1 }) (record { sfits = t2.struct-told2.given.1.1.0.1 }) refl)
 
 pub earlier-spec : {M : Type 1} → statement M
 earlier-spec = tie.close (tie.spec returns returns-2 returns-3 returns-4 returns-5)

@@ -2,21 +2,21 @@
 use Prim.Native.Nat.{◌-◌, ◌≤◌}
 use native.Mathlib.Omega.{arith}
 use mathlib.Core.Path.{◌≡◌, sym, ◌∙◌}
-use Rattle.leap_table.specs.judging.Judging.{judgedAll, judgedAfter}
-use Rattle.leap_table.specs.judging.Lists.{datesFrom, tripleAt}
-use Rattle.leap_table.proofs.judging.Judges.{firstDate, judging-starts, judging-stops, judging-goes, judging-ends}
+use Rattle.leap_table.specs.judging.Judging.{judged_all, judged_after}
+use Rattle.leap_table.specs.judging.Lists.{dates_from, triple_at}
+use Rattle.leap_table.proofs.judging.Judges.{first_date, judging_starts, judging_stops, judging_goes, judging_ends}
 use borrow.Author.Rules.{rules}
 use Rattle.leap_table.proofs.judging.judge_all.Statement.{statement}
 use Rattle.leap_table.proofs.judging.judge_all.Tie as tie
 
 abbrev invariant-loop : tie.invariant-loop
-invariant-loop dates n before₀ i₀ before i = (i ≤ n) × (judgedAll (datesFrom (tripleAt dates) 0 n) ≡ judgedAfter before (datesFrom (tripleAt dates) i (n - i)))
+invariant-loop dates n before₀ i₀ before i = (i ≤ n) × (judged_all (dates_from (triple_at dates) 0 n) ≡ judged_after before (dates_from (triple_at dates) i (n - i)))
 
 abbrev decreases-loop : tie.decreases-loop
 decreases-loop dates n before₀ i₀ before i = n - i
 
 loop-holds : tie.Need-loop-init invariant-loop decreases-loop
-loop-holds c = (omega arith, judging-starts (tripleAt c.args.dates.now) c.args.n 0 firstDate)
+loop-holds c = (omega arith, judging_starts (triple_at c.args.dates.now) c.args.n 0 first_date)
 
 triple-at-requires : tie.Need-triple-at-requires invariant-loop decreases-loop
 triple-at-requires c κs = search rules
@@ -30,7 +30,7 @@ returns c =
     let t = j.before in
     let l = t.before.before in
     let s = l.before.args in
-    judging-stops (tripleAt s.dates.now) s.n l.loop.i l.loop.before t.triple-at.result j.judge.result t.before.loop-test.true
+    judging_stops (triple_at s.dates.now) s.n l.loop.i l.loop.before t.triple-at.result j.judge.result t.before.loop-test.true
     t.triple-at.ensures j.judge.ensures c.if1.true
     ∙ sym l.loop.invariant.1
 
@@ -48,7 +48,7 @@ loop-again c =
     let s = l.before.args in (
       omega (arith, t.before.loop-test.true),
       l.loop.invariant.1
-          ∙ judging-goes (tripleAt s.dates.now) s.n l.loop.i l.loop.before t.triple-at.result j.judge.result
+          ∙ judging_goes (triple_at s.dates.now) s.n l.loop.i l.loop.before t.triple-at.result j.judge.result
           t.before.loop-test.true t.triple-at.ensures j.judge.ensures c.if1.false,
     )
 
@@ -56,7 +56,7 @@ returns-2 : tie.Need-returns-2 invariant-loop decreases-loop
 returns-2 c =
     let l = c.before in
     let s = l.before.args in
-    judging-ends (tripleAt s.dates.now) s.n l.loop.i l.loop.before c.loop-test.false ∙ sym l.loop.invariant.1
+    judging_ends (triple_at s.dates.now) s.n l.loop.i l.loop.before c.loop-test.false ∙ sym l.loop.invariant.1
 
 pub judge-all-spec : {M : Type 1} → statement M
 judge-all-spec =

@@ -7,10 +7,10 @@ use lib.Dec.{eqb}
 use lib.ListN.{length}
 use borrow.Author.Tests.{eq-eqb, ne_eqb}
 use Rattle.leap_table.specs.declared.judging.Triple.{Triple}
-use Rattle.leap_table.specs.rows.Announced.{unlessRefused}
-use Rattle.leap_table.specs.judging.Judging.{judgedAll, judgedList}
-use Rattle.leap_table.specs.judging.Lists.{datesFrom, tripleAt}
-use Rattle.leap_table.proofs.judging.Judges.{how-many}
+use Rattle.leap_table.specs.rows.Announced.{unless_refused}
+use Rattle.leap_table.specs.judging.Judging.{judged_all, judged_list}
+use Rattle.leap_table.specs.judging.Lists.{dates_from, triple_at}
+use Rattle.leap_table.proofs.judging.Judges.{how_many}
 use Rattle.leap_table.proofs.judging.Refused.{broken, no-places, by-dates, table-away, table_taken}
 use borrow.Author.Rules.{rules}
 use Rattle.leap_table.proofs.judging.numbers_refusal.Statement.{statement}
@@ -21,7 +21,7 @@ returns c =
     let r = c.before in
     let s = r.before.args in
     let l = s.dates.now in
-    table-away s.table (eqb (length l % 3) 0) (datesFrom (tripleAt l) 0 (length l / 3)) s.places r.table-refusal.result r.table-refusal.ensures
+    table-away s.table (eqb (length l % 3) 0) (dates_from (triple_at l) 0 (length l / 3)) s.places r.table-refusal.result r.table-refusal.ensures
     c.if1.true
 
 returns-2 : tie.Need-returns-2
@@ -30,9 +30,9 @@ returns-2 c =
     let r = i.before in
     let s = r.before.args in
     let l = s.dates.now in
-    let d = datesFrom (tripleAt l) 0 (length l / 3) in
+    let d = dates_from (triple_at l) 0 (length l / 3) in
     table_taken s.table (eqb (length l % 3) 0) d s.places r.table-refusal.result r.table-refusal.ensures i.if1.false _
-    (broken d s.places ∙ ap (λ (b : Bool). judgedList b d s.places) (sym (ne_eqb (length l % 3) 0 c.if2.true)))
+    (broken d s.places ∙ ap (λ (b : Bool). judged_list b d s.places) (sym (ne_eqb (length l % 3) 0 c.if2.true)))
 
 returns-3 : tie.Need-returns-3
 returns-3 c =
@@ -41,14 +41,14 @@ returns-3 c =
     let r = i.before in
     let s = r.before.args in
     let l = s.dates.now in
-    let d = datesFrom (tripleAt l) 0 (length l / 3) in
+    let d = dates_from (triple_at l) 0 (length l / 3) in
     table_taken s.table (eqb (length l % 3) 0) d s.places r.table-refusal.result r.table-refusal.ensures i.if1.false _
-    (no-places d s.places (length l / 3) (how-many (tripleAt l) (length l / 3) 0) c.if3.true
-    ∙ ap (λ (b : Bool). judgedList b d s.places) (sym (eq-eqb (length l % 3) 0 k.if2.false)))
+    (no-places d s.places (length l / 3) (how_many (triple_at l) (length l / 3) 0) c.if3.true
+    ∙ ap (λ (b : Bool). judged_list b d s.places) (sym (eq-eqb (length l % 3) 0 k.if2.false)))
 
 -- as many dates are judged as there are
-judged : (f : ℕ → Triple) (m n r : ℕ) → m ≡ n → unlessRefused r tt ≡ judgedAll (datesFrom f 0 m) → unlessRefused r tt ≡ judgedAll (datesFrom f 0 n)
-judged f m n r e p = p ∙ ap (λ (k : ℕ). judgedAll (datesFrom f 0 k)) e
+judged : (f : ℕ → Triple) (m n r : ℕ) → m ≡ n → unless_refused r tt ≡ judged_all (dates_from f 0 m) → unless_refused r tt ≡ judged_all (dates_from f 0 n)
+judged f m n r e p = p ∙ ap (λ (k : ℕ). judged_all (dates_from f 0 k)) e
 
 returns-4 : tie.Need-returns-4
 returns-4 c =
@@ -58,11 +58,11 @@ returns-4 c =
     let r = i.before in
     let s = r.before.args in
     let l = s.dates.now in
-    let d = datesFrom (tripleAt l) 0 (length l / 3) in
+    let d = dates_from (triple_at l) 0 (length l / 3) in
     table_taken s.table (eqb (length l % 3) 0) d s.places r.table-refusal.result r.table-refusal.ensures i.if1.false _
-    (by-dates d s.places (length l / 3) (how-many (tripleAt l) (length l / 3) 0) q.if3.false c.judge-all.result
-    (judged (tripleAt l) _ (length l / 3) c.judge-all.result (omega arith) c.judge-all.ensures)
-    ∙ ap (λ (b : Bool). judgedList b d s.places) (sym (eq-eqb (length l % 3) 0 k.if2.false)))
+    (by-dates d s.places (length l / 3) (how_many (triple_at l) (length l / 3) 0) q.if3.false c.judge-all.result
+    (judged (triple_at l) _ (length l / 3) c.judge-all.result (omega arith) c.judge-all.ensures)
+    ∙ ap (λ (b : Bool). judged_list b d s.places) (sym (eq-eqb (length l % 3) 0 k.if2.false)))
 
 pub numbers-refusal-spec : {M : Type 1} → statement M
 numbers-refusal-spec =

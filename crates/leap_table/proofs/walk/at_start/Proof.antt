@@ -2,8 +2,8 @@
 use native.Mathlib.Omega.{arith}
 use mathlib.Core.Path.{refl}
 use borrow.Author.Rules.{rules}
-use Rattle.leap_table.specs.rows.Announced.{announcedSize}
-use Rattle.leap_table.proofs.rows.Tables.{table-length, at-most-16}
+use Rattle.leap_table.specs.rows.Announced.{announced_size}
+use Rattle.leap_table.proofs.rows.Tables.{table-length, at_most_16}
 use Rattle.leap_table.proofs.walk.at_start.Statement.{statement}
 use Rattle.leap_table.proofs.walk.at_start.Tie as tie
 
@@ -15,7 +15,7 @@ returns c =
         all = c.before.before.row_count.ensures;
         most = omega arith;
         small =
-            omega (arith, table-length s.table (announcedSize s.table), at-most-16 s.table);
+            omega (arith, table-length s.table (announced_size s.table), at_most_16 s.table);
         next = c.before.row-start.ensures;
         terms =
             c.row-terms.ensures;

@@ -22,17 +22,17 @@ module _ (c : tie.After-struct-told3) where
   abbrev s : Triple
   s = c.before.before.before.before.before.before.before.args.t
 
-  year-fits : SFits w32 s.year
-  year-fits = record { sfits = c.struct-told3.given.0.1 }
+  year_fits : SFits w32 s.year
+  year_fits = record { sfits = c.struct-told3.given.0.1 }
 
-  month-fits : SFits w32 s.month
-  month-fits = record { sfits = c.struct-told3.given.1.0.1 }
+  month_fits : SFits w32 s.month
+  month_fits = record { sfits = c.struct-told3.given.1.0.1 }
 
   good : Accepted s.year s.month s.day
   good = date-accepted s.year s.month s.day c.before.before.before.before.before.before.before.requires
 
   month-read : nat_abs (to_z w32 (of_z w32 s.month)) ≡ nat_abs s.month
-  month-read = read_back s.month month-fits
+  month-read = read_back s.month month_fits
 
 cast-result : tie.Need-overflow-cast-result
 cast-result c =
@@ -46,21 +46,21 @@ mul-result c =
 
 cast-result-2 : tie.Need-overflow-cast-result-2
 cast-result-2 c =
-    let u = to-unsigned (s c).month (month-fits c) (good c).m-sign in
+    let u = to-unsigned (s c).month (month_fits c) (good c).m-sign in
     (u.0, record { fits = omega (arith, u.1) })
 
 add-result : tie.Need-overflow-add-result
-add-result c = record { fits = omega (arith, year-small (s c).year (year-fits c), month-read c, (good c).m-high) }
+add-result c = record { fits = omega (arith, year-small (s c).year (year_fits c), month-read c, (good c).m_high) }
 
 returns-2 : tie.Need-returns-2
 returns-2 c =
     let m = month-read c in (
       ap (λ (k : ℕ). 12 * nat_abs (to_z w32 (of_z w32 (s c).year)) + k - 1) m
-          ∙ counted (s c).year (nat_abs (s c).month) (year-fits c) c.before.before.before.before.if1.false,
-      omega (arith, year-small (s c).year (year-fits c), m, (good c).m-high),
+          ∙ counted (s c).year (nat_abs (s c).month) (year_fits c) c.before.before.before.before.if1.false,
+      omega (arith, year-small (s c).year (year_fits c), m, (good c).m_high),
     )
 
 pub month-of-spec : {M : Type 1} → statement M
 month-of-spec =
     tie.close
-    (tie.spec returns cast-result mul-result cast-result-2 add-result (λ c. omega (arith, month-read c, (good c).m-low)) returns-2)
+    (tie.spec returns cast-result mul-result cast-result-2 add-result (λ c. omega (arith, month-read c, (good c).m_low)) returns-2)

@@ -8,26 +8,26 @@ use mathlib.Core.List.{[]}
 use lib.Ieee.{binary64, of_int}
 use Rattle.refusals.specs.Outcome.{answer}
 use Rattle.floats.specs.Whole.{nought}
-use Rattle.calendar.specs.DayCount.{mjdNumber}
+use Rattle.calendar.specs.DayCount.{mjd_number}
 use Rattle.leap_table.specs.rows.Announced.{rows_of}
-use Rattle.leap_table.specs.offsets.Forward.{byTerms}
+use Rattle.leap_table.specs.offsets.Forward.{by_terms}
 use Rattle.leap_table.specs.declared.judging.Triple.{Triple}
 use Rattle.leap_table.specs.declared.walk.Walk.{Walk}
-use Rattle.leap_table.specs.judging.Judging.{validTriple}
-use Rattle.leap_table.specs.walk.Walk.{monthIn, tripleOffset}
-use Rattle.leap_table.specs.judging.Lists.{tripleAt}
+use Rattle.leap_table.specs.judging.Judging.{valid_triple}
+use Rattle.leap_table.specs.walk.Walk.{month_in, triple_offset}
+use Rattle.leap_table.specs.judging.Lists.{triple_at}
 use Rattle.leap_table.specs.walk.Asked.{Stepped}
-use Rattle.leap_table.proofs.walk.Pacing.{Pacing, pacing-starts, stays-there, pacing-goes, offset-is, pacing-ends}
+use Rattle.leap_table.proofs.walk.Pacing.{Pacing, pacing_starts, stays-there, pacing_goes, offset-is, pacing_ends}
 use Rattle.leap_table.proofs.walk.Writes.{Putting}
-use Rattle.leap_table.proofs.walk.Floats.{wholeF, rest_f, float-starts, float-goes, float-ends}
+use Rattle.leap_table.proofs.walk.Floats.{whole_f, rest_f, float-starts, float-goes, float-ends}
 use borrow.Author.Rules.{rules}
 use Rattle.leap_table.proofs.walk.walk_all.Statement.{statement}
 use Rattle.leap_table.proofs.walk.walk_all.Tie as tie
 
 abbrev invariant-loop : tie.invariant-loop
 invariant-loop dates n table out₀ w₀ i₀ out w i =
-    Pacing (rows_of table) (tripleAt dates) n i w
-    × Putting (wholeF (tripleOffset (rows_of table)) (tripleAt dates) n out₀) (rest_f (tripleOffset (rows_of table)) (tripleAt dates) n out₀ i) out₀ out i
+    Pacing (rows_of table) (triple_at dates) n i w
+    × Putting (whole_f (triple_offset (rows_of table)) (triple_at dates) n out₀) (rest_f (triple_offset (rows_of table)) (triple_at dates) n out₀ i) out₀ out i
 
 abbrev decreases-loop : tie.decreases-loop
 decreases-loop dates n table out₀ w₀ i₀ out w i = n - i
@@ -38,17 +38,17 @@ at-start-requires c κs = search rules
 loop-holds : tie.Need-loop-init invariant-loop decreases-loop
 loop-holds c =
     let s = c.before.before.args in (
-      pacing-starts (rows_of s.table) (tripleAt s.dates.now) s.n c.at-start.result c.at-start.ensures,
-      float-starts (tripleOffset (rows_of s.table)) (tripleAt s.dates.now) s.n s.out.now,
+      pacing_starts (rows_of s.table) (triple_at s.dates.now) s.n c.at_start.result c.at_start.ensures,
+      float-starts (triple_offset (rows_of s.table)) (triple_at s.dates.now) s.n s.out.now,
     )
 
 triple-at-requires : tie.Need-triple-at-requires invariant-loop decreases-loop
 triple-at-requires c κs = omega (arith, c.loop-test.true, c.before.before.before.before.requires.2)
 
-good : (c : tie.After-triple-at invariant-loop decreases-loop) → validTriple c.triple-at.result ≡ answer tt
+good : (c : tie.After-triple-at invariant-loop decreases-loop) → valid_triple c.triple-at.result ≡ answer tt
 good c =
     let l = c.before.before in
-    ap validTriple c.triple-at.ensures ∙ l.before.before.before.requires.0.good l.loop.i c.before.loop-test.true
+    ap valid_triple c.triple-at.ensures ∙ l.before.before.before.requires.0.good l.loop.i c.before.loop-test.true
 
 month-of-requires : tie.Need-month-of-requires invariant-loop decreases-loop
 month-of-requires c κs = good c
@@ -60,9 +60,9 @@ walk-to-requires c κs =
     let p = l.loop.invariant.0 in
     (p.stands, m.month-of.ensures.1, omega (arith, p.few, p.stands.most, p.stands.small, p.within, l.before.before.before.requires.2))
 
-month-is : (c : tie.After-month-of invariant-loop decreases-loop) → let l =
-    c.before.before.before in c.month-of.result ≡ monthIn (tripleAt l.before.before.before.args.dates.now l.loop.i)
-month-is c = c.month-of.ensures.0 ∙ ap monthIn c.before.triple-at.ensures
+month_is : (c : tie.After-month-of invariant-loop decreases-loop) → let l =
+    c.before.before.before in c.month-of.result ≡ month_in (triple_at l.before.before.before.args.dates.now l.loop.i)
+month_is c = c.month-of.ensures.0 ∙ ap month_in c.before.triple-at.ensures
 
 stepped : (c : tie.Joined1 invariant-loop decreases-loop) → let l =
     c.before.before.before.before.before in Stepped (rows_of l.before.before.before.args.table) l.loop.w c.before.before.month-of.result
@@ -74,7 +74,7 @@ stepped c =
     ⊎_elim
     (λ x. subst (λ (v : Walk). Stepped rows l.loop.w m.month-of.result v) (sym x.2) x.1.ensures)
     (λ x. subst (λ (v : Walk). Stepped rows l.loop.w m.month-of.result v) (sym x.1)
-    (stays-there rows (tripleAt l.before.before.before.args.dates.now) l.before.before.before.args.n l.loop.w m.month-of.result
+    (stays-there rows (triple_at l.before.before.before.args.dates.now) l.before.before.before.args.n l.loop.w m.month-of.result
     l.loop.invariant.0.stands x.0.left))
     c.if1.branch
 
@@ -112,17 +112,17 @@ loop-again c =
     let b = l.before.before.before in
     let s = b.args in
     let rows = rows_of s.table in
-    let f = tripleAt s.dates.now in
+    let f = triple_at s.dates.now in
     let h = m.before.before.loop-test.true in
     let p = l.loop.invariant.0 in
     let t = m.before.triple-at.result in
     let x =
     c.offset-in.ensures
-    ∙ ap (λ (y : Triple). byTerms j.if1.w.terms (of_int binary64 (mjdNumber y.year y.month y.day)) nought) m.before.triple-at.ensures
-    ∙ offset-is rows f s.n l.loop.i m.month-of.result l.loop.w j.if1.w p h (month-is m) (stepped j) b.requires.1 in (
-      pacing-goes rows f s.n l.loop.i m.month-of.result l.loop.w j.if1.w p h (month-is m) (stepped j) b.requires.0
+    ∙ ap (λ (y : Triple). by_terms j.if1.w.terms (of_int binary64 (mjd_number y.year y.month y.day)) nought) m.before.triple-at.ensures
+    ∙ offset-is rows f s.n l.loop.i m.month-of.result l.loop.w j.if1.w p h (month_is m) (stepped j) b.requires.1 in (
+      pacing_goes rows f s.n l.loop.i m.month-of.result l.loop.w j.if1.w p h (month_is m) (stepped j) b.requires.0
           c.before.next-counted.result c.before.next-counted.ensures,
-      float-goes (tripleOffset rows) f s.n s.out.now l.loop.i l.loop.out c.offset-in.result h l.loop.invariant.1 x
+      float-goes (triple_offset rows) f s.n s.out.now l.loop.i l.loop.out c.offset-in.result h l.loop.invariant.1 x
           (omega (arith, l.loop.invariant.1.long, h, b.requires.3)),
     )
 
@@ -134,9 +134,9 @@ returns c =
     let l = c.before in
     let s = l.before.before.before.args in
     let rows = rows_of s.table in
-    let f = tripleAt s.dates.now in (
-      pacing-ends rows f s.n l.loop.i l.loop.w l.loop.invariant.0 c.loop-test.false,
-      float-ends (tripleOffset rows) f s.n s.out.now l.loop.i l.loop.out l.loop.invariant.0.within c.loop-test.false l.loop.invariant.1,
+    let f = triple_at s.dates.now in (
+      pacing_ends rows f s.n l.loop.i l.loop.w l.loop.invariant.0 c.loop-test.false,
+      float-ends (triple_offset rows) f s.n s.out.now l.loop.i l.loop.out l.loop.invariant.0.within c.loop-test.false l.loop.invariant.1,
     )
 
 pub walk-all-spec : {M : Type 1} → statement M

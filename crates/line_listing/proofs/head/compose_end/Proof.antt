@@ -1,6 +1,6 @@
 -- `head::compose_end` meets its contract: two counts and the line's end. Assumes nothing.
 use native.Mathlib.Omega.{arith}
-use Rattle.line_listing.specs.head.Head.{endText}
+use Rattle.line_listing.specs.head.Head.{end_text}
 use Rattle.line_listing.proofs.head.Pieces.{and_then, piece}
 use borrow.Author.Rules.{rules}
 use Rattle.line_listing.proofs.head.compose_end.Statement.{statement}
@@ -12,7 +12,7 @@ count-2 c κs =
     omega (arith, c.before.before.before.before.place-count.ensures.within, st.requires)
 
 returns : tie.Need-returns
-unfolding endText
+unfolding end_text
 returns c =
     let st = c.before.before.before.before.before.before.before.before.before.before.before.before.before.before.before.before in
     let a = c.before.before.before.before.before.before.before.before.before.before.before.before.place-count.ensures in

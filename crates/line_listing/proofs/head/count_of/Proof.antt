@@ -2,14 +2,14 @@
 use Prim.Native.Nat.{ℕ, ◌+◌, ◌-◌, ◌≤◌}
 use native.Mathlib.Omega.{arith}
 use mathlib.Core.Path.{◌≡◌, refl, sym, ap, ◌∙◌}
-use Rattle.line_listing.specs.head.Counts.{kindsIn}
+use Rattle.line_listing.specs.head.Counts.{kinds_in}
 use Rattle.line_listing.proofs.head.Counting.{counted-more, counted_none}
 use borrow.Author.Rules.{rules}
 use Rattle.line_listing.proofs.head.count_of.Statement.{statement}
 use Rattle.line_listing.proofs.head.count_of.Tie as tie
 
 abbrev invariant-loop : tie.invariant-loop
-invariant-loop jd1s jd2s numbers kind from n count₀ i₀ count i = (i ≤ n) × (count ≡ kindsIn jd1s jd2s numbers kind from i) × (count ≤ i)
+invariant-loop jd1s jd2s numbers kind from n count₀ i₀ count i = (i ≤ n) × (count ≡ kinds_in jd1s jd2s numbers kind from i) × (count ≤ i)
 
 abbrev decreases-loop : tie.decreases-loop
 decreases-loop jd1s jd2s numbers kind from n count₀ i₀ count i = n - i
@@ -46,7 +46,7 @@ returns : tie.Need-returns invariant-loop decreases-loop
 returns c =
     let l = c.before.loop in
     let e : l.i ≡ c.before.before.before.before.before.args.n = omega (arith, l.invariant.0) in
-    (l.invariant.1 ∙ ap (kindsIn _ _ _ _ _) e, omega (arith, l.invariant.2, e))
+    (l.invariant.1 ∙ ap (kinds_in _ _ _ _ _) e, omega (arith, l.invariant.2, e))
 
 pub count-of-spec : {M : Type 1} → statement M
 count-of-spec =

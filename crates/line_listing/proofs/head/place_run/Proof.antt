@@ -2,9 +2,9 @@
 use native.Mathlib.Omega.{arith}
 use mathlib.Core.Path.{ap, ◌∙◌}
 use lib.ListN.{length}
-use Rattle.line_listing.specs.head.Head.{counted, runLine}
-use Rattle.line_listing.proofs.head.Pieces.{and_then, in-as, piece, at_most}
-use Rattle.utc.specs.text.Ascii.{asciiBytes}
+use Rattle.line_listing.specs.head.Head.{counted, run_line}
+use Rattle.line_listing.proofs.head.Pieces.{and_then, in_as, piece, at_most}
+use Rattle.utc.specs.text.Ascii.{ascii_bytes}
 use borrow.Author.Rules.{rules}
 use Rattle.line_listing.proofs.head.place_run.Statement.{statement}
 use Rattle.line_listing.proofs.head.place_run.Tie as tie
@@ -99,13 +99,13 @@ same_length c =
     g.long ∙ f.long ∙ e.long ∙ d.long ∙ b.long ∙ a.long
 
 returns : tie.Need-returns
-unfolding runLine
+unfolding run_line
 returns c =
     let st = c.before.before.before.before.before.before.before.before.before.before.before.before.before.before.before.before.before.before.before.before.before.before.before.before.before.before.before.before.before.before.before.before.before.before.before.before in
     let a = c.before.before.before.before.before.before.before.before.before.before.before.before.before.before.before.before.before.before.before.before.before.before.before.before.before.before.before.before.before.place-count.ensures in
-    let b = in-as (ap (counted (asciiBytes " not finite ")) c.before.before.before.before.before.before.before.before.before.before.before.before.before.before.before.before.before.before.before.before.before.before.before.before.before.count_of.ensures.0) c.before.before.before.before.before.before.before.before.before.before.before.before.before.before.before.before.before.before.before.before.before.before.before.place-count2.ensures in
-    let d = in-as (ap (counted (asciiBytes " refused ")) c.before.before.before.before.before.before.before.before.before.before.before.before.before.before.before.before.before.before.before.count-of2.ensures.0) c.before.before.before.before.before.before.before.before.before.before.before.before.before.before.before.before.before.place-count3.ensures in
-    let e = in-as (ap (counted (asciiBytes " left out ")) c.before.before.before.before.before.before.before.before.before.before.before.before.before.count-of3.ensures.0) c.before.before.before.before.before.before.before.before.before.before.before.place-count4.ensures in
+    let b = in_as (ap (counted (ascii_bytes " not finite ")) c.before.before.before.before.before.before.before.before.before.before.before.before.before.before.before.before.before.before.before.before.before.before.before.before.before.count_of.ensures.0) c.before.before.before.before.before.before.before.before.before.before.before.before.before.before.before.before.before.before.before.before.before.before.before.place-count2.ensures in
+    let d = in_as (ap (counted (ascii_bytes " refused ")) c.before.before.before.before.before.before.before.before.before.before.before.before.before.before.before.before.before.before.before.count-of2.ensures.0) c.before.before.before.before.before.before.before.before.before.before.before.before.before.before.before.before.before.place-count3.ensures in
+    let e = in_as (ap (counted (ascii_bytes " left out ")) c.before.before.before.before.before.before.before.before.before.before.before.before.before.count-of3.ensures.0) c.before.before.before.before.before.before.before.before.before.before.before.place-count4.ensures in
     let f = c.before.before.before.before.before.before.before.place-end.ensures in
     let g = piece c.before.before.place-bytes.ensures (omega (
       arith,

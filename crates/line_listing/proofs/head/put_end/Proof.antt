@@ -4,7 +4,7 @@ use mathlib.Core.Path.{ap}
 use lib.ListN.{length}
 use Rattle.numerals.proofs.digits.Places.{placed_first}
 use Rattle.utc.proofs.text.Laws.{short, put-done}
-use Rattle.line_listing.specs.head.Head.{endText}
+use Rattle.line_listing.specs.head.Head.{end_text}
 use borrow.Author.Rules.{rules}
 use Rattle.line_listing.proofs.head.put_end.Statement.{statement}
 use Rattle.line_listing.proofs.head.put_end.Tie as tie
@@ -12,7 +12,7 @@ use Rattle.line_listing.proofs.head.put_end.Tie as tie
 returns : tie.Need-returns
 returns c =
     let st = c.before.before.before.before.before in
-    short (endText st.args.ordered st.args.textless) st.args.out.now (omega (
+    short (end_text st.args.ordered st.args.textless) st.args.out.now (omega (
       arith,
       c.if1.true,
       c.before.before.compose-end.ensures.placed.ends,
@@ -32,7 +32,7 @@ returns-2 : tie.Need-returns-2
 returns-2 c =
     let st = c.before.before.before.before.before.before.before.before.before.before in
     let p = c.before.before.before.before.before.before.before.compose-end.ensures.placed in
-    put-done _ (endText st.args.ordered st.args.textless) st.args.out.now _ _ (placed_first p) c.before.before.copy.ensures.0 c.before.before.copy.ensures.1
+    put-done _ (end_text st.args.ordered st.args.textless) st.args.out.now _ _ (placed_first p) c.before.before.copy.ensures.0 c.before.before.copy.ensures.1
     (omega (arith, c.before.before.before.before.before.if1.false, p.ends))
 
 pub put-end-spec : {M : Type 1} → statement M

@@ -4,7 +4,7 @@ use mathlib.Core.Path.{ap}
 use lib.ListN.{length}
 use Rattle.numerals.proofs.digits.Places.{placed_first}
 use Rattle.utc.proofs.text.Laws.{short, put-done}
-use Rattle.line_listing.specs.head.Head.{headText}
+use Rattle.line_listing.specs.head.Head.{head_text}
 use Rattle.line_listing.specs.lines.StampLine.{stamps}
 use borrow.Author.Rules.{rules}
 use Rattle.line_listing.proofs.head.put_head.Statement.{statement}
@@ -13,7 +13,7 @@ use Rattle.line_listing.proofs.head.put_head.Tie as tie
 returns : tie.Need-returns
 returns c =
     let st = c.before.before.before.before.before.before.before.before in
-    short (headText st.args.gps st.args.tai st.args.utc
+    short (head_text st.args.gps st.args.tai st.args.utc
     (stamps st.args.jd1s.now st.args.jd2s.now st.args.numbers.now st.args.first st.args.second)) st.args.out.now (omega
     (arith, c.if1.true, c.before.before.compose.ensures.placed.ends))
 
@@ -31,7 +31,7 @@ returns-2 : tie.Need-returns-2
 returns-2 c =
     let st = c.before.before.before.before.before.before.before.before.before.before.before.before.before in
     let p = c.before.before.before.before.before.before.before.compose.ensures.placed in
-    put-done _ (headText st.args.gps st.args.tai st.args.utc
+    put-done _ (head_text st.args.gps st.args.tai st.args.utc
     (stamps st.args.jd1s.now st.args.jd2s.now st.args.numbers.now st.args.first st.args.second)) st.args.out.now _ _
     (placed_first p) c.before.before.copy.ensures.0 c.before.before.copy.ensures.1
     (omega (arith, c.before.before.before.before.before.if1.false, p.ends))

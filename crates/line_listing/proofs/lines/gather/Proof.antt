@@ -4,7 +4,7 @@ use native.Mathlib.Omega.{arith}
 use mathlib.Core.Path.{◌≡◌, refl, ap, ◌∙◌}
 use lib.ListN.{length}
 use Rattle.line_listing.specs.lines.Asked.{Gathered}
-use Rattle.line_listing.proofs.lines.Pages.{gathered-more}
+use Rattle.line_listing.proofs.lines.Pages.{gathered_more}
 use borrow.Author.Rules.{rules}
 use Rattle.line_listing.proofs.lines.gather.Statement.{statement}
 use Rattle.line_listing.proofs.lines.gather.Tie as tie
@@ -34,7 +34,7 @@ loop-again : tie.Need-loop-preserved invariant-loop decreases-loop
 loop-again c =
     let l = c.before.before.before.before.before.before.before.loop in (
       omega arith,
-      gathered-more _ _ _ l.i l.out _ _ _ (omega (arith, l.invariant.2)) l.invariant.1 c.before.before.before.before.before.nth-u32.ensures c.before.before.before.nth-u64.ensures (omega arith)
+      gathered_more _ _ _ l.i l.out _ _ _ (omega (arith, l.invariant.2)) l.invariant.1 c.before.before.before.before.before.nth-u32.ensures c.before.before.before.nth-u64.ensures (omega arith)
           c.before.before.put-nth-u64.ensures,
       omega (arith, l.invariant.2),
     )

@@ -1,14 +1,14 @@
 -- `lines::line_room` meets its contract. Assumes nothing.
-use Rattle.line_listing.specs.lines.Parts.{longestLine}
+use Rattle.line_listing.specs.lines.Parts.{longest_line}
 use Rattle.line_listing.proofs.lines.line_room.Statement.{statement}
 use Rattle.line_listing.proofs.lines.line_room.Tie as tie
 
 returns : tie.Need-returns
-unfolding longestLine
+unfolding longest_line
 returns c = rw c.if1.true
 
 returns-2 : tie.Need-returns-2
-unfolding longestLine
+unfolding longest_line
 returns-2 c = rw c.if1.false
 
 pub line-room-spec : {M : Type 1} → statement M

@@ -2,10 +2,10 @@
 use native.Mathlib.Omega.{arith}
 use mathlib.Core.Path.{ap}
 use lib.ListN.{length}
-use Rattle.numerals.specs.digits.Decimal.{digitsOf}
+use Rattle.numerals.specs.digits.Decimal.{digits_of}
 use Rattle.numerals.proofs.digits.Decimal.{digits-few}
 use Rattle.numerals.proofs.digits.Places.{then, placed-as}
-use Rattle.line_listing.specs.lines.StampLine.{lineBy}
+use Rattle.line_listing.specs.lines.StampLine.{line_by}
 use Rattle.line_listing.proofs.lines.Lengths.{room-low}
 use borrow.Author.Rules.{rules}
 use Rattle.line_listing.proofs.lines.place_line.Statement.{statement}
@@ -45,7 +45,7 @@ place-stamp-requires c κs =
     (pre.0, omega (arith, pre.2, p1.1, ten, p2.ends, p3.ends))
 
 returns : tie.Need-returns
-unfolding lineBy
+unfolding line_by
 returns c =
     let s = stamped c.before.before in
     let d = digits (blank s) in
@@ -58,7 +58,7 @@ returns c =
     let p3 = (blank s).place-bytes.ensures.written (omega (arith, low, pre.2, p1.1, ten, p2.ends)) in
     let p4 = s.place-stamp.ensures in
     let p5 = c.before.before.place-bytes2.ensures.written (omega (arith, pre.2, p1.1, ten, p2.ends, p3.ends, p4.1)) in
-    let p12 = then p1.0 (placed-as (ap digitsOf i.0) p2) (omega (arith, low, pre.2, p1.1, ten, p2.ends)) in
+    let p12 = then p1.0 (placed-as (ap digits_of i.0) p2) (omega (arith, low, pre.2, p1.1, ten, p2.ends)) in
     let p123 = then p12 p3 (omega (arith, low, pre.2, p1.1, ten, p2.ends, p3.ends)) in
     let p1234 = then p123 p4.0.placed (omega (arith, pre.2, p1.1, ten, p2.ends, p3.ends, p4.1)) in (
       record {

@@ -3,14 +3,14 @@ use Prim.Native.Nat.{ℕ, ◌+◌, ◌-◌, ◌*◌, ◌≤◌}
 use native.Mathlib.Omega.{arith}
 use mathlib.Core.Path.{◌≡◌, refl, sym, ap, ◌∙◌}
 use lib.ListN.{length}
-use Rattle.leap_table.specs.rows.Announced.{rowsIn}
+use Rattle.leap_table.specs.rows.Announced.{rows_in}
 use Rattle.numerals.specs.digits.Placed.{Placed}
 use Rattle.numerals.proofs.digits.Places.{nothing}
-use Rattle.julian.specs.stamp_lists.Stamps.{stampOf}
-use Rattle.utc_scales.specs.UtcTai.{taiToUtc}
+use Rattle.julian.specs.stamp_lists.Stamps.{stamp_of}
+use Rattle.utc_scales.specs.UtcTai.{tai_to_utc}
 use Rattle.line_listing.specs.lines.StampLine.{stamps}
-use Rattle.line_listing.specs.lines.Asked.{answerBy}
-use Rattle.line_listing.specs.lines.Parts.{longestLine, listedLines, textlessFrom}
+use Rattle.line_listing.specs.lines.Asked.{answer_by}
+use Rattle.line_listing.specs.lines.Parts.{longest_line, listed_lines, textless_from}
 use Rattle.line_listing.proofs.lines.Whole.{lines_more, textless-more, told-one, room-start, room-now, room_next, lines_end}
 use borrow.Author.Rules.{rules}
 use Rattle.line_listing.proofs.lines.place_lines.Statement.{statement}
@@ -19,17 +19,17 @@ use Rattle.line_listing.proofs.lines.place_lines.Tie as tie
 abbrev invariant-loop : tie.invariant-loop
 invariant-loop sentences jd1s jd2s numbers first second order line count utc1 utc2 marks size months seconds out₀ at₀ textless₀ i₀ out at textless i =
     (i ≤ count)
-    × Placed out₀ 0 (listedLines sentences (rowsIn size months seconds) (stamps jd1s jd2s numbers first second) order line i) at out
-    × (at + (count - i) * longestLine sentences ≤ length out₀)
+    × Placed out₀ 0 (listed_lines sentences (rows_in size months seconds) (stamps jd1s jd2s numbers first second) order line i) at out
+    × (at + (count - i) * longest_line sentences ≤ length out₀)
     × (length out ≡ length out₀)
-    × (textless ≡ textlessFrom (rowsIn size months seconds) (stamps jd1s jd2s numbers first second) order line i)
+    × (textless ≡ textless_from (rows_in size months seconds) (stamps jd1s jd2s numbers first second) order line i)
     × (textless ≤ i)
 
 abbrev decreases-loop : tie.decreases-loop
 decreases-loop sentences jd1s jd2s numbers first second order line count utc1 utc2 marks size months seconds out₀ at₀ textless₀ i₀ out at textless i = count - i
 
 loop-holds : tie.Need-loop-init invariant-loop decreases-loop
-unfolding listedLines textlessFrom
+unfolding listed_lines textless_from
 loop-holds c =
     let st = c.before.before.before.before.before.before.before.before in
     (omega arith, nothing st.args.out.now, room-start st.args.sentences st.args.count _ st.requires.4, refl, refl, omega arith)
@@ -49,8 +49,8 @@ place-line-requires c κs =
     let st = c.before.before.before.before.before.before.before.before.before.before.before.before.before.before.before.before in
     let l = c.before.before.before.before.before.before.before.loop in
     let low = st.requires.0 l.i (omega (arith, st.requires.1)) in
-    let date = c.before.before.before.stamp-of.ensures ∙ ap (stampOf st.args.jd1s.now st.args.jd2s.now) c.before.before.before.before.before.nth-u32.ensures in (
-      ap (answerBy _) c.before.before.stamp-of2.ensures ∙ low ∙ ap (taiToUtc _) (sym date),
+    let date = c.before.before.before.stamp-of.ensures ∙ ap (stamp_of st.args.jd1s.now st.args.jd2s.now) c.before.before.before.before.before.nth-u32.ensures in (
+      ap (answer_by _) c.before.before.stamp-of2.ensures ∙ low ∙ ap (tai_to_utc _) (sym date),
       omega arith,
       omega (arith, room-now st.args.sentences st.args.count l.i l.at _ (omega arith) l.invariant.2, l.invariant.3),
     )
@@ -62,7 +62,7 @@ add-textless c =
       arith,
       c.before.before.before.before.before.before.before.before.before.before.before.loop.invariant.0,
       c.before.before.before.before.before.before.before.before.before.before.before.loop.invariant.5,
-      told-one (rowsIn st.args.size st.args.months.now st.args.seconds.now) c.before.before.before.before.before.before.before.stamp-of.result c.before.before.before.before.before.before.before.before.number-at.result c.before.before.before.place-line.ensures.0,
+      told-one (rows_in st.args.size st.args.months.now st.args.seconds.now) c.before.before.before.before.before.before.before.stamp-of.result c.before.before.before.before.before.before.before.before.number-at.result c.before.before.before.place-line.ensures.0,
       st.pre.1,
     )
 
@@ -94,7 +94,7 @@ loop-again c =
       omega (
         arith,
         l.invariant.5,
-        told-one (rowsIn st.args.size st.args.months.now st.args.seconds.now) c.before.before.before.before.before.before.before.stamp-of.result c.before.before.before.before.before.before.before.before.number-at.result p.0,
+        told-one (rows_in st.args.size st.args.months.now st.args.seconds.now) c.before.before.before.before.before.before.before.stamp-of.result c.before.before.before.before.before.before.before.before.number-at.result p.0,
       ),
     )
 

@@ -2,7 +2,7 @@
 use native.Mathlib.Omega.{arith}
 use mathlib.Core.Path.{refl}
 use Rattle.numerals.proofs.digits.Places.{then}
-use Rattle.line_listing.specs.lines.StampLine.{noText}
+use Rattle.line_listing.specs.lines.StampLine.{no_text}
 use Rattle.line_listing.proofs.lines.Lengths.{room-low}
 use borrow.Author.Rules.{rules}
 use Rattle.line_listing.proofs.lines.place_no_text.Statement.{statement}
@@ -16,7 +16,7 @@ place-number-requires c κs =
     (st.requires.0, omega (arith, p.ends, st.requires.1))
 
 returns : tie.Need-returns
-unfolding noText
+unfolding no_text
 returns c =
     let st = c.before.before.before.before.before.before.before.before.before.before in
     let low = room-low st.args.sentences in

@@ -3,14 +3,14 @@ use native.Mathlib.Omega.{arith}
 use mathlib.Core.Path.{refl}
 use mathlib.Core.List.{List}
 use Rattle.leap_table.specs.rows.Table.{Row}
-use Rattle.leap_table.specs.rows.Announced.{rowsIn}
+use Rattle.leap_table.specs.rows.Announced.{rows_in}
 use Rattle.line_listing.proofs.lines.Line.{told-as, refused-is, refused_none, ordered-is, ordered-none}
 use borrow.Author.Rules.{rules}
 use Rattle.line_listing.proofs.lines.place_stamp.Statement.{statement}
 use Rattle.line_listing.proofs.lines.place_stamp.Tie as tie
 
 abbrev rows : tie.Start → List Row
-rows st = rowsIn st.args.size st.args.months.now st.args.seconds.now
+rows st = rows_in st.args.size st.args.months.now st.args.seconds.now
 
 returns : tie.Need-returns
 returns c =

@@ -3,9 +3,9 @@ use native.Mathlib.Omega.{arith}
 use mathlib.Core.Path.{refl}
 use mathlib.Core.List.{List}
 use Rattle.leap_table.specs.rows.Table.{Row}
-use Rattle.leap_table.specs.rows.Announced.{rowsIn}
+use Rattle.leap_table.specs.rows.Announced.{rows_in}
 use Rattle.numerals.proofs.digits.Places.{lent_length, part-kept, placed-into}
-use Rattle.stamps.proofs.Texts.{brief, date-number, text-refused}
+use Rattle.stamps.proofs.Texts.{brief, date-number, text_refused}
 use Rattle.line_listing.proofs.lines.Lengths.{room-low}
 use Rattle.line_listing.proofs.lines.Texts.{text-there, part_placed}
 use Rattle.line_listing.proofs.lines.Line.{marked, unmarked, told-as, none_told, none-counted, text-told, text-counted, refused-told, refused-counted}
@@ -14,7 +14,7 @@ use Rattle.line_listing.proofs.lines.place_text.Statement.{statement}
 use Rattle.line_listing.proofs.lines.place_text.Tie as tie
 
 abbrev rows : tie.Start → List Row
-rows st = rowsIn st.args.size st.args.months.now st.args.seconds.now
+rows st = rows_in st.args.size st.args.months.now st.args.seconds.now
 
 returns : tie.Need-returns
 returns c =
@@ -34,13 +34,13 @@ add-t23 c =
     let st = c.before.before.before.before.before.before.before.before.before in
     let w = text-there (rows st) st.args.date c.before.before.before.before.before.to-iso8601-expanded-by-arrays.ensures _ _ c.before.n.given.1 in
     let few = brief (rows st) st.args.date w.0 w.1 in
-    omega (arith, w.2, few, room-low st.args.sentences, st.requires.1, st.well-formed)
+    omega (arith, w.2, few, room-low st.args.sentences, st.requires.1, st.well_formed)
 
 place-no-text-requires-2 : tie.Need-place-no-text-requires-2
 place-no-text-requires-2 c κs =
     let st = c.before.before.before.before.before.before.before.before.before.before in
     let room = lent_length st.args.dst.now st.args.at (omega (arith, room-low st.args.sentences, st.requires.1)) in
-    let w = text-refused (rows st) st.args.date refl c.before.before.before.before.before.before.to-iso8601-expanded-by-arrays.ensures _ c.before.before.number.given.1
+    let w = text_refused (rows st) st.args.date refl c.before.before.before.before.before.before.to-iso8601-expanded-by-arrays.ensures _ c.before.before.number.given.1
     (omega (arith, room, room-low st.args.sentences, st.requires.1)) in
     let k = date-number (rows st) st.args.date _ w.0 in
     (omega (arith, k.1), search rules)
@@ -65,7 +65,7 @@ returns-3 c =
     let st = c.before.before.before.before.before.before.before.before.before.before.before.before.before in
     let u = unmarked _ _ _ c.before.before.before.before.before.before.before.before.before.before.before.if1.false st.requires.0 in
     let room = lent_length st.args.dst.now st.args.at (omega (arith, room-low st.args.sentences, st.requires.1)) in
-    let w = text-refused (rows st) st.args.date refl c.before.before.before.before.before.before.before.before.before.to-iso8601-expanded-by-arrays.ensures _ c.before.before.before.before.before.number.given.1
+    let w = text_refused (rows st) st.args.date refl c.before.before.before.before.before.before.before.before.before.to-iso8601-expanded-by-arrays.ensures _ c.before.before.before.before.before.number.given.1
     (omega (arith, room, room-low st.args.sentences, st.requires.1)) in
     let q = c.before.before.place-no-text2.ensures in
     let kept = part-kept st.args.dst.now st.args.at (omega (arith, room-low st.args.sentences, st.requires.1)) _ w.1 in (

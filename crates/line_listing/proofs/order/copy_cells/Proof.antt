@@ -2,7 +2,7 @@
 use Prim.Native.Nat.{◌-◌}
 use native.Mathlib.Omega.{arith}
 use borrow.Author.Rules.{rules}
-use Rattle.line_listing.proofs.order.Loops.{Copying, copying-starts, copying-goes, copying-ends}
+use Rattle.line_listing.proofs.order.Loops.{Copying, copying_starts, copying_goes, copying_ends}
 use Rattle.line_listing.proofs.order.copy_cells.Statement.{statement}
 use Rattle.line_listing.proofs.order.copy_cells.Tie as tie
 
@@ -13,7 +13,7 @@ abbrev decreases-loop : tie.decreases-loop
 decreases-loop from many to₀ j₀ to j = many - j
 
 loop-holds : tie.Need-loop-init invariant-loop decreases-loop
-loop-holds c = let a = c.before.before.args in copying-starts a.from.now a.to.now a.many
+loop-holds c = let a = c.before.before.args in copying_starts a.from.now a.to.now a.many
 
 nth-u32-requires : tie.Need-nth-u32-requires invariant-loop decreases-loop
 nth-u32-requires c κs = search rules
@@ -35,7 +35,7 @@ loop-again c =
     let l = i.before in
     let s = l.before.before.before in
     let a = s.args in
-    copying-goes a.from.now a.to.now l.loop.to w.put-nth-u32.new.0 a.many l.loop.j r.nth-u32.result s.requires l.loop.invariant
+    copying_goes a.from.now a.to.now l.loop.to w.put-nth-u32.new.0 a.many l.loop.j r.nth-u32.result s.requires l.loop.invariant
     i.loop-test.true r.nth-u32.ensures (omega (arith, r.nth-u32.type-inv)) w.put-nth-u32.ensures
 
 same_length : tie.Need-same-length invariant-loop decreases-loop
@@ -45,7 +45,7 @@ returns : tie.Need-returns invariant-loop decreases-loop
 returns c =
     let l = c.before in
     let a = l.before.before.before.args in
-    copying-ends a.from.now a.many a.to.now l.loop.to l.loop.j l.loop.invariant c.loop-test.false
+    copying_ends a.from.now a.many a.to.now l.loop.to l.loop.j l.loop.invariant c.loop-test.false
 
 pub copy-cells-spec : {M : Type 1} → statement M
 copy-cells-spec =

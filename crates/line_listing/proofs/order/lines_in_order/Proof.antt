@@ -3,7 +3,7 @@ use native.Mathlib.Omega.{arith}
 use mathlib.Core.Path.{◌∙◌}
 use lib.ListN.{length}
 use borrow.Author.Rules.{rules}
-use Rattle.line_listing.proofs.order.Calls.{order-refused, sum_fits, copy-fits, lines_fit, order-ends}
+use Rattle.line_listing.proofs.order.Calls.{order-refused, sum_fits, copy_fits, lines_fit, order-ends}
 use Rattle.line_listing.proofs.order.lines_in_order.Statement.{statement}
 use Rattle.line_listing.proofs.order.lines_in_order.Tie as tie
 
@@ -29,7 +29,7 @@ copy-cells-requires c κs =
     let s = q.before.before.before.before.before.before.before.before.before.before.before in
     let a = s.args in
     let o = q.line-up in
-    copy-fits a.jd1s.now a.jd2s.now a.numbers.now a.first a.second a.order.now (length a.work1.now) (length a.work2.now)
+    copy_fits a.jd1s.now a.jd2s.now a.numbers.now a.first a.second a.order.now (length a.work1.now) (length a.work2.now)
     o.new.1.1.0 o.new.1.1.1.1.1.0 o.result o.ensures m.r2.given.0.0 m.r2.given.1 o.auto.1.1.1.1.1.0
     o.new.1.1.1.1.1.1.0 o.auto.1.1.1.1.1.1.0
 

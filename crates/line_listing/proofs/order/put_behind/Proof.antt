@@ -2,7 +2,7 @@
 use Prim.Native.Nat.{◌-◌}
 use native.Mathlib.Omega.{arith}
 use borrow.Author.Rules.{rules}
-use Rattle.line_listing.proofs.order.Loops.{Putting, putting-starts, putting-found, putting-room, putting-goes, putting-ends}
+use Rattle.line_listing.proofs.order.Loops.{Putting, putting_starts, putting_found, putting_room, putting_goes, putting_ends}
 use Rattle.line_listing.proofs.order.put_behind.Statement.{statement}
 use Rattle.line_listing.proofs.order.put_behind.Tie as tie
 
@@ -13,7 +13,7 @@ abbrev decreases-loop : tie.decreases-loop
 decreases-loop numbers from to out₀ k i₀ at₀ out i at = to - i
 
 loop-holds : tie.Need-loop-init invariant-loop decreases-loop
-loop-holds c = let a = c.before.before.args in putting-starts a.numbers.now a.from a.to a.out.now a.k
+loop-holds c = let a = c.before.before.args in putting_starts a.numbers.now a.from a.to a.out.now a.k
 
 shared-slice-read-if1 : tie.Need-shared-slice-read-if1 invariant-loop decreases-loop
 shared-slice-read-if1 c =
@@ -29,7 +29,7 @@ returns c =
     let l = i.before in
     let s = l.before.before.before in
     let a = s.args in
-    putting-found a.numbers.now a.from a.to a.out.now a.k s.requires l.loop.out l.loop.i l.loop.at l.loop.invariant
+    putting_found a.numbers.now a.from a.to a.out.now a.k s.requires l.loop.out l.loop.i l.loop.at l.loop.invariant
     i.loop-test.true c.if1.true
 
 cast-put-nth-u32 : tie.Need-overflow-cast-put-nth-u32 invariant-loop decreases-loop
@@ -51,10 +51,10 @@ add_at c =
     record {
       fits = omega (
         arith,
-        putting-room a.numbers.now a.from a.to a.out.now a.k s.requires l.loop.out l.loop.i l.loop.at l.loop.invariant
+        putting_room a.numbers.now a.from a.to a.out.now a.k s.requires l.loop.out l.loop.i l.loop.at l.loop.invariant
             i.loop-test.true f.if1.false,
         l.loop.invariant.put.len,
-        s.well-formed,
+        s.well_formed,
       );
     }
 
@@ -72,7 +72,7 @@ loop-again c =
     let l = i.before in
     let s = l.before.before.before in
     let a = s.args in
-    putting-goes a.numbers.now a.from a.to a.out.now a.k s.requires l.loop.out l.loop.i l.loop.at l.loop.invariant
+    putting_goes a.numbers.now a.from a.to a.out.now a.k s.requires l.loop.out l.loop.i l.loop.at l.loop.invariant
     i.loop-test.true f.if1.false w.put-nth-u32.new.0 w.put-nth-u32.ensures
 
 same-length-2 : tie.Need-same-length-2 invariant-loop decreases-loop
@@ -83,7 +83,7 @@ returns-2 c =
     let l = c.before in
     let s = l.before.before.before in
     let a = s.args in
-    putting-ends a.numbers.now a.from a.to a.out.now a.k s.requires l.loop.out l.loop.i l.loop.at l.loop.invariant
+    putting_ends a.numbers.now a.from a.to a.out.now a.k s.requires l.loop.out l.loop.i l.loop.at l.loop.invariant
     c.loop-test.false
 
 pub put-behind-spec : {M : Type 1} → statement M

@@ -3,7 +3,7 @@ use Prim.Native.Nat.{◌-◌}
 use native.Mathlib.Omega.{arith}
 use borrow.Author.Rules.{rules}
 use Rattle.line_up.specs.keep.Cells.{cells}
-use Rattle.line_up.proofs.keep.Judging.{Judging, judging-starts, judging-next, judging-ends}
+use Rattle.line_up.proofs.keep.Judging.{Judging, judging_starts, judging_next, judging_ends}
 use Rattle.line_up.proofs.keep.judge.Statement.{statement}
 use Rattle.line_up.proofs.keep.judge.Tie as tie
 
@@ -17,7 +17,7 @@ loop-holds : tie.Need-loop-init invariant-loop decreases-loop
 loop-holds c =
     let s = c.before.before in
     let a = s.args in
-    judging-starts a.numbers.now (cells a.ranks.now) a.from a.to a.many s.requires
+    judging_starts a.numbers.now (cells a.ranks.now) a.from a.to a.many s.requires
 
 sub-i : tie.Need-overflow-sub-i invariant-loop decreases-loop
 sub-i c = search rules
@@ -28,7 +28,7 @@ cell-at-requires c κs =
     let i = c in
     let s = l.before.before.before in
     let a = s.args in
-    omega (arith, i.loop-test.true, l.loop.invariant.high, s.requires.rankRoom)
+    omega (arith, i.loop-test.true, l.loop.invariant.high, s.requires.rank_room)
 
 slice-read-judged : tie.Need-slice-read-judged invariant-loop decreases-loop
 slice-read-judged c =
@@ -66,7 +66,7 @@ loop-again c =
     let i = c.before.before.before.before in
     let s = l.before.before.before in
     let a = s.args in
-    judging-next a.numbers.now (cells a.ranks.now) a.from a.to a.many s.requires l.loop.numbers l.loop.wanted l.loop.i
+    judging_next a.numbers.now (cells a.ranks.now) a.from a.to a.many s.requires l.loop.numbers l.loop.wanted l.loop.i
     l.loop.invariant i.loop-test.true c.before.before.before.Cell-at.result c.before.judged.result c.wanted-before.result
     c.before.before.before.Cell-at.ensures c.before.judged.ensures c.wanted-before.ensures
 
@@ -78,7 +78,7 @@ returns c =
     let l = c.before in
     let s = l.before.before.before in
     let a = s.args in
-    judging-ends a.numbers.now (cells a.ranks.now) a.from a.to a.many s.requires l.loop.numbers l.loop.wanted l.loop.i
+    judging_ends a.numbers.now (cells a.ranks.now) a.from a.to a.many s.requires l.loop.numbers l.loop.wanted l.loop.i
     l.loop.invariant c.loop-test.false
 
 pub judge-spec : {M : Type 1} → statement M

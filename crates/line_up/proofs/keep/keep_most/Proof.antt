@@ -3,7 +3,7 @@ use Prim.Native.Nat.{◌-◌}
 use native.Mathlib.Omega.{arith}
 use borrow.Author.Rules.{rules}
 use Rattle.line_up.proofs.keep.Calls.{kept-is}
-use Rattle.line_up.specs.keep.Stamps.{soonerAt}
+use Rattle.line_up.specs.keep.Stamps.{sooner_at}
 use Rattle.line_up.specs.keep.Cells.{cells}
 use Rattle.line_up.proofs.keep.Cells.{cells-room}
 use Rattle.line_up.proofs.keep.keep_most.Statement.{statement}
@@ -18,8 +18,8 @@ lay-requires c κs =
         low = s.requires.low;
         high = s.requires.high;
         small = s.requires.small;
-        tailRoom = cells-room a.tails.now (a.to - a.from) (omega (arith, s.requires.tailRoom));
-        rankRoom = cells-room a.ranks.now a.to (omega (arith, s.requires.rankRoom));
+        tail_room = cells-room a.tails.now (a.to - a.from) (omega (arith, s.requires.tail_room));
+        rank_room = cells-room a.ranks.now a.to (omega (arith, s.requires.rank_room));
       };
       ordered = s.requires.ordered;
     }
@@ -33,8 +33,8 @@ judge-requires c κs =
     record {
       low = s.requires.low;
       high = s.requires.high;
-      rankRoom = cells-room at-lay.lay.new.1.1.1.1.1.1.0 a.to
-          (omega (arith, at-lay.lay.auto.1.1.1.1.1.1.0, s.requires.rankRoom));
+      rank_room = cells-room at-lay.lay.new.1.1.1.1.1.1.0 a.to
+          (omega (arith, at-lay.lay.auto.1.1.1.1.1.1.0, s.requires.rank_room));
     }
 
 returns : tie.Need-returns
@@ -42,7 +42,7 @@ returns c =
     let at-lay = c.before.before.before.before.before.before.before.before.before in
     let start = at-lay.before.before.before.before.before.before.before.before.before in
     let a = start.args in
-    kept-is (soonerAt a.jd1s.now a.jd2s.now) a.numbers.now
+    kept-is (sooner_at a.jd1s.now a.jd2s.now) a.numbers.now
     (cells at-lay.lay.new.1.1.1.1.1.1.0)
     c.before.before.judge.new.0 a.from a.to at-lay.lay.result
     at-lay.lay.ensures c.before.before.judge.ensures

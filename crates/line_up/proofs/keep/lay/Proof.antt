@@ -5,8 +5,8 @@ use mathlib.Core.Path.{◌≡◌, refl, ◌∙◌}
 use mathlib.Core.List.{List}
 use lib.ListN.{length}
 use borrow.Author.Rules.{rules}
-use Rattle.line_up.proofs.keep.Laying.{Laying, laying-starts, laying-searchable, laying-rank, laying-goes, laying-ends, many-room}
-use Rattle.line_up.specs.keep.Stamps.{soonerAt}
+use Rattle.line_up.proofs.keep.Laying.{Laying, laying_starts, laying_searchable, laying_rank, laying_goes, laying_ends, many-room}
+use Rattle.line_up.specs.keep.Stamps.{sooner_at}
 use Rattle.line_up.specs.keep.Cells.{cells}
 use Rattle.line_up.proofs.keep.Dates.{FiniteAt, finite-at, date-order}
 use Rattle.line_up.proofs.keep.lay.Statement.{statement}
@@ -14,9 +14,9 @@ use Rattle.line_up.proofs.keep.lay.Tie as tie
 
 -- the work areas keep their lengths, and their cells are what the stamps before place i ask
 record Filled (jd1s jd2s numbers : List ℕ) (from to : ℕ) (tails₀ ranks₀ tails ranks : List ℕ) (many i : ℕ) : Type 0 where
-  tailsLong : length tails ≡ length tails₀
-  ranksLong : length ranks ≡ length ranks₀
-  laying : Laying (FiniteAt jd1s jd2s) (soonerAt jd1s jd2s) numbers from to (cells tails₀) (cells ranks₀) (cells tails) (cells ranks) many i
+  tails_long : length tails ≡ length tails₀
+  ranks_long : length ranks ≡ length ranks₀
+  laying : Laying (FiniteAt jd1s jd2s) (sooner_at jd1s jd2s) numbers from to (cells tails₀) (cells ranks₀) (cells tails) (cells ranks) many i
 
 abbrev invariant-loop : tie.invariant-loop
 invariant-loop jd1s jd2s numbers from to tails₀ ranks₀ many₀ i₀ tails ranks many i = Filled jd1s jd2s numbers from to tails₀ ranks₀ tails ranks many i
@@ -29,10 +29,10 @@ loop-holds c =
     let s = c.before.before.before.before.before in
     let a = s.args in
     record {
-      tailsLong = refl;
-      ranksLong = refl;
+      tails_long = refl;
+      ranks_long = refl;
       laying =
-          laying-starts (FiniteAt a.jd1s.now a.jd2s.now) (soonerAt a.jd1s.now a.jd2s.now) (date-order a.jd1s.now a.jd2s.now)
+          laying_starts (FiniteAt a.jd1s.now a.jd2s.now) (sooner_at a.jd1s.now a.jd2s.now) (date-order a.jd1s.now a.jd2s.now)
           a.numbers.now a.from a.to (cells a.tails.now) (cells a.ranks.now) s.requires.layable
           (λ p x y z. finite-at a.jd1s.now a.jd2s.now p (s.requires.ordered p x y z));
     }
@@ -52,7 +52,7 @@ rank-requires c κs =
     let s = l.before.before.before.before.before.before in
     let a = s.args in (
       omega (arith, i.loop-test.true, l.loop.invariant.laying.few, s.requires.layable.small),
-      λ e. laying-searchable (FiniteAt a.jd1s.now a.jd2s.now) (soonerAt a.jd1s.now a.jd2s.now) (date-order a.jd1s.now a.jd2s.now)
+      λ e. laying_searchable (FiniteAt a.jd1s.now a.jd2s.now) (sooner_at a.jd1s.now a.jd2s.now) (date-order a.jd1s.now a.jd2s.now)
           a.numbers.now a.from a.to (cells a.tails.now) (cells a.ranks.now) s.requires.layable
           (λ p x y z. finite-at a.jd1s.now a.jd2s.now p (s.requires.ordered p x y z)) (cells l.loop.tails) (cells l.loop.ranks) l.loop.many
           l.loop.i l.loop.invariant.laying i.loop-test.true e,
@@ -64,11 +64,11 @@ put-tail-requires c κs =
     let i = c.before.before.before.before in
     let s = l.before.before.before.before.before.before in
     let a = s.args in
-    let r = laying-rank (FiniteAt a.jd1s.now a.jd2s.now) (soonerAt a.jd1s.now a.jd2s.now) (date-order a.jd1s.now a.jd2s.now)
+    let r = laying_rank (FiniteAt a.jd1s.now a.jd2s.now) (sooner_at a.jd1s.now a.jd2s.now) (date-order a.jd1s.now a.jd2s.now)
     a.numbers.now a.from a.to (cells a.tails.now) (cells a.ranks.now) s.requires.layable
     (λ p x y z. finite-at a.jd1s.now a.jd2s.now p (s.requires.ordered p x y z)) (cells l.loop.tails) (cells l.loop.ranks) l.loop.many
     l.loop.i l.loop.invariant.laying i.loop-test.true in
-    let m = many-room (FiniteAt a.jd1s.now a.jd2s.now) (soonerAt a.jd1s.now a.jd2s.now) (date-order a.jd1s.now a.jd2s.now)
+    let m = many-room (FiniteAt a.jd1s.now a.jd2s.now) (sooner_at a.jd1s.now a.jd2s.now) (date-order a.jd1s.now a.jd2s.now)
     a.numbers.now a.from a.to (cells a.tails.now) (cells a.ranks.now) s.requires.layable
     (λ p x y z. finite-at a.jd1s.now a.jd2s.now p (s.requires.ordered p x y z)) (cells l.loop.tails) (cells l.loop.ranks) l.loop.many
     l.loop.i l.loop.invariant.laying i.loop-test.true in
@@ -80,11 +80,11 @@ put-cell-requires c κs =
     let i = c.before.before.before.before.before.before.before.before in
     let s = l.before.before.before.before.before.before in
     let a = s.args in
-    let r = laying-rank (FiniteAt a.jd1s.now a.jd2s.now) (soonerAt a.jd1s.now a.jd2s.now) (date-order a.jd1s.now a.jd2s.now)
+    let r = laying_rank (FiniteAt a.jd1s.now a.jd2s.now) (sooner_at a.jd1s.now a.jd2s.now) (date-order a.jd1s.now a.jd2s.now)
     a.numbers.now a.from a.to (cells a.tails.now) (cells a.ranks.now) s.requires.layable
     (λ p x y z. finite-at a.jd1s.now a.jd2s.now p (s.requires.ordered p x y z)) (cells l.loop.tails) (cells l.loop.ranks) l.loop.many
     l.loop.i l.loop.invariant.laying i.loop-test.true in (
-      omega (arith, i.loop-test.true, s.requires.layable.rankRoom, l.loop.invariant.laying.ranksLength),
+      omega (arith, i.loop-test.true, s.requires.layable.rank_room, l.loop.invariant.laying.ranks_length),
       omega (arith, r, c.before.before.before.before.before.rank.ensures, i.loop-test.true, l.loop.invariant.laying.few, s.requires.layable.small),
     )
 
@@ -125,9 +125,9 @@ loop-again c =
     let s = l.before.before.before.before.before.before in
     let a = s.args in
     record {
-      tailsLong = at-put-tail.put-tail.auto.0 ∙ l.loop.invariant.tailsLong;
-      ranksLong = at-put-cell.put-cell.auto.0 ∙ l.loop.invariant.ranksLong;
-      laying = laying-goes (FiniteAt a.jd1s.now a.jd2s.now) (soonerAt a.jd1s.now a.jd2s.now) (date-order a.jd1s.now a.jd2s.now)
+      tails_long = at-put-tail.put-tail.auto.0 ∙ l.loop.invariant.tails_long;
+      ranks_long = at-put-cell.put-cell.auto.0 ∙ l.loop.invariant.ranks_long;
+      laying = laying_goes (FiniteAt a.jd1s.now a.jd2s.now) (sooner_at a.jd1s.now a.jd2s.now) (date-order a.jd1s.now a.jd2s.now)
           a.numbers.now a.from a.to (cells a.tails.now) (cells a.ranks.now) s.requires.layable
           (λ p x y z. finite-at a.jd1s.now a.jd2s.now p (s.requires.ordered p x y z)) (cells l.loop.tails) (cells l.loop.ranks) l.loop.many
           l.loop.i l.loop.invariant.laying i.loop-test.true
@@ -139,17 +139,17 @@ loop-again c =
     }
 
 same_length : tie.Need-same-length invariant-loop decreases-loop
-same_length c = c.before.loop.invariant.tailsLong
+same_length c = c.before.loop.invariant.tails_long
 
 same-length-2 : tie.Need-same-length-2 invariant-loop decreases-loop
-same-length-2 c = c.before.loop.invariant.ranksLong
+same-length-2 c = c.before.loop.invariant.ranks_long
 
 returns : tie.Need-returns invariant-loop decreases-loop
 returns c =
     let l = c.before in
     let s = l.before.before.before.before.before.before in
     let a = s.args in
-    laying-ends (FiniteAt a.jd1s.now a.jd2s.now) (soonerAt a.jd1s.now a.jd2s.now) (date-order a.jd1s.now a.jd2s.now)
+    laying_ends (FiniteAt a.jd1s.now a.jd2s.now) (sooner_at a.jd1s.now a.jd2s.now) (date-order a.jd1s.now a.jd2s.now)
     a.numbers.now a.from a.to (cells a.tails.now) (cells a.ranks.now) s.requires.layable
     (λ p x y z. finite-at a.jd1s.now a.jd2s.now p (s.requires.ordered p x y z)) (cells l.loop.tails) (cells l.loop.ranks) l.loop.many
     l.loop.i l.loop.invariant.laying c.loop-test.false

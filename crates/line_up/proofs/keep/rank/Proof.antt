@@ -2,7 +2,7 @@
 use native.Mathlib.Omega.{arith}
 use native.Mathlib.Numerals.{add-one}
 use borrow.Author.Tests.{eq-eqb, ne_eqb}
-use Rattle.line_up.specs.keep.Stamps.{soonerAt}
+use Rattle.line_up.specs.keep.Stamps.{sooner_at}
 use Rattle.line_up.specs.keep.Cells.{cells}
 use Rattle.line_up.proofs.keep.Searching.{before-many}
 use Rattle.line_up.proofs.keep.rank.Statement.{statement}
@@ -12,7 +12,7 @@ add-result : tie.Need-overflow-add-result
 add-result c =
     let s = c.before.before.before.before.before in
     let a = s.args in
-    let q = before-many (soonerAt a.jd1s.now a.jd2s.now) (cells a.tails.now) a.many a.i (s.requires.1 c.before.if1.true) in
+    let q = before-many (sooner_at a.jd1s.now a.jd2s.now) (cells a.tails.now) a.many a.i (s.requires.1 c.before.if1.true) in
     record { fits = omega (arith, q, s.requires.0, c.piles-before.ensures) }
 
 returns : tie.Need-returns

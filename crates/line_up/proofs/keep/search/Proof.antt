@@ -2,14 +2,14 @@
 use Prim.Native.Nat.{◌+◌, ◌-◌, ◌/◌}
 use native.Mathlib.Omega.{arith}
 use borrow.Author.Rules.{rules}
-use Rattle.line_up.specs.keep.Stamps.{soonerAt}
+use Rattle.line_up.specs.keep.Stamps.{sooner_at}
 use Rattle.line_up.specs.keep.Cells.{cells}
-use Rattle.line_up.proofs.keep.Searching.{Searching, search-starts, search-goes, search-ends, halves-fall}
+use Rattle.line_up.proofs.keep.Searching.{Searching, search_starts, search_goes, search_ends, halves-fall}
 use Rattle.line_up.proofs.keep.search.Statement.{statement}
 use Rattle.line_up.proofs.keep.search.Tie as tie
 
 abbrev invariant-loop : tie.invariant-loop
-invariant-loop jd1s jd2s tails many i low₀ high₀ low high = Searching (soonerAt jd1s jd2s) (cells tails) many i low high
+invariant-loop jd1s jd2s tails many i low₀ high₀ low high = Searching (sooner_at jd1s jd2s) (cells tails) many i low high
 
 abbrev decreases-loop : tie.decreases-loop
 decreases-loop jd1s jd2s tails many i low₀ high₀ low high = high - low
@@ -18,7 +18,7 @@ loop-holds : tie.Need-loop-init invariant-loop decreases-loop
 loop-holds c =
     let s = c.before.before.before in
     let a = s.args in
-    search-starts (soonerAt a.jd1s.now a.jd2s.now) (cells a.tails.now) a.many a.i s.requires
+    search_starts (sooner_at a.jd1s.now a.jd2s.now) (cells a.tails.now) a.many a.i s.requires
 
 sub-mid : tie.Need-overflow-sub-mid invariant-loop decreases-loop
 sub-mid c = search rules
@@ -50,7 +50,7 @@ loop-less c =
     let s = l.before.before.before.before in
     let a = s.args in
     let m = l.loop.low + (l.loop.high - l.loop.low) / 2 in
-    halves-fall (soonerAt a.jd1s.now a.jd2s.now) (cells a.tails.now) a.many a.i s.requires c.before.before.sooner-at.result
+    halves-fall (sooner_at a.jd1s.now a.jd2s.now) (cells a.tails.now) a.many a.i s.requires c.before.before.sooner-at.result
     l.loop.low m l.loop.high c.before.low-after.result c.high_after.result
     (omega arith) (omega (arith, i.loop-test.true)) c.before.low-after.ensures c.high_after.ensures
 
@@ -61,7 +61,7 @@ loop-again c =
     let s = l.before.before.before.before in
     let a = s.args in
     let m = l.loop.low + (l.loop.high - l.loop.low) / 2 in
-    search-goes (soonerAt a.jd1s.now a.jd2s.now) (cells a.tails.now) a.many a.i s.requires c.before.before.sooner-at.result
+    search_goes (sooner_at a.jd1s.now a.jd2s.now) (cells a.tails.now) a.many a.i s.requires c.before.before.sooner-at.result
     l.loop.low m l.loop.high c.before.before.before.Cell-at.result c.before.low-after.result c.high_after.result
     c.before.before.before.Cell-at.ensures c.before.before.sooner-at.ensures (omega arith) (omega (arith, i.loop-test.true)) l.loop.invariant
     c.before.low-after.ensures c.high_after.ensures
@@ -71,7 +71,7 @@ returns c =
     let l = c.before in
     let s = l.before.before.before.before in
     let a = s.args in
-    search-ends (soonerAt a.jd1s.now a.jd2s.now) (cells a.tails.now) a.many a.i s.requires l.loop.low l.loop.high
+    search_ends (sooner_at a.jd1s.now a.jd2s.now) (cells a.tails.now) a.many a.i s.requires l.loop.low l.loop.high
     l.loop.invariant c.loop-test.false
 
 pub search-spec : {M : Type 1} → statement M

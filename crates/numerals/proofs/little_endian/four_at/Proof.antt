@@ -1,12 +1,12 @@
 -- `numerals::little_endian::four_at` meets its contract. Assumes nothing.
 use native.Mathlib.Omega.{arith}
-use Rattle.numerals.specs.little_endian.LittleEndian.{fourAt}
+use Rattle.numerals.specs.little_endian.LittleEndian.{four_at}
 use borrow.Author.Rules.{rules}
 use Rattle.numerals.proofs.little_endian.four_at.Statement.{statement}
 use Rattle.numerals.proofs.little_endian.four_at.Tie as tie
 
 returns : tie.Need-returns
-unfolding fourAt
+unfolding four_at
 returns c = omega arith
 
 pub four-at-spec : {M : Type 1} → statement M

@@ -1,6 +1,6 @@
 -- `numerals::little_endian::i64_of_pattern` meets its contract. Assumes nothing.
 use native.Mathlib.Omega.{arith}
-use Rattle.numerals.proofs.little_endian.Signed.{of_low, minus-fits, of-high}
+use Rattle.numerals.proofs.little_endian.Signed.{of_low, minus-fits, of_high}
 use borrow.Author.Rules.{rules}
 use Rattle.numerals.proofs.little_endian.i64_of_pattern.Statement.{statement}
 use Rattle.numerals.proofs.little_endian.i64_of_pattern.Tie as tie
@@ -8,4 +8,4 @@ use Rattle.numerals.proofs.little_endian.i64_of_pattern.Tie as tie
 pub i64-of-pattern-spec : {M : Type 1} → statement M
 i64-of-pattern-spec =
     tie.close (tie.spec (λ c. search rules) (λ c. of_low _ c.if1.true) (λ c. search rules) (λ c. search rules)
-    (λ c. minus-fits _ c.if1.false (omega arith)) (λ c. of-high _ c.if1.false (omega arith)))
+    (λ c. minus-fits _ c.if1.false (omega arith)) (λ c. of_high _ c.if1.false (omega arith)))

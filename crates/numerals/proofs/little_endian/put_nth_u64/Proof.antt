@@ -1,13 +1,13 @@
 -- `numerals::little_endian::put_nth_u64` meets its contract. Assumes nothing.
 use Prim.Native.Nat.{◌+◌, ◌-◌, ◌*◌}
 use native.Mathlib.Omega.{arith}
-use Rattle.numerals.proofs.little_endian.Puts.{no-place-64, placed-64, put_in_place}
+use Rattle.numerals.proofs.little_endian.Puts.{no_place_64, placed-64, put_in_place}
 use borrow.Author.Rules.{rules}
 use Rattle.numerals.proofs.little_endian.put_nth_u64.Statement.{statement}
 use Rattle.numerals.proofs.little_endian.put_nth_u64.Tie as tie
 
 returns : tie.Need-returns
-returns c = no-place-64 c.before.before.args.out.now c.before.before.args.i c.before.before.args.n (omega arith)
+returns c = no_place_64 c.before.before.args.out.now c.before.before.args.i c.before.before.args.n (omega arith)
 
 returns-2 : tie.Need-returns-2
 returns-2 c =

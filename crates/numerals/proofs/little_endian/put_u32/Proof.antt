@@ -1,13 +1,13 @@
 -- `numerals::little_endian::put_u32` meets its contract. Assumes nothing.
 use native.Mathlib.Omega.{arith}
 use lib.ListN.{length-set}
-use Rattle.numerals.proofs.little_endian.Puts.{too-few-4, put-4-at-start}
+use Rattle.numerals.proofs.little_endian.Puts.{too_few_4, put-4-at-start}
 use borrow.Author.Rules.{rules}
 use Rattle.numerals.proofs.little_endian.put_u32.Statement.{statement}
 use Rattle.numerals.proofs.little_endian.put_u32.Tie as tie
 
 returns : tie.Need-returns
-returns c = too-few-4 c.before.args.out.now c.before.args.n c.if1.true
+returns c = too_few_4 c.before.args.out.now c.before.args.n c.if1.true
 
 returns-2 : tie.Need-returns-2
 returns-2 c = put-4-at-start c.before.args.out.now c.before.args.n c.if1.false

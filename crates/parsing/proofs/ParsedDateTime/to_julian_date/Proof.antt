@@ -1,6 +1,6 @@
 -- `to_julian_date` meets its contract. Assumes nothing.
-use Rattle.parsing.specs.Parsed.{toJulianDate}
-use Rattle.julian.specs.Calendar.{fromCalendar}
+use Rattle.parsing.specs.Parsed.{to_julian_date}
+use Rattle.julian.specs.Calendar.{from_calendar}
 use mir.Facts.{to_z-of_z}
 use mir.Val.{SFits}
 use mir.Syntax.{w32}
@@ -10,11 +10,11 @@ use Rattle.parsing.proofs.ParsedDateTime.to_julian_date.Statement.{statement}
 use Rattle.parsing.proofs.ParsedDateTime.to_julian_date.Tie as tie
 
 returns : tie.Need-returns
-unfolding toJulianDate
+unfolding to_julian_date
 returns c =
     let p = c.before.before.args.self in
     let fit : SFits w32 p.year = record { sfits = c.before.struct_told.given.0.1 } in
-    c.from-calendar.ensures ∙ (λ i. fromCalendar (to_z-of_z {w = w32} {z = p.year} fit i) p.month p.day p.hour p.minute p.second)
+    c.from-calendar.ensures ∙ (λ i. from_calendar (to_z-of_z {w = w32} {z = p.year} fit i) p.month p.day p.hour p.minute p.second)
 
 pub to-julian-date-spec : {M : Type 1} → statement M
 to-julian-date-spec = tie.close (tie.spec (λ c κs. search rules) returns)

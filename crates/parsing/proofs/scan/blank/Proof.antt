@@ -1,21 +1,21 @@
 -- `parsing::scan::blank` meets its contract. Assumes nothing.
 use borrow.Author.Tests.{eq-eqb, ne_eqb, le-leb, lt-leb}
-use mathlib.Core.Bool.{or-true, or-false}
-use Rattle.parsing.specs.scan.Form.{isBlank}
+use mathlib.Core.Bool.{or_true, or_false}
+use Rattle.parsing.specs.scan.Form.{is_blank}
 use Rattle.parsing.proofs.scan.blank.Statement.{statement}
 use Rattle.parsing.proofs.scan.blank.Tie as tie
 
 returns : tie.Need-returns
-unfolding isBlank
-returns c = simp (eq-eqb _ _ c.if1.true, or-true)
+unfolding is_blank
+returns c = simp (eq-eqb _ _ c.if1.true, or_true)
 
 returns-2 : tie.Need-returns-2
-unfolding isBlank
+unfolding is_blank
 returns-2 c = simp (ne_eqb _ _ c.before.if1.false, lt-leb _ _ c.if2.true)
 
 returns-3 : tie.Need-returns-3
-unfolding isBlank
-returns-3 c = simp (ne_eqb _ _ c.before.if1.false, le-leb _ _ c.if2.false, or-false)
+unfolding is_blank
+returns-3 c = simp (ne_eqb _ _ c.before.if1.false, le-leb _ _ c.if2.false, or_false)
 
 pub blank-spec : {M : Type 1} → statement M
 blank-spec = tie.close (tie.spec returns returns-2 returns-3)

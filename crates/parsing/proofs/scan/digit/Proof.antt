@@ -1,15 +1,15 @@
 -- `parsing::scan::digit` meets its contract. Assumes nothing.
 use borrow.Author.Tests.{le-leb, lt-leb}
-use Rattle.numerals.specs.digits.Decimal.{isDigit}
+use Rattle.numerals.specs.digits.Decimal.{is_digit}
 use Rattle.parsing.proofs.scan.digit.Statement.{statement}
 use Rattle.parsing.proofs.scan.digit.Tie as tie
 
 returns : tie.Need-returns
-unfolding isDigit
+unfolding is_digit
 returns c = simp (lt-leb _ _ c.if1.true)
 
 returns-2 : tie.Need-returns-2
-unfolding isDigit
+unfolding is_digit
 returns-2 c = simp (le-leb _ _ c.if1.false)
 
 pub digit-spec : {M : Type 1} → statement M

@@ -1,8 +1,8 @@
 -- `parsing::scan::digits_run` meets its contract. Assumes nothing.
-use Rattle.parsing.proofs.scan.Runs.{Small, small-start, small-more, RunsOn, run-start, run_on, run-stops, run_out}
+use Rattle.parsing.proofs.scan.Runs.{Small, small_start, small-more, RunsOn, run-start, run_on, run-stops, run_out}
 use native.Mathlib.Nat.{sub_self}
-use Rattle.parsing.proofs.scan.Runs.{Small, small-start, small-more, run-start, run_on, run-stops, run_out}
-use borrow.Author.Tests.{not-true, not-false}
+use Rattle.parsing.proofs.scan.Runs.{Small, small_start, small-more, run-start, run_on, run-stops, run_out}
+use borrow.Author.Tests.{not_true, not_false}
 use lib.ListN.{length}
 use native.Mathlib.Omega.{arith}
 use borrow.Author.Rules.{rules}
@@ -20,7 +20,7 @@ decreases-loop text at second whole₀ i₀ whole i = length text - i
 loop-holds : tie.Need-loop-init invariant-loop decreases-loop
 loop-holds c =
     let s = c.before in
-    (omega arith, s.requires.0, rw (sub_self s.args.at) (small-start _ s.requires.1), run-start s.args.second s.args.at s.args.text.now)
+    (omega arith, s.requires.0, rw (sub_self s.args.at) (small_start _ s.requires.1), run-start s.args.second s.args.at s.args.text.now)
 
 shared-slice-read-digit : tie.Need-shared-slice-read-digit invariant-loop decreases-loop
 shared-slice-read-digit c = search rules
@@ -37,7 +37,7 @@ returns c =
     let h : l.i < length c.before.before.before.before.before.before.args.text.now = omega arith in
     run-stops c.before.before.before.before.before.before.args.second c.before.before.before.before.before.before.args.at
     c.before.before.before.before.before.before.args.text.now l.whole l.i l.invariant.0 h
-    (sym c.before.digit.ensures ∙ not-true _ c.if1.true) l.invariant.3
+    (sym c.before.digit.ensures ∙ not_true _ c.if1.true) l.invariant.3
 
 shared-slice-read-joined : tie.Need-shared-slice-read-joined invariant-loop decreases-loop
 shared-slice-read-joined c = search rules
@@ -65,7 +65,7 @@ loop-again c =
       run_on c.before.before.before.before.before.before.before.before.args.second
           c.before.before.before.before.before.before.before.before.args.at
           c.before.before.before.before.before.before.before.before.args.text.now l.whole l.i l.invariant.0 c.joined.result h
-          (sym c.before.before.before.digit.ensures ∙ not-false _ c.before.before.if1.false) c.joined.ensures l.invariant.3,
+          (sym c.before.before.before.digit.ensures ∙ not_false _ c.before.before.if1.false) c.joined.ensures l.invariant.3,
     )
 
 sub-t13 : tie.Need-overflow-sub-t13 invariant-loop decreases-loop

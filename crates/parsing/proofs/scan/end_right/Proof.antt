@@ -1,6 +1,6 @@
 -- `parsing::scan::end_right` meets its contract. Assumes nothing.
 use Rattle.parsing.proofs.scan.Bytes.{none_left}
-use Rattle.parsing.specs.scan.Form.{afterBlanks, endRight}
+use Rattle.parsing.specs.scan.Form.{after_blanks, end_right}
 use lib.Dec.{eqb}
 use lib.ListN.{length}
 use Prim.Native.Nat.{ℕ}
@@ -11,9 +11,9 @@ use Rattle.parsing.proofs.scan.end_right.Statement.{statement}
 use Rattle.parsing.proofs.scan.end_right.Tie as tie
 
 returns : tie.Need-returns
-unfolding endRight
+unfolding end_right
 returns c = none_left c.before.before.before.args.text.now c.blanks-end.result c.blanks-end.ensures.0
-    ∙ ap (λ (s : List ℕ). eqb (length s) 0) (c.blanks-end.ensures.1 ∙ ap afterBlanks c.before.zone-end.ensures.1)
+    ∙ ap (λ (s : List ℕ). eqb (length s) 0) (c.blanks-end.ensures.1 ∙ ap after_blanks c.before.zone-end.ensures.1)
 
 pub end-right-spec : {M : Type 1} → statement M
 end-right-spec = tie.close (tie.spec (λ c κs. search rules) (λ c κs. search rules) returns)

@@ -1,15 +1,15 @@
 -- `parsing::scan::separator` meets its contract. Assumes nothing.
 use borrow.Author.Tests.{eq-eqb, ne_eqb}
-use Rattle.parsing.specs.scan.Form.{isSeparator}
+use Rattle.parsing.specs.scan.Form.{is_separator}
 use Rattle.parsing.proofs.scan.separator.Statement.{statement}
 use Rattle.parsing.proofs.scan.separator.Tie as tie
 
 returns : tie.Need-returns
-unfolding isSeparator
+unfolding is_separator
 returns c = simp (eq-eqb _ _ c.if1.true)
 
 returns-2 : tie.Need-returns-2
-unfolding isSeparator
+unfolding is_separator
 returns-2 c = simp (ne_eqb _ _ c.if1.false)
 
 pub separator-spec : {M : Type 1} → statement M

@@ -1,19 +1,19 @@
 -- `parsing::scan::worth` meets its contract. Assumes nothing.
 use mathlib.Core.Path.{sym, ◌∙◌}
 use native.Mathlib.Omega.{arith}
-use Rattle.numerals.proofs.digits.Decimal.{digit-bounds}
+use Rattle.numerals.proofs.digits.Decimal.{digit_bounds}
 use Rattle.parsing.proofs.scan.Runs.{worth-of, worth-none}
 use borrow.Author.Rules.{rules}
 use Rattle.parsing.proofs.scan.worth.Statement.{statement}
 use Rattle.parsing.proofs.scan.worth.Tie as tie
 
 sub-result : tie.Need-overflow-sub-result
-sub-result c = (digit-bounds _ (sym c.before.digit.ensures ∙ c.if1.true)).0
+sub-result c = (digit_bounds _ (sym c.before.digit.ensures ∙ c.if1.true)).0
 
 returns : tie.Need-returns
 returns c =
     let e = sym c.before.digit.ensures ∙ c.if1.true in
-    (sym (worth-of _ e), omega (arith, (digit-bounds _ e).1))
+    (sym (worth-of _ e), omega (arith, (digit_bounds _ e).1))
 
 returns-2 : tie.Need-returns-2
 returns-2 c = (sym (worth-none _ (sym c.before.digit.ensures ∙ c.if1.false)), omega arith)

@@ -1,9 +1,9 @@
 -- `runs::by_day::convert_with` meets its contract. Assumes nothing.
 use mathlib.Core.Path.{sym, subst}
 use mathlib.Core.List.{List}
-use Rattle.julian.specs.JulianDate.{julianOutcome}
+use Rattle.julian.specs.JulianDate.{julian_outcome}
 use Rattle.leap_table.specs.rows.Table.{Row}
-use Rattle.leap_table.specs.rows.Announced.{rowsIn}
+use Rattle.leap_table.specs.rows.Announced.{rows_in}
 use Rattle.runs.specs.by_day.Hand.{FindsWay, RightWay}
 use borrow.Author.Rules.{rules}
 use Rattle.runs.proofs.by_day.convert_with.Statement.{statement}
@@ -11,10 +11,10 @@ use Rattle.runs.proofs.by_day.convert_with.Tie as tie
 
 -- the rows that are read
 abbrev rows : tie.Start → List Row
-rows s = rowsIn s.args.size s.args.months.now s.args.seconds.now
+rows s = rows_in s.args.size s.args.months.now s.args.seconds.now
 
 returns : tie.Need-returns
-unfolding FindsWay RightWay julianOutcome
+unfolding FindsWay RightWay julian_outcome
 returns c =
     let q = c.before.before.before in
     let s = q.before in

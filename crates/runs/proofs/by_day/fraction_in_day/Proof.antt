@@ -1,12 +1,12 @@
 -- `runs::by_day::fraction_in_day` meets its contract: the short way of `julian::day_number`. Assumes nothing.
 use mathlib.Core.Path.{ap}
 use lib.Ieee.{binary64, of_bits, neg, sub}
-use lib.Ieee.Fits.{sub-fits}
+use lib.Ieee.Fits.{sub_fits}
 use mir.Syntax.{w64}
 use mir.Val.{to_z}
-use Rattle.floats.specs.Whole.{nearestInt}
+use Rattle.floats.specs.Whole.{nearest_int}
 use Rattle.floats.proofs.Laws.{yes}
-use Rattle.julian.proofs.day_number.Midnight.{quick, quick-borrowed}
+use Rattle.julian.proofs.day_number.Midnight.{quick, quick_borrowed}
 use Rattle.julian.proofs.day_number.PartsOfDay.{same_number, next-number}
 use Rattle.runs.specs.by_day.Hand.{InDayOf, FindsFraction}
 use borrow.Author.Rules.{rules}
@@ -21,9 +21,9 @@ returns c x fx m acc =
     let w = i.before.before in
     let s = w.before in
     let y = s.args.small in
-    let q = quick (sub binary64 x (nearestInt x)) (sub binary64 y w.nearest-whole.result.value) (sub-fits binary64 x _) (sub-fits binary64 y _)
-    m.before-noon i.if1.true j.if2.true in
-    same_number x y fx (yes s.well-formed.0.1) m acc w.nearest-whole.result w.nearest-whole.ensures _ q (ap (to_z w64) c.if3.true)
+    let q = quick (sub binary64 x (nearest_int x)) (sub binary64 y w.nearest-whole.result.value) (sub_fits binary64 x _) (sub_fits binary64 y _)
+    m.before_noon i.if1.true j.if2.true in
+    same_number x y fx (yes s.well_formed.0.1) m acc w.nearest-whole.result w.nearest-whole.ensures _ q (ap (to_z w64) c.if3.true)
 
 returns-2 : tie.Need-returns-2
 unfolding FindsFraction InDayOf of_bits neg
@@ -34,9 +34,9 @@ returns-2 c x fx m acc =
     let w = i.before.before in
     let s = w.before in
     let y = s.args.small in
-    let q = quick-borrowed (sub binary64 x (nearestInt x)) (sub binary64 y w.nearest-whole.result.value) (sub-fits binary64 x _) (sub-fits binary64 y _)
-    m.before-noon i.if1.false j.if4.true k.if5.true in
-    next-number x y fx (yes s.well-formed.0.1) m acc w.nearest-whole.result w.nearest-whole.ensures _ q (ap (to_z w64) c.if6.true)
+    let q = quick_borrowed (sub binary64 x (nearest_int x)) (sub binary64 y w.nearest-whole.result.value) (sub_fits binary64 x _) (sub_fits binary64 y _)
+    m.before_noon i.if1.false j.if4.true k.if5.true in
+    next-number x y fx (yes s.well_formed.0.1) m acc w.nearest-whole.result w.nearest-whole.ensures _ q (ap (to_z w64) c.if6.true)
 
 returns-3 : tie.Need-returns-3
 unfolding FindsFraction InDayOf

@@ -9,56 +9,56 @@ use lib.IntN.{ℤ, pos, negsuc, nat_abs, ◌-ℤ◌}
 use lib.Ieee.{Float, fin, binary64, sub, eq, lt, of_int, to_signed, of_bits, neg}
 use Rattle.refusals.specs.Outcome.{answer}
 use Rattle.floats.specs.declared.NearestWhole.{NearestWhole}
-use Rattle.floats.specs.Whole.{nought, nearestInt}
-use Rattle.floats.specs.NearestWhole.{nearestWhole}
+use Rattle.floats.specs.Whole.{nought, nearest_int}
+use Rattle.floats.specs.NearestWhole.{nearest_whole}
 use Rattle.floats.proofs.Laws.{yes}
-use Rattle.calendar.specs.Gregorian.{gregorianDate}
+use Rattle.calendar.specs.Gregorian.{gregorian_date}
 use Rattle.julian.specs.day_number.Ranges.{InDays}
-use Rattle.julian.specs.day_number.Midnights.{dayFrom, Midnight}
+use Rattle.julian.specs.day_number.Midnights.{day_from, Midnight}
 use Rattle.julian.proofs.day_number.Ranges.{day-read}
 use Rattle.julian.proofs.day_number.PartsOfDay.{day-in-days}
-use Rattle.leap_table.specs.offsets.Answers.{dayByRuleOutcome}
+use Rattle.leap_table.specs.offsets.Answers.{day_by_rule_outcome}
 use Rattle.leap_table.specs.rows.Table.{Row}
-use Rattle.leap_table.specs.rows.Announced.{rowsIn}
+use Rattle.leap_table.specs.rows.Announced.{rows_in}
 use Rattle.leap_table.proofs.offsets.Rules.{apart}
 use Rattle.utc_scales.specs.Known.{read_on}
 use Rattle.utc_scales.proofs.days.Midnights.{day-asked}
 use Rattle.runs.specs.declared.by_day.DayInHand.{DayInHand}
-use Rattle.runs.specs.by_day.Hand.{HeldDay, handOf, servesNone, RightHand}
+use Rattle.runs.specs.by_day.Hand.{HeldDay, hand_of, serves_none, RightHand}
 use borrow.Author.Rules.{rules}
 use Rattle.runs.proofs.by_day.look_up.Statement.{statement}
 use Rattle.runs.proofs.by_day.look_up.Tie as tie
 
 -- the rows that are read
 abbrev rows : tie.Start → List Row
-rows s = rowsIn s.args.size s.args.months.now s.args.seconds.now
+rows s = rows_in s.args.size s.args.months.now s.args.seconds.now
 
 -- the whole number that was found is the day
-number_is : (x : Float) (w : NearestWhole) → w ≡ nearestWhole x → InDays (dayFrom x) → to_z w64 (of_z w64 w.number) ≡ dayFrom x
-unfolding dayFrom nearestWhole
-number_is x w e r = ap (λ (z : NearestWhole). to_z w64 (of_z w64 z.number)) e ∙ day-read (to_signed 63 (nearestInt x)) r
+number_is : (x : Float) (w : NearestWhole) → w ≡ nearest_whole x → InDays (day_from x) → to_z w64 (of_z w64 w.number) ≡ day_from x
+unfolding day_from nearest_whole
+number_is x w e r = ap (λ (z : NearestWhole). to_z w64 (of_z w64 z.number)) e ∙ day-read (to_signed 63 (nearest_int x)) r
 
-before-noon-of : (x : Float) (w : NearestWhole) → w ≡ nearestWhole x → eq (sub binary64 x w.value) (fin true 1 (negsuc 0)) ≡ true
-    → eq (sub binary64 x (nearestInt x)) (fin true 1 (negsuc 0)) ≡ true
-unfolding nearestWhole
+before-noon-of : (x : Float) (w : NearestWhole) → w ≡ nearest_whole x → eq (sub binary64 x w.value) (fin true 1 (negsuc 0)) ≡ true
+    → eq (sub binary64 x (nearest_int x)) (fin true 1 (negsuc 0)) ≡ true
+unfolding nearest_whole
 before-noon-of x w e h = subst (λ (z : NearestWhole). eq (sub binary64 x z.value) (fin true 1 (negsuc 0)) ≡ true) e h
 
 mjd-of-requires : tie.Need-mjd-of-requires
-unfolding of_bits dayFrom nearestWhole
+unfolding of_bits day_from nearest_whole
 mjd-of-requires c κs =
     let t = c.before.before.before.before.before.before in
     let u = t.before in
     let w = u.before.before.before in
     let s = w.before in
-    let r = day-in-days s.args.midnight (yes s.well-formed.0.1) u.if2.true t.if3.true in
+    let r = day-in-days s.args.midnight (yes s.well_formed.0.1) u.if2.true t.if3.true in
     subst (λ (z : NearestWhole). nat_abs (to_z w64 (of_z w64 z.number)) ≤ 1000000000) (sym w.nearest-whole.ensures) (day-asked _ r)
 
 returns : tie.Need-returns
-unfolding RightHand servesNone of_bits lt
+unfolding RightHand serves_none of_bits lt
 returns c e = absurd (false≢true (sym (ap (λ (h : DayInHand). lt nought h.top) c.serves-none.ensures) ∙ e))
 
 returns-2 : tie.Need-returns-2
-unfolding RightHand handOf dayByRuleOutcome read_on of_bits neg
+unfolding RightHand hand_of day_by_rule_outcome read_on of_bits neg
 returns-2 c e =
     let o = c.before.before.before.before in
     let d = o.before.before in
@@ -68,17 +68,17 @@ returns-2 c e =
     let w = i.before.before in
     let s = w.before in
     let x = s.args.midnight in
-    let fx = yes s.well-formed.0.1 in
+    let fx = yes s.well_formed.0.1 in
     let r = day-in-days x fx u.if2.true t.if3.true in
     let n = number_is x w.nearest-whole.result w.nearest-whole.ensures r in
-    let g = sym d.day-of.ensures ∙ ap dayByRuleOutcome o.o.given.1 in
-    let q = apart _ _ _ _ (ap (λ (z : ℤ). read_on (rows s) (gregorianDate z)) (sym n) ∙ g) in
+    let g = sym d.day-of.ensures ∙ ap day_by_rule_outcome o.o.given.1 in
+    let q = apart _ _ _ _ (ap (λ (z : ℤ). read_on (rows s) (gregorian_date z)) (sym n) ∙ g) in
     let m = c.before.mjd-of.ensures ∙ ap (λ (z : ℤ). of_int binary64 (z -ℤ pos 2400001)) n in
-    subst (HeldDay (rows s)) (sym (c.hand_of.ensures ∙ ap (λ (z : Float). handOf x z o.o.given.0.0) m))
+    subst (HeldDay (rows s)) (sym (c.hand_of.ensures ∙ ap (λ (z : Float). hand_of x z o.o.given.0.0) m))
     (record {
       offsets = o.o.given.0.0;
       begins = record {
-        before-noon = before-noon-of x w.nearest-whole.result w.nearest-whole.ensures i.if1.true;
+        before_noon = before-noon-of x w.nearest-whole.result w.nearest-whole.ensures i.if1.true;
         late = u.if2.true;
         held = fx;
         in-days = r;
@@ -88,7 +88,7 @@ returns-2 c e =
     })
 
 returns-3 : tie.Need-returns-3
-unfolding RightHand servesNone of_bits lt
+unfolding RightHand serves_none of_bits lt
 returns-3 c e = absurd (false≢true (sym (ap (λ (h : DayInHand). lt nought h.top) c.serves-none2.ensures) ∙ e))
 
 pub look-up-spec : {M : Type 1} → statement M

@@ -5,13 +5,13 @@ use lib.Ieee.{Float, of_bits, lt}
 use Rattle.floats.proofs.Laws.{yes}
 use Rattle.julian.proofs.day_number.PartsOfDay.{same_float}
 use Rattle.runs.specs.declared.by_day.DayInHand.{DayInHand}
-use Rattle.runs.specs.by_day.Hand.{RightHand, handOf, RightTaiByHand, FindsTaiOf, FindsTai}
+use Rattle.runs.specs.by_day.Hand.{RightHand, hand_of, RightTaiByHand, FindsTaiOf, FindsTai}
 use borrow.Author.Rules.{rules}
 use Rattle.runs.proofs.by_day.quick_tai.Statement.{statement}
 use Rattle.runs.proofs.by_day.quick_tai.Tie as tie
 
 returns : tie.Need-returns
-unfolding FindsTai FindsTaiOf RightHand handOf of_bits
+unfolding FindsTai FindsTaiOf RightHand hand_of of_bits
 returns c rows right =
     let j4 = c.before in
     let j3 = j4.before.before in
@@ -20,7 +20,7 @@ returns c rows right =
     let s = j1.before.before in
     let k = right j1.if1.true in
     c.tai-in-range.ensures rows k
-    (same_float s.args.big s.args.hand.midnight (yes s.well-formed.0.1) k.begins.held j2.if2.true k.begins.late)
+    (same_float s.args.big s.args.hand.midnight (yes s.well_formed.0.1) k.begins.held j2.if2.true k.begins.late)
     j3.if3.true
     (subst (λ (z : Float). lt s.args.small z ≡ true) (ap (λ (z : DayInHand). z.top) k.same) j4.if4.true)
 

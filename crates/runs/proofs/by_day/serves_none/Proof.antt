@@ -1,12 +1,12 @@
 -- `runs::by_day::serves_none` meets its contract. Assumes nothing.
 use mathlib.Core.Path.{refl}
 use lib.Ieee.{of_bits}
-use Rattle.runs.specs.by_day.Hand.{servesNone}
+use Rattle.runs.specs.by_day.Hand.{serves_none}
 use Rattle.runs.proofs.by_day.serves_none.Statement.{statement}
 use Rattle.runs.proofs.by_day.serves_none.Tie as tie
 
 returns : tie.Need-returns
-unfolding servesNone of_bits
+unfolding serves_none of_bits
 returns c = refl
 
 pub serves-none-spec : {M : Type 1} → statement M

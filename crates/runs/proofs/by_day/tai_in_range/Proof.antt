@@ -28,10 +28,10 @@ returns-2 c rows k e l t =
     let s = a.before in
     let x = s.args.big in
     let y = s.args.small in
-    let fx = yes s.well-formed.0.1 in
+    let fx = yes s.well_formed.0.1 in
     let inside = sym (from-min (add binary64 x y) a.if1.true) ∙ b.if2.true in
     let d = subst (InDayOf x y) f.f.given.1 (g.fraction-in-day.ensures x fx (subst Midnight (sym e) k.begins) inside) in
-    let fy = yes s.well-formed.1.0.1 in (
+    let fy = yes s.well_formed.1.0.1 in (
       tai-by-hand rows x y s.args.hand fx fy k e l t f.f.given.0.0 d ∙ ap (λ (z : Float). answer (julian x z)) (sym c.tai-part.ensures),
       kept rows x y s.args.hand fx fy k e l t f.f.given.0.0 d,
     )

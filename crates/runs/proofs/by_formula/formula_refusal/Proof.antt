@@ -1,26 +1,26 @@
 -- `runs::by_formula::formula_refusal` meets its contract. Assumes nothing.
 use mathlib.Core.Path.{sym, ◌∙◌}
-use Rattle.runs.proofs.by_formula.Calls.{no-pair, broken-first, broken-second, broken-third, parts-differ, offsets-differ, few-first, few-second}
+use Rattle.runs.proofs.by_formula.Calls.{no_pair, broken_first, broken_second, broken_third, parts-differ, offsets-differ, few-first, few-second}
 use Rattle.runs.proofs.by_formula.Calls.{few-numbers, none-refused}
 use borrow.Author.Rules.{rules}
 use Rattle.runs.proofs.by_formula.formula_refusal.Statement.{statement}
 use Rattle.runs.proofs.by_formula.formula_refusal.Tie as tie
 
 returns : tie.Need-returns
-returns c = no-pair c.before.args.kind c.before.args.size1 c.before.args.size2 c.before.args.size3 c.before.args.room1
+returns c = no_pair c.before.args.kind c.before.args.size1 c.before.args.size2 c.before.args.size3 c.before.args.room1
     c.before.args.room2 c.before.args.room c.if1.true
 
 returns-2 : tie.Need-returns-2
-returns-2 c = broken-first c.before.before.args.kind c.before.before.args.size1 c.before.before.args.size2 c.before.before.args.size3
+returns-2 c = broken_first c.before.before.args.kind c.before.before.args.size1 c.before.before.args.size2 c.before.before.args.size3
     c.before.before.args.room1 c.before.before.args.room2 c.before.before.args.room c.before.if1.false c.if2.true
 
 returns-3 : tie.Need-returns-3
-returns-3 c = broken-second c.before.before.before.args.kind c.before.before.before.args.size1 c.before.before.before.args.size2
+returns-3 c = broken_second c.before.before.before.args.kind c.before.before.before.args.size1 c.before.before.before.args.size2
     c.before.before.before.args.size3 c.before.before.before.args.room1 c.before.before.before.args.room2
     c.before.before.before.args.room c.before.before.if1.false c.before.if2.false c.if3.true
 
 returns-4 : tie.Need-returns-4
-returns-4 c = broken-third c.before.before.before.before.args.kind c.before.before.before.before.args.size1
+returns-4 c = broken_third c.before.before.before.before.args.kind c.before.before.before.before.args.size1
     c.before.before.before.before.args.size2 c.before.before.before.before.args.size3 c.before.before.before.before.args.room1
     c.before.before.before.before.args.room2 c.before.before.before.before.args.room c.before.before.before.if1.false
     c.before.before.if2.false c.before.if3.false c.if4.true

@@ -1,18 +1,18 @@
 -- `runs::ways::of_tai` meets its contract: each case keeps what it carries. Assumes nothing.
 use mathlib.Core.Path.{sym, ap}
-use Rattle.julian.specs.JulianDate.{julianOutcome}
-use Rattle.scales.specs.Scales.{taiOutcome}
+use Rattle.julian.specs.JulianDate.{julian_outcome}
+use Rattle.scales.specs.Scales.{tai_outcome}
 use borrow.Author.Rules.{rules}
 use Rattle.runs.proofs.ways.of_tai.Statement.{statement}
 use Rattle.runs.proofs.ways.of_tai.Tie as tie
 
 returns : tie.Need-returns
-unfolding taiOutcome julianOutcome
-returns c = sym (ap taiOutcome c.before.before.a.given.1)
+unfolding tai_outcome julian_outcome
+returns c = sym (ap tai_outcome c.before.before.a.given.1)
 
 returns-2 : tie.Need-returns-2
-unfolding taiOutcome julianOutcome
-returns-2 c = sym (ap taiOutcome c.before.a2.given.1)
+unfolding tai_outcome julian_outcome
+returns-2 c = sym (ap tai_outcome c.before.a2.given.1)
 
 pub of-tai-spec : {M : Type 1} → statement M
 of-tai-spec = tie.close (tie.spec (λ c. search rules) (λ c. search rules) returns returns-2)

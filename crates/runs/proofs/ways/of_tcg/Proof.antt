@@ -1,18 +1,18 @@
 -- `runs::ways::of_tcg` meets its contract: each case keeps what it carries. Assumes nothing.
 use mathlib.Core.Path.{sym, ap}
-use Rattle.julian.specs.JulianDate.{julianOutcome}
-use Rattle.scales.specs.Scales.{tcgOutcome}
+use Rattle.julian.specs.JulianDate.{julian_outcome}
+use Rattle.scales.specs.Scales.{tcg_outcome}
 use borrow.Author.Rules.{rules}
 use Rattle.runs.proofs.ways.of_tcg.Statement.{statement}
 use Rattle.runs.proofs.ways.of_tcg.Tie as tie
 
 returns : tie.Need-returns
-unfolding tcgOutcome julianOutcome
-returns c = sym (ap tcgOutcome c.before.before.a.given.1)
+unfolding tcg_outcome julian_outcome
+returns c = sym (ap tcg_outcome c.before.before.a.given.1)
 
 returns-2 : tie.Need-returns-2
-unfolding tcgOutcome julianOutcome
-returns-2 c = sym (ap tcgOutcome c.before.a2.given.1)
+unfolding tcg_outcome julian_outcome
+returns-2 c = sym (ap tcg_outcome c.before.a2.given.1)
 
 pub of-tcg-spec : {M : Type 1} → statement M
 of-tcg-spec = tie.close (tie.spec (λ c. search rules) (λ c. search rules) returns returns-2)

@@ -1,18 +1,18 @@
 -- `runs::ways::of_utc` meets its contract: each case keeps what it carries. Assumes nothing.
 use mathlib.Core.Path.{sym, ap}
-use Rattle.julian.specs.JulianDate.{julianOutcome}
-use Rattle.scales.specs.Scales.{utcOutcome}
+use Rattle.julian.specs.JulianDate.{julian_outcome}
+use Rattle.scales.specs.Scales.{utc_outcome}
 use borrow.Author.Rules.{rules}
 use Rattle.runs.proofs.ways.of_utc.Statement.{statement}
 use Rattle.runs.proofs.ways.of_utc.Tie as tie
 
 returns : tie.Need-returns
-unfolding utcOutcome julianOutcome
-returns c = sym (ap utcOutcome c.before.before.a.given.1)
+unfolding utc_outcome julian_outcome
+returns c = sym (ap utc_outcome c.before.before.a.given.1)
 
 returns-2 : tie.Need-returns-2
-unfolding utcOutcome julianOutcome
-returns-2 c = sym (ap utcOutcome c.before.a2.given.1)
+unfolding utc_outcome julian_outcome
+returns-2 c = sym (ap utc_outcome c.before.a2.given.1)
 
 pub of-utc-spec : {M : Type 1} → statement M
 of-utc-spec = tie.close (tie.spec (λ c. search rules) (λ c. search rules) returns returns-2)

@@ -1,23 +1,23 @@
 -- `scales::gps_weeks::millis_of` meets its contract: one cast from 1 to 2^52, and outside it the two plain calls. Assumes nothing.
 use Rattle.std.proofs.Common.{◌≡◌, ℕ, ◌≤◌, sym, ap, ◌∙◌, subst, to_z-of_z, w64, rules}
 use lib.Ieee.{Float, binary64, mul, of_bits, to_signed}
-use Rattle.floats.specs.Whole.{toWhole, away}
-use Rattle.floats.proofs.NearestWholes.{in-cast}
-use Rattle.time_of_day.specs.TimeShown.{fromZero}
-use Rattle.scales.specs.gps_weeks.WeekOf.{productOf, dayMillis}
+use Rattle.floats.specs.Whole.{to_whole, away}
+use Rattle.floats.proofs.NearestWholes.{in_cast}
+use Rattle.time_of_day.specs.TimeShown.{from_zero}
+use Rattle.scales.specs.gps_weeks.WeekOf.{product_of, day_millis}
 use Rattle.scales.proofs.gps_weeks.Parts.{day-millis, short-cast, from-zero-most}
 use Rattle.scales.proofs.gps_weeks.millis_of.Statement.{statement}
 use Rattle.scales.proofs.gps_weeks.millis_of.Tie as tie
 
 -- the count of the float that `round` gives
-is : (c : tie.After-round) → fromZero (to_signed 63 c.round.result) ≡ dayMillis c.before.args.fraction
-unfolding dayMillis productOf
-is c = ap (λ (x : Float). fromZero (to_signed 63 x))
-    (c.round.ensures ∙ ap (λ (x : Float). toWhole away (mul binary64 c.before.args.fraction x)) day-millis)
+is : (c : tie.After-round) → from_zero (to_signed 63 c.round.result) ≡ day_millis c.before.args.fraction
+unfolding day_millis product_of
+is c = ap (λ (x : Float). from_zero (to_signed 63 x))
+    (c.round.ensures ∙ ap (λ (x : Float). to_whole away (mul binary64 c.before.args.fraction x)) day-millis)
 
 truncating-f64-to-u64-requires : tie.Need-truncating-f64-to-u64-requires
 unfolding of_bits
-truncating-f64-to-u64-requires c κs = in-cast _ c.before.if1.true c.if2.true
+truncating-f64-to-u64-requires c κs = in_cast _ c.before.if1.true c.if2.true
 
 returns : tie.Need-returns
 unfolding of_bits
@@ -30,8 +30,8 @@ returns-2 : tie.Need-returns-2
 returns-2 c =
     let s = c.before in
     let z = to_z-of_z {w = w64} {z = s.saturating-i64.result} (record { sfits = s.saturating-i64.type-inv }) in (
-      c.from_zero.ensures ∙ ap fromZero (z ∙ s.saturating-i64.ensures) ∙ is s.before.before,
-      subst (λ (k : ℕ). k ≤ 9223372036854775807) (sym (c.from_zero.ensures ∙ ap fromZero z))
+      c.from_zero.ensures ∙ ap from_zero (z ∙ s.saturating-i64.ensures) ∙ is s.before.before,
+      subst (λ (k : ℕ). k ≤ 9223372036854775807) (sym (c.from_zero.ensures ∙ ap from_zero z))
           (from-zero-most s.saturating-i64.result (record { sfits = s.saturating-i64.type-inv })),
     )
 

@@ -1,20 +1,20 @@
 -- `scales::gps_weeks::week_at` meets its contract. Assumes nothing.
 use Rattle.std.proofs.Common.{rules, le-ltb, lt-ltb, le-leb}
 use borrow.Author.Tests.{lt-leb}
-use Rattle.scales.specs.gps_weeks.WeekOf.{weekOutcome, weekAt}
+use Rattle.scales.specs.gps_weeks.WeekOf.{week_outcome, week_at}
 use Rattle.scales.proofs.gps_weeks.week_at.Statement.{statement}
 use Rattle.scales.proofs.gps_weeks.week_at.Tie as tie
 
 returns : tie.Need-returns
-unfolding weekOutcome weekAt
+unfolding week_outcome week_at
 returns c = rw (lt-ltb _ _ c.if1.true)
 
 returns-2 : tie.Need-returns-2
-unfolding weekOutcome weekAt
+unfolding week_outcome week_at
 returns-2 c = rw (le-ltb _ _ c.before.if1.false, lt-leb _ _ c.if2.true)
 
 returns-3 : tie.Need-returns-3
-unfolding weekOutcome weekAt
+unfolding week_outcome week_at
 returns-3 c = rw (le-ltb _ _ c.before.if1.false, le-leb _ _ c.if2.false)
 
 pub week-at-spec : {M : Type 1} → statement M

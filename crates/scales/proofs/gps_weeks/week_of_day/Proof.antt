@@ -3,38 +3,38 @@ use Rattle.std.proofs.Common.{◌≡◌, ℕ, ◌+◌, ◌-◌, ◌*◌, ◌/◌
 use lib.Signed.{lt_z}
 use borrow.Author.Tests.{lt-leb}
 use Rattle.refusals.specs.Outcome.{refusal}
-use Rattle.time_of_day.specs.TimeShown.{fromZero}
-use Rattle.scales.specs.gps_weeks.WeekOf.{weekOutcome, weekAt, weekOfDay}
+use Rattle.time_of_day.specs.TimeShown.{from_zero}
+use Rattle.scales.specs.gps_weeks.WeekOf.{week_outcome, week_at, week_of_day}
 use Rattle.scales.proofs.gps_weeks.week_of_day.Statement.{statement}
 use Rattle.scales.proofs.gps_weeks.week_of_day.Tie as tie
 
-before-day-0 : (z : ℤ) (ms : ℕ) → lt_z z (pos 0) ≡ true → refusal 18 ≡ weekOfDay z ms
-unfolding weekOfDay
-before-day-0 (pos n) ms t = let h : n < 0 = ltb-true n 0 t in absurd (omega arith)
-before-day-0 (negsuc n) ms t = refl
+before_day_0 : (z : ℤ) (ms : ℕ) → lt_z z (pos 0) ≡ true → refusal 18 ≡ week_of_day z ms
+unfolding week_of_day
+before_day_0 (pos n) ms t = let h : n < 0 = ltb-true n 0 t in absurd (omega arith)
+before_day_0 (negsuc n) ms t = refl
 
-from-day-0 : (z : ℤ) (ms : ℕ) → lt_z z (pos 0) ≡ false → weekAt (fromZero z * 86400000 + ms) ≡ weekOfDay z ms
-unfolding weekOfDay fromZero
+from-day-0 : (z : ℤ) (ms : ℕ) → lt_z z (pos 0) ≡ false → week_at (from_zero z * 86400000 + ms) ≡ week_of_day z ms
+unfolding week_of_day from_zero
 from-day-0 (pos n) ms t = refl
 from-day-0 (negsuc n) ms t = let z : ◌≡◌ {A = ℕ} 0 1 = cc in absurd (omega arith)
 
-past : (count : ℕ) → 4000000 * 86400000 ≤ count → refusal 18 ≡ weekAt count
-unfolding weekAt
+past : (count : ℕ) → 4000000 * 86400000 ≤ count → refusal 18 ≡ week_at count
+unfolding week_at
 past count h = rw (le-ltb count 211182768000000 (omega arith), lt-leb ((count - 211182768000000) / 604800000) 100000 (omega arith))
 
-module _ (day z : ℤ) (n ms k : ℕ) (same : z ≡ day) (left : lt_z z (pos 0) ≡ false) (is : n ≡ fromZero z) (ems : k ≡ ms) where
-  in-days : weekAt (n * 86400000 + k) ≡ weekOfDay day ms
-  in-days = rw (is, ems) (from-day-0 z ms left) ∙ ap (λ (x : ℤ). weekOfDay x ms) same
+module _ (day z : ℤ) (n ms k : ℕ) (same : z ≡ day) (left : lt_z z (pos 0) ≡ false) (is : n ≡ from_zero z) (ems : k ≡ ms) where
+  in-days : week_at (n * 86400000 + k) ≡ week_of_day day ms
+  in-days = rw (is, ems) (from-day-0 z ms left) ∙ ap (λ (x : ℤ). week_of_day x ms) same
 
-  past_all : 4000000 ≤ n → refusal 18 ≡ weekOfDay day ms
+  past_all : 4000000 ≤ n → refusal 18 ≡ week_of_day day ms
   past_all h = past (n * 86400000 + k) (omega arith) ∙ in-days
 
 returns : tie.Need-returns
-unfolding weekOutcome
-returns c = before-day-0 _ _ (subst (λ (x : ℤ). lt_z x (pos 0) ≡ true) (to_z-of_z {w = w64} c.before.ranges.day) c.if1.true)
+unfolding week_outcome
+returns c = before_day_0 _ _ (subst (λ (x : ℤ). lt_z x (pos 0) ≡ true) (to_z-of_z {w = w64} c.before.ranges.day) c.if1.true)
 
 returns-2 : tie.Need-returns-2
-unfolding weekOutcome
+unfolding week_outcome
 returns-2 c = past_all _ _ c.before.from_zero.result _ _ (to_z-of_z {w = w64} c.before.before.before.ranges.day) c.before.before.if1.false
     c.before.from_zero.ensures refl c.if2.true
 

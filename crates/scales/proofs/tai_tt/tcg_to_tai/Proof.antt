@@ -1,7 +1,7 @@
 -- `scales::tai_tt::tcg_to_tai` meets its contract: TT stands between. Assumes nothing.
 use Rattle.std.proofs.Common.{sym, ap, ◌∙◌, rules}
-use Rattle.scales.specs.Scales.{ttOutcome, taiOutcome}
-use Rattle.scales.specs.Formulas.{ttDays}
+use Rattle.scales.specs.Scales.{tt_outcome, tai_outcome}
+use Rattle.scales.specs.Formulas.{tt_days}
 use Rattle.scales.specs.Conversions.{answer_of}
 use Rattle.refusals.proofs.Onward.{went, stopped}
 use Rattle.scales.proofs.tai_tt.tcg_to_tai.Statement.{statement}
@@ -9,13 +9,13 @@ use Rattle.scales.proofs.tai_tt.tcg_to_tai.Tie as tie
 use Rattle.julian.specs.shifts.Shifts.{minus, converted}
 
 returns : tie.Need-returns
-unfolding answer_of ttOutcome
-returns c = c.tt-to-tai.ensures
-    ∙ sym (went (converted (minus ttDays)) (sym c.before.before.before.before.tcg-to-tt.ensures ∙ ap ttOutcome c.before.before.tt.given.1))
+unfolding answer_of tt_outcome
+returns c = c.tt_to_tai.ensures
+    ∙ sym (went (converted (minus tt_days)) (sym c.before.before.before.before.tcg-to-tt.ensures ∙ ap tt_outcome c.before.before.tt.given.1))
 
 returns-2 : tie.Need-returns-2
-unfolding answer_of ttOutcome taiOutcome
-returns-2 c = sym (stopped (converted (minus ttDays)) (sym c.before.before.before.tcg-to-tt.ensures ∙ ap ttOutcome c.before.n.given.1))
+unfolding answer_of tt_outcome tai_outcome
+returns-2 c = sym (stopped (converted (minus tt_days)) (sym c.before.before.before.tcg-to-tt.ensures ∙ ap tt_outcome c.before.n.given.1))
 
 pub tcg-to-tai-spec : {M : Type 1} → statement M
 tcg-to-tai-spec =

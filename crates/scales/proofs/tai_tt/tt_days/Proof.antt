@@ -1,12 +1,12 @@
 -- `scales::tai_tt::tt_days` meets its contract. Assumes nothing.
-use Rattle.scales.specs.Formulas.{ttDays}
+use Rattle.scales.specs.Formulas.{tt_days}
 use Rattle.constants.proofs.Bits.{seconds-per-day, tt-tai-offset}
 use Rattle.scales.proofs.tai_tt.tt_days.Statement.{statement}
 use Rattle.scales.proofs.tai_tt.tt_days.Tie as tie
-use Rattle.julian.specs.shifts.Shifts.{daysOf}
+use Rattle.julian.specs.shifts.Shifts.{days_of}
 
 returns : tie.Need-returns
-unfolding ttDays daysOf
+unfolding tt_days days_of
 returns c = cc (seconds-per-day, tt-tai-offset)
 
 pub tt-days-spec : {M : Type 1} → statement M

@@ -1,16 +1,16 @@
 -- `scales::tcb_tdb::as_tcb` meets its contract. Assumes nothing.
 use Rattle.std.proofs.Common.{ap, ◌∙◌, rules}
 use Rattle.julian.specs.declared.shifts.smaller_part.Parts.{Parts}
-use Rattle.julian.specs.shifts.SmallerPart.{putBack, mapSmallerPart}
-use Rattle.scales.specs.Formulas.{tdbToTcb}
+use Rattle.julian.specs.shifts.SmallerPart.{put_back, map_smaller_part}
+use Rattle.scales.specs.Formulas.{tdb_to_tcb}
 use Rattle.scales.proofs.tcb_tdb.as_tcb.Statement.{statement}
 use Rattle.scales.proofs.tcb_tdb.as_tcb.Tie as tie
 
 returns : tie.Need-returns
-unfolding mapSmallerPart
+unfolding map_smaller_part
 returns c = c.put_back.ensures
-    ∙ ap (putBack c.before.before.before.args.jd)
-    (c.before.tdb-to-tcb-part.ensures ∙ ap (λ (p : Parts). tdbToTcb p.larger p.smaller) c.before.before.split.ensures)
+    ∙ ap (put_back c.before.before.before.args.jd)
+    (c.before.tdb-to-tcb-part.ensures ∙ ap (λ (p : Parts). tdb_to_tcb p.larger p.smaller) c.before.before.split.ensures)
 
 pub as-tcb-spec : {M : Type 1} → statement M
 as-tcb-spec =

@@ -1,16 +1,16 @@
 -- `scales::tcb_tdb::as_tdb` meets its contract. Assumes nothing.
 use Rattle.std.proofs.Common.{ap, ◌∙◌, rules}
 use Rattle.julian.specs.declared.shifts.smaller_part.Parts.{Parts}
-use Rattle.julian.specs.shifts.SmallerPart.{putBack, mapSmallerPart}
-use Rattle.scales.specs.Formulas.{tcbToTdb}
+use Rattle.julian.specs.shifts.SmallerPart.{put_back, map_smaller_part}
+use Rattle.scales.specs.Formulas.{tcb_to_tdb}
 use Rattle.scales.proofs.tcb_tdb.as_tdb.Statement.{statement}
 use Rattle.scales.proofs.tcb_tdb.as_tdb.Tie as tie
 
 returns : tie.Need-returns
-unfolding mapSmallerPart
+unfolding map_smaller_part
 returns c = c.put_back.ensures
-    ∙ ap (putBack c.before.before.before.args.jd)
-    (c.before.tcb-to-tdb-part.ensures ∙ ap (λ (p : Parts). tcbToTdb p.larger p.smaller) c.before.before.split.ensures)
+    ∙ ap (put_back c.before.before.before.args.jd)
+    (c.before.tcb-to-tdb-part.ensures ∙ ap (λ (p : Parts). tcb_to_tdb p.larger p.smaller) c.before.before.split.ensures)
 
 pub as-tdb-spec : {M : Type 1} → statement M
 as-tdb-spec =

@@ -1,9 +1,9 @@
 -- `scales::tcb_tdb::tcb_to_tdb` meets its contract. Assumes nothing.
 use Rattle.std.proofs.Common.{sym, ap, ◌∙◌, rules}
 use Rattle.refusals.specs.Outcome.{answer}
-use Rattle.julian.specs.JulianDate.{julianOutcome}
-use Rattle.scales.specs.Scales.{tdbOutcome}
-use Rattle.scales.specs.Formulas.{tcbToTdb}
+use Rattle.julian.specs.JulianDate.{julian_outcome}
+use Rattle.scales.specs.Scales.{tdb_outcome}
+use Rattle.scales.specs.Formulas.{tcb_to_tdb}
 use Rattle.scales.specs.Conversions.{answer_of}
 use Rattle.refusals.proofs.Onward.{went, stopped}
 use Rattle.scales.proofs.tcb_tdb.tcb_to_tdb.Statement.{statement}
@@ -11,13 +11,13 @@ use Rattle.scales.proofs.tcb_tdb.tcb_to_tdb.Tie as tie
 use Rattle.julian.specs.shifts.Shifts.{changed, converted}
 
 returns : tie.Need-returns
-unfolding answer_of converted changed tdbOutcome julianOutcome
+unfolding answer_of converted changed tdb_outcome julian_outcome
 returns c = ap answer c.as-tdb.ensures
-    ∙ sym (went (changed tcbToTdb) (sym c.before.before.before.before.finite-jd.ensures ∙ ap julianOutcome c.before.before.jd.given.1))
+    ∙ sym (went (changed tcb_to_tdb) (sym c.before.before.before.before.finite-jd.ensures ∙ ap julian_outcome c.before.before.jd.given.1))
 
 returns-2 : tie.Need-returns-2
-unfolding answer_of converted tdbOutcome julianOutcome
-returns-2 c = sym (stopped (changed tcbToTdb) (sym c.before.before.before.finite-jd.ensures ∙ ap julianOutcome c.before.n.given.1))
+unfolding answer_of converted tdb_outcome julian_outcome
+returns-2 c = sym (stopped (changed tcb_to_tdb) (sym c.before.before.before.finite-jd.ensures ∙ ap julian_outcome c.before.n.given.1))
 
 pub tcb-to-tdb-spec : {M : Type 1} → statement M
 tcb-to-tdb-spec =

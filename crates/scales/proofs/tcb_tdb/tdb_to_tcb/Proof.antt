@@ -1,9 +1,9 @@
 -- `scales::tcb_tdb::tdb_to_tcb` meets its contract. Assumes nothing.
 use Rattle.std.proofs.Common.{sym, ap, ◌∙◌, rules}
 use Rattle.refusals.specs.Outcome.{answer}
-use Rattle.julian.specs.JulianDate.{julianOutcome}
-use Rattle.scales.specs.Scales.{tcbOutcome}
-use Rattle.scales.specs.Formulas.{tdbToTcb}
+use Rattle.julian.specs.JulianDate.{julian_outcome}
+use Rattle.scales.specs.Scales.{tcb_outcome}
+use Rattle.scales.specs.Formulas.{tdb_to_tcb}
 use Rattle.scales.specs.Conversions.{answer_of}
 use Rattle.refusals.proofs.Onward.{went, stopped}
 use Rattle.scales.proofs.tcb_tdb.tdb_to_tcb.Statement.{statement}
@@ -11,13 +11,13 @@ use Rattle.scales.proofs.tcb_tdb.tdb_to_tcb.Tie as tie
 use Rattle.julian.specs.shifts.Shifts.{changed, converted}
 
 returns : tie.Need-returns
-unfolding answer_of converted changed tcbOutcome julianOutcome
+unfolding answer_of converted changed tcb_outcome julian_outcome
 returns c = ap answer c.as-tcb.ensures
-    ∙ sym (went (changed tdbToTcb) (sym c.before.before.before.before.finite-jd.ensures ∙ ap julianOutcome c.before.before.jd.given.1))
+    ∙ sym (went (changed tdb_to_tcb) (sym c.before.before.before.before.finite-jd.ensures ∙ ap julian_outcome c.before.before.jd.given.1))
 
 returns-2 : tie.Need-returns-2
-unfolding answer_of converted tcbOutcome julianOutcome
-returns-2 c = sym (stopped (changed tdbToTcb) (sym c.before.before.before.finite-jd.ensures ∙ ap julianOutcome c.before.n.given.1))
+unfolding answer_of converted tcb_outcome julian_outcome
+returns-2 c = sym (stopped (changed tdb_to_tcb) (sym c.before.before.before.finite-jd.ensures ∙ ap julian_outcome c.before.n.given.1))
 
 pub tdb-to-tcb-spec : {M : Type 1} → statement M
 tdb-to-tcb-spec =

@@ -1,16 +1,16 @@
 -- `scales::tt_tcg::as_tt` meets its contract. Assumes nothing.
 use Rattle.std.proofs.Common.{ap, ◌∙◌, rules}
 use Rattle.julian.specs.declared.shifts.smaller_part.Parts.{Parts}
-use Rattle.julian.specs.shifts.SmallerPart.{putBack, mapSmallerPart}
-use Rattle.scales.specs.Formulas.{tcgToTt}
+use Rattle.julian.specs.shifts.SmallerPart.{put_back, map_smaller_part}
+use Rattle.scales.specs.Formulas.{tcg_to_tt}
 use Rattle.scales.proofs.tt_tcg.as_tt.Statement.{statement}
 use Rattle.scales.proofs.tt_tcg.as_tt.Tie as tie
 
 returns : tie.Need-returns
-unfolding mapSmallerPart
+unfolding map_smaller_part
 returns c = c.put_back.ensures
-    ∙ ap (putBack c.before.before.before.args.jd)
-    (c.before.tcg-to-tt-part.ensures ∙ ap (λ (p : Parts). tcgToTt p.larger p.smaller) c.before.before.split.ensures)
+    ∙ ap (put_back c.before.before.before.args.jd)
+    (c.before.tcg-to-tt-part.ensures ∙ ap (λ (p : Parts). tcg_to_tt p.larger p.smaller) c.before.before.split.ensures)
 
 pub as-tt-spec : {M : Type 1} → statement M
 as-tt-spec = tie.close (tie.spec (λ c κs. search rules) (λ c κs. search rules) (λ c κs. search rules) returns)

@@ -1,9 +1,9 @@
 -- `scales::tt_tcg::tt_to_tcg` meets its contract. Assumes nothing.
 use Rattle.std.proofs.Common.{sym, ap, ◌∙◌, rules}
 use Rattle.refusals.specs.Outcome.{answer}
-use Rattle.julian.specs.JulianDate.{julianOutcome}
-use Rattle.scales.specs.Scales.{tcgOutcome}
-use Rattle.scales.specs.Formulas.{ttToTcg}
+use Rattle.julian.specs.JulianDate.{julian_outcome}
+use Rattle.scales.specs.Scales.{tcg_outcome}
+use Rattle.scales.specs.Formulas.{tt_to_tcg}
 use Rattle.scales.specs.Conversions.{answer_of}
 use Rattle.refusals.proofs.Onward.{went, stopped}
 use Rattle.scales.proofs.tt_tcg.tt_to_tcg.Statement.{statement}
@@ -11,13 +11,13 @@ use Rattle.scales.proofs.tt_tcg.tt_to_tcg.Tie as tie
 use Rattle.julian.specs.shifts.Shifts.{changed, converted}
 
 returns : tie.Need-returns
-unfolding answer_of converted changed tcgOutcome julianOutcome
+unfolding answer_of converted changed tcg_outcome julian_outcome
 returns c = ap answer c.as-tcg.ensures
-    ∙ sym (went (changed ttToTcg) (sym c.before.before.before.before.finite-jd.ensures ∙ ap julianOutcome c.before.before.jd.given.1))
+    ∙ sym (went (changed tt_to_tcg) (sym c.before.before.before.before.finite-jd.ensures ∙ ap julian_outcome c.before.before.jd.given.1))
 
 returns-2 : tie.Need-returns-2
-unfolding answer_of converted tcgOutcome julianOutcome
-returns-2 c = sym (stopped (changed ttToTcg) (sym c.before.before.before.finite-jd.ensures ∙ ap julianOutcome c.before.n.given.1))
+unfolding answer_of converted tcg_outcome julian_outcome
+returns-2 c = sym (stopped (changed tt_to_tcg) (sym c.before.before.before.finite-jd.ensures ∙ ap julian_outcome c.before.n.given.1))
 
 pub tt-to-tcg-spec : {M : Type 1} → statement M
 tt-to-tcg-spec =

@@ -1,17 +1,17 @@
 -- `listing::line_room` meets its contract. Assumes nothing.
 use mathlib.Core.Path.{sym, ap}
-use Rattle.stamps.specs.Listing.{lineRoom}
+use Rattle.stamps.specs.Listing.{line_room}
 use borrow.Author.Rules.{rules}
 use Rattle.stamps.proofs.listing.line_room.Statement.{statement}
 use Rattle.stamps.proofs.listing.line_room.Tie as tie
 
 returns : tie.Need-returns
-unfolding lineRoom
-returns c = sym (ap lineRoom c.enum_told.given.1)
+unfolding line_room
+returns c = sym (ap line_room c.enum_told.given.1)
 
 returns-2 : tie.Need-returns-2
-unfolding lineRoom
-returns-2 c = sym (ap lineRoom c.enum-told2.given.1)
+unfolding line_room
+returns-2 c = sym (ap line_room c.enum-told2.given.1)
 
 pub line-room-spec : {M : Type 1} → statement M
 line-room-spec = tie.close (tie.spec (λ c. search rules) (λ c. search rules) returns returns-2)

@@ -1,25 +1,25 @@
 -- `listing::lines_in` meets its contract. Assumes nothing.
 use mathlib.Core.Path.{sym, ap}
 use native.Mathlib.Omega.{arith}
-use Rattle.stamps.specs.Parts.{linesIn}
-use Rattle.stamps.specs.Block.{blockOutcome}
+use Rattle.stamps.specs.Parts.{lines_in}
+use Rattle.stamps.specs.Block.{block_outcome}
 use borrow.Author.Rules.{rules}
 use Rattle.stamps.proofs.listing.lines_in.Statement.{statement}
 use Rattle.stamps.proofs.listing.lines_in.Tie as tie
 
 add-result : tie.Need-overflow-add-result
-unfolding linesIn blockOutcome
+unfolding lines_in block_outcome
 add-result c =
-    let e = ap (λ a. linesIn (blockOutcome a)) c.before.answer.given.1 in
+    let e = ap (λ a. lines_in (block_outcome a)) c.before.answer.given.1 in
     omega (arith, e, c.before.before.before.requires)
 
 returns : tie.Need-returns
-unfolding linesIn blockOutcome
-returns c = sym (ap (λ a. linesIn (blockOutcome a)) c.enum_told.given.1)
+unfolding lines_in block_outcome
+returns c = sym (ap (λ a. lines_in (block_outcome a)) c.enum_told.given.1)
 
 returns-2 : tie.Need-returns-2
-unfolding linesIn blockOutcome
-returns-2 c = sym (ap (λ a. linesIn (blockOutcome a)) c.before.answer.given.1)
+unfolding lines_in block_outcome
+returns-2 c = sym (ap (λ a. lines_in (block_outcome a)) c.before.answer.given.1)
 
 pub lines-in-spec : {M : Type 1} → statement M
 lines-in-spec = tie.close (tie.spec (λ c. search rules) (λ c. search rules) add-result returns returns-2)

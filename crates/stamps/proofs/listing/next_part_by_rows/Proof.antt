@@ -2,16 +2,16 @@
 -- those that the rest of the scratch will take. The measure is the number of lines that are left. Assumes nothing.
 use lib.ListN.{length}
 use mathlib.Core.Path.{◌≡◌, refl, sym, ap, subst, ◌∙◌}
-use Prim.Native.Nat.{ℕ, ◌+◌, ◌-◌, ◌≤◌, zero-le}
+use Prim.Native.Nat.{ℕ, ◌+◌, ◌-◌, ◌≤◌, zero_le}
 use borrow.Author.Rules.{rules}
 use native.Mathlib.Omega.{arith}
 use Rattle.leap_table.specs.rows.Announced.{rows_of}
-use Rattle.stamps.specs.Parts.{linesIn, lines_from, heldLines}
+use Rattle.stamps.specs.Parts.{lines_in, lines_from, held_lines}
 use Rattle.numerals.specs.digits.Placed.{Placed}
 use Rattle.stamps.proofs.Blocks.{few-lines}
 use Rattle.numerals.proofs.digits.Places.{nothing}
 use Rattle.stamps.proofs.Lines.{lines_more}
-use Rattle.stamps.proofs.Parts.{start, ends-full, ends-all, goes_on, stops-full, stops-done}
+use Rattle.stamps.proofs.Parts.{start, ends-full, ends-all, goes_on, stops_full, stops_done}
 use Rattle.stamps.proofs.listing.next_part_by_rows.Statement.{statement}
 use Rattle.stamps.proofs.listing.next_part_by_rows.Tie as tie
 
@@ -21,7 +21,7 @@ invariant-loop how block line table scratch₀ answer left room at₀ count₀ s
     × Placed scratch₀ 0 (lines_from how (rows_of table) block line count) at scratch
     × (at ≤ length scratch₀)
     × (length scratch ≡ length scratch₀)
-    × (heldLines how (rows_of table) block line (length scratch₀) left ≡ count + heldLines how (rows_of table) block (line + count) (length scratch₀ - at)
+    × (held_lines how (rows_of table) block line (length scratch₀) left ≡ count + held_lines how (rows_of table) block (line + count) (length scratch₀ - at)
     (left - count))
 
 abbrev decreases-loop : tie.decreases-loop
@@ -33,7 +33,7 @@ block-stamps-requires c κs = search rules
 lines-in-requires : tie.Need-lines-in-requires invariant-loop decreases-loop
 lines-in-requires c κs =
     let st = c.before.before.before in
-    subst (λ o. linesIn o ≤ 4001) (sym c.block-stamps.ensures) (few-lines st.args.block.now)
+    subst (λ o. lines_in o ≤ 4001) (sym c.block_stamps.ensures) (few-lines st.args.block.now)
 
 less-requires : tie.Need-less-requires invariant-loop decreases-loop
 less-requires c κs = search rules
@@ -43,7 +43,7 @@ line-room-requires c κs = search rules
 
 loop-holds : tie.Need-loop-init invariant-loop decreases-loop
 unfolding lines_from
-loop-holds c = (zero-le, nothing _, zero-le, refl, start _ _ _ _ _ _)
+loop-holds c = (zero_le, nothing _, zero_le, refl, start _ _ _ _ _ _)
 
 sub-if1 : tie.Need-overflow-sub-if1 invariant-loop decreases-loop
 sub-if1 c = search rules
@@ -61,8 +61,8 @@ returns c =
     let e = c.before.before.before.before.less.ensures
     ∙ ap (λ (n : ℕ). n - st.args.line)
     (c.before.before.before.before.before.lines-in.ensures
-    ∙ ap linesIn c.before.before.before.before.before.before.block-stamps.ensures) in
-    stops-full _ _ st.args.block.now st.args.line _ _ _ _ _ e
+    ∙ ap lines_in c.before.before.before.before.before.before.block_stamps.ensures) in
+    stops_full _ _ st.args.block.now st.args.line _ _ _ _ _ e
     (ends-full _ _ st.args.block.now st.args.line _ _ _ _ l.invariant.4 (omega (arith, c.before.before.before.line-room.ensures)))
     l.invariant.1 (omega arith)
 
@@ -76,8 +76,8 @@ place-line-requires c κs =
     let e = c.before.before.before.before.before.less.ensures
     ∙ ap (λ (n : ℕ). n - st.args.line)
     (c.before.before.before.before.before.before.lines-in.ensures
-    ∙ ap linesIn c.before.before.before.before.before.before.before.block-stamps.ensures) in (
-      c.before.before.before.before.before.before.before.block-stamps.ensures,
+    ∙ ap lines_in c.before.before.before.before.before.before.before.block_stamps.ensures) in (
+      c.before.before.before.before.before.before.before.block_stamps.ensures,
       omega (arith, e),
       omega (arith, c.before.before.before.before.line-room.ensures),
     )
@@ -114,8 +114,8 @@ returns-2 c =
     let l = c.before.loop in
     let e = c.before.before.before.less.ensures
     ∙ ap (λ (n : ℕ). n - st.args.line)
-    (c.before.before.before.before.lines-in.ensures ∙ ap linesIn c.before.before.before.before.before.block-stamps.ensures) in
-    stops-done _ _ st.args.block.now st.args.line _ _ _ _ _ e
+    (c.before.before.before.before.lines-in.ensures ∙ ap lines_in c.before.before.before.before.before.block_stamps.ensures) in
+    stops_done _ _ st.args.block.now st.args.line _ _ _ _ _ e
     (ends-all _ _ st.args.block.now st.args.line _ _ _ _ l.invariant.4 (omega arith)) l.invariant.1 (omega arith)
 
 pub next-part-by-rows-spec : {M : Type 1} → statement M

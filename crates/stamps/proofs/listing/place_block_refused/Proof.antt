@@ -1,7 +1,7 @@
 -- `listing::place_block_refused` meets its contract: three writes, one after the other. Assumes nothing.
 use native.Mathlib.Omega.{arith}
 use Rattle.numerals.proofs.digits.Places.{then}
-use Rattle.stamps.specs.Listing.{blockRefused}
+use Rattle.stamps.specs.Listing.{block_refused}
 use Rattle.stamps.proofs.Texts.{room-low}
 use borrow.Author.Rules.{rules}
 use Rattle.stamps.proofs.listing.place_block_refused.Statement.{statement}
@@ -15,7 +15,7 @@ place-block-reported-requires c κs =
     (st.requires.0, st.requires.1, omega (arith, st.requires.2, p1.ends))
 
 returns : tie.Need-returns
-unfolding blockRefused
+unfolding block_refused
 returns c =
     let e = c.before.before in
     let r = e.before.before.before.before.before in

@@ -4,11 +4,11 @@ use mathlib.Core.List.{List}
 use Prim.Native.Nat.{ℕ, ◌+◌}
 use native.Mathlib.Omega.{arith}
 use Rattle.leap_table.specs.rows.Table.{Row}
-use Rattle.leap_table.specs.rows.Announced.{rowsIn, rows_of}
-use Rattle.leap_table.proofs.rows.ByParts.{rows_in}
+use Rattle.leap_table.specs.rows.Announced.{rows_in, rows_of}
+use Rattle.leap_table.proofs.rows.ByParts.{rows_in_lem}
 use Rattle.stamps.specs.Listing.{shown}
 use Rattle.numerals.proofs.digits.Places.{lent_length, part-put, part-kept, placed-as, placed-into}
-use Rattle.stamps.proofs.Texts.{room-low, room-high, brief, date-number, shown-most, text-written, text-refused}
+use Rattle.stamps.proofs.Texts.{room-low, room-high, brief, date-number, shown-most, text-written, text_refused}
 use borrow.Author.Rules.{rules}
 use Rattle.stamps.proofs.listing.place_shown.Statement.{statement}
 use Rattle.stamps.proofs.listing.place_shown.Tie as tie
@@ -22,8 +22,8 @@ rows v = rows_of (start v).args.t3
 
 -- they are read by parts
 abbrev same : (v : tie.After-to-iso8601-expanded-by-arrays)
-    → rowsIn v.before.before.before.before.before.size_of.result (start v).args.t3.months (start v).args.t3.seconds ≡ rows v
-same v = let z = v.before.before.before.before.before in rows_in (start v).args.t3 z.size_of.result z.size_of.ensures
+    → rows_in v.before.before.before.before.before.size_of.result (start v).args.t3.months (start v).args.t3.seconds ≡ rows v
+same v = let z = v.before.before.before.before.before in rows_in_lem (start v).args.t3 z.size_of.result z.size_of.ensures
 
 add-result : tie.Need-overflow-add-result
 add-result c =
@@ -38,7 +38,7 @@ place-date-refused-requires c κs =
     let v = c.before.before.before.before.before.before in
     let st = start v in
     let room = lent_length st.args.dst.now st.args.at (omega (arith, room-low st.args.reporting, st.pre)) in
-    let w = text-refused (rows v) st.args.jd (same v) v.to-iso8601-expanded-by-arrays.ensures _ c.before.before.number.given.1
+    let w = text_refused (rows v) st.args.jd (same v) v.to-iso8601-expanded-by-arrays.ensures _ c.before.before.number.given.1
     (omega (arith, room, room-low st.args.reporting, st.pre)) in
     let k = date-number (rows v) st.args.jd _ w.0 in
     (k.0, k.1, search rules)
@@ -62,7 +62,7 @@ returns-2 c =
     let v = n.before.before.before.before in
     let st = start v in
     let room = lent_length st.args.dst.now st.args.at (omega (arith, room-low st.args.reporting, st.pre)) in
-    let w = text-refused (rows v) st.args.jd (same v) v.to-iso8601-expanded-by-arrays.ensures _ n.number.given.1
+    let w = text_refused (rows v) st.args.jd (same v) v.to-iso8601-expanded-by-arrays.ensures _ n.number.given.1
     (omega (arith, room, room-low st.args.reporting, st.pre)) in
     let p = c.before.before.place-date-refused.ensures in (
       placed-as (sym (ap (shown st.args.reporting st.args.jd) w.0))

@@ -1,25 +1,25 @@
 -- `listing::refused_stamps` meets its contract. The invariant: the first i stamps are counted. The measure is the number of stamps that are left. Assumes
 -- nothing.
 use mathlib.Core.Path.{◌≡◌, refl, ap, ◌∙◌}
-use Prim.Native.Nat.{◌-◌, ◌≤◌, zero-le}
+use Prim.Native.Nat.{◌-◌, ◌≤◌, zero_le}
 use mathlib.Core.List.{List}
 use Rattle.leap_table.specs.rows.Table.{Row}
 use borrow.Author.Rules.{rules}
 use native.Mathlib.Omega.{arith}
-use Rattle.stamps.specs.Listing.{refusedIn}
+use Rattle.stamps.specs.Listing.{refused_in}
 use Rattle.stamps.proofs.Lines.{refused-more}
 use Rattle.stamps.proofs.listing.refused_stamps.Statement.{statement}
 use Rattle.stamps.proofs.listing.refused_stamps.Tie as tie
 
 abbrev invariant-loop : tie.invariant-loop
-invariant-loop block stamps refused₀ i₀ refused i = (i ≤ stamps) × (((rows : List Row) → refused ≡ refusedIn rows block stamps i)) × (refused ≤ i)
+invariant-loop block stamps refused₀ i₀ refused i = (i ≤ stamps) × (((rows : List Row) → refused ≡ refused_in rows block stamps i)) × (refused ≤ i)
 
 abbrev decreases-loop : tie.decreases-loop
 decreases-loop block stamps refused₀ i₀ refused i = stamps - i
 
 loop-holds : tie.Need-loop-init invariant-loop decreases-loop
-unfolding refusedIn
-loop-holds c = (zero-le, (λ rows. refl), zero-le)
+unfolding refused_in
+loop-holds c = (zero_le, (λ rows. refl), zero_le)
 
 stamp-at-requires : tie.Need-stamp-at-requires invariant-loop decreases-loop
 stamp-at-requires c κs = search rules
@@ -48,7 +48,7 @@ returns : tie.Need-returns invariant-loop decreases-loop
 returns c =
     let l = c.before.loop in
     let e : l.i ≡ c.before.before.before.args.stamps = omega arith in
-    λ rows. l.invariant.1 rows ∙ ap (refusedIn rows _ _) e
+    λ rows. l.invariant.1 rows ∙ ap (refused_in rows _ _) e
 
 pub refused-stamps-spec : {M : Type 1} → statement M
 refused-stamps-spec =

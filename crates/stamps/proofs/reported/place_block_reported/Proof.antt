@@ -1,7 +1,7 @@
 -- `reported::place_block_reported` meets its contract, by either way of reporting. Assumes nothing.
 use native.Mathlib.Omega.{arith}
 use Rattle.numerals.proofs.digits.Places.{placed-as}
-use Rattle.stamps.proofs.Reportings.{numbers-room, numbers-reported, sentences-room, sentences-reported, block-values, block-width}
+use Rattle.stamps.proofs.Reportings.{numbers-room, numbers-reported, sentences_room, sentences_reported, block-values, block-width}
 use borrow.Author.Rules.{rules}
 use Rattle.stamps.proofs.reported.place_block_reported.Statement.{statement}
 use Rattle.stamps.proofs.reported.place_block_reported.Tie as tie
@@ -17,7 +17,7 @@ place-sentence-requires c κs =
       st.requires.0,
       st.requires.1,
       block-width _ _ _ (search rules) (search rules) (search rules),
-      omega (arith, sentences-room st.args.reporting _ c.before.before.before.before.reporting.given.1, st.requires.2),
+      omega (arith, sentences_room st.args.reporting _ c.before.before.before.before.reporting.given.1, st.requires.2),
     )
 
 returns : tie.Need-returns
@@ -35,7 +35,7 @@ returns-2 c =
     let p = c.before.before.place-sentence.ensures in
     let v = block-values st.args.reporting _ e st.args.block.now _ _ c.before.before.before.before.before.u32-at.ensures
     c.before.before.before.before.u32-at2.ensures in
-    (placed-as (sentences-reported st.args.reporting _ e st.args.number _ _ v) p.0, omega (arith, p.1, sentences-room st.args.reporting _ e))
+    (placed-as (sentences_reported st.args.reporting _ e st.args.number _ _ v) p.0, omega (arith, p.1, sentences_room st.args.reporting _ e))
 
 pub place-block-reported-spec : {M : Type 1} → statement M
 place-block-reported-spec =

@@ -4,7 +4,7 @@ use native.Mathlib.Omega.{arith}
 use Rattle.numerals.proofs.digits.Places.{placed-as}
 use Rattle.reasons.specs.Widths.{OfWidth}
 use Rattle.stamps.proofs.Texts.{refused-wide}
-use Rattle.stamps.proofs.Reportings.{numbers-room, numbers-reported, sentences-room, sentences-reported}
+use Rattle.stamps.proofs.Reportings.{numbers-room, numbers-reported, sentences_room, sentences_reported}
 use borrow.Author.Rules.{rules}
 use Rattle.stamps.proofs.reported.place_date_refused.Statement.{statement}
 use Rattle.stamps.proofs.reported.place_date_refused.Tie as tie
@@ -20,7 +20,7 @@ place-sentence-requires c κs =
       st.requires.0,
       st.requires.1,
       subst OfWidth (sym c.before.refused-values.ensures) (refused-wide st.args.jd),
-      omega (arith, sentences-room st.args.reporting _ c.before.before.enum-told2.given.1, st.requires.2),
+      omega (arith, sentences_room st.args.reporting _ c.before.before.enum-told2.given.1, st.requires.2),
     )
 
 returns : tie.Need-returns
@@ -35,8 +35,8 @@ returns-2 c =
     let st = c.before.before.before.before.before.before.before.before in
     let e = c.before.before.before.before.before.enum-told2.given.1 in
     let p = c.before.before.place-sentence.ensures in (
-      placed-as (sentences-reported st.args.reporting _ e st.args.number _ _ c.before.before.before.before.refused-values.ensures) p.0,
-      omega (arith, p.1, sentences-room st.args.reporting _ e),
+      placed-as (sentences_reported st.args.reporting _ e st.args.number _ _ c.before.before.before.before.refused-values.ensures) p.0,
+      omega (arith, p.1, sentences_room st.args.reporting _ e),
     )
 
 pub place-date-refused-spec : {M : Type 1} → statement M

@@ -1,14 +1,14 @@
 -- `reported::refused_values` meets its contract: the date where there is a day, and else the parts. Assumes nothing.
-use Rattle.stamps.proofs.Reportings.{month-fits, day-fits, date-values, parts-values}
+use Rattle.stamps.proofs.Reportings.{month_fits, day_fits, date-values, parts-values}
 use borrow.Author.Rules.{rules}
 use Rattle.stamps.proofs.reported.refused_values.Statement.{statement}
 use Rattle.stamps.proofs.reported.refused_values.Tie as tie
 
 cast-t6 : tie.Need-overflow-cast-t6
-cast-t6 c = month-fits _ _ c.before.before.before.before.before.julian-to-calendar.ensures _ c.before.before.before.found.given.1
+cast-t6 c = month_fits _ _ c.before.before.before.before.before.julian-to-calendar.ensures _ c.before.before.before.found.given.1
 
 cast-t7 : tie.Need-overflow-cast-t7
-cast-t7 c = day-fits _ _ c.before.before.before.before.before.before.julian-to-calendar.ensures _ c.before.before.before.before.found.given.1
+cast-t7 c = day_fits _ _ c.before.before.before.before.before.before.julian-to-calendar.ensures _ c.before.before.before.before.found.given.1
 
 returns : tie.Need-returns
 returns c = date-values _ _ c.before.before.before.before.before.before.before.julian-to-calendar.ensures _

@@ -4,13 +4,13 @@ use mathlib.Core.Path.{◌≡◌}
 use mathlib.Core.Bool.{true}
 use Prim.Native.Nat.{◌-◌, ◌≤◌}
 use Rattle.ticks.specs.judging.Refusing.{number_at}
-use Rattle.ticks.specs.judging.Numbers.{holdsBelow}
+use Rattle.ticks.specs.judging.Numbers.{holds_below}
 use Rattle.ticks.proofs.judging.Checks.{none_yet, step, rising-more, rising-stops, rising-ends}
 use Rattle.ticks.proofs.judging.all_rising.Statement.{statement}
 use Rattle.ticks.proofs.judging.all_rising.Tie as tie
 
 abbrev invariant-loop : tie.invariant-loop
-invariant-loop s n last before₀ i₀ before i = (i ≤ n - 1) × (holdsBelow i (step (number_at s)) ≡ true) × (before ≡ number_at s i)
+invariant-loop s n last before₀ i₀ before i = (i ≤ n - 1) × (holds_below i (step (number_at s)) ≡ true) × (before ≡ number_at s i)
 
 abbrev decreases-loop : tie.decreases-loop
 decreases-loop s n last before₀ i₀ before i = n - 1 - i

@@ -4,13 +4,13 @@ use mathlib.Core.Path.{◌≡◌}
 use mathlib.Core.Bool.{true}
 use Prim.Native.Nat.{◌-◌, ◌≤◌}
 use Rattle.ticks.specs.judging.Refusing.{number_at}
-use Rattle.ticks.specs.judging.Numbers.{holdsBelow}
+use Rattle.ticks.specs.judging.Numbers.{holds_below}
 use Rattle.ticks.proofs.judging.Checks.{none_yet, below, small-more, small-stops, small-ends}
 use Rattle.ticks.proofs.judging.all_small.Statement.{statement}
 use Rattle.ticks.proofs.judging.all_small.Tie as tie
 
 abbrev invariant-loop : tie.invariant-loop
-invariant-loop s n i₀ i = (i ≤ n) × (holdsBelow i (below (number_at s)) ≡ true)
+invariant-loop s n i₀ i = (i ≤ n) × (holds_below i (below (number_at s)) ≡ true)
 
 abbrev decreases-loop : tie.decreases-loop
 decreases-loop s n i₀ i = n - i

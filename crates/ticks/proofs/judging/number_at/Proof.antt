@@ -3,8 +3,8 @@ use Prim.Native.Nat.{ℕ, ◌+◌, ◌-◌, ◌*◌}
 use native.Mathlib.Omega.{arith}
 use mathlib.Core.Path.{◌≡◌, ap, ◌∙◌}
 use lib.ListN.{take, drop}
-use Rattle.numerals.specs.little_endian.LittleEndian.{u64At}
-use Rattle.numerals.proofs.little_endian.Parts.{eight-in-part}
+use Rattle.numerals.specs.little_endian.LittleEndian.{u64_at}
+use Rattle.numerals.proofs.little_endian.Parts.{eight_in_part}
 use borrow.Author.Rules.{rules}
 use Rattle.ticks.proofs.judging.number_at.Statement.{statement}
 use Rattle.ticks.proofs.judging.number_at.Tie as tie
@@ -15,7 +15,7 @@ returns c =
     let l = s.args.s.now in
     let i = s.args.i in
     let e : 8 * i + 8 - 8 * i ≡ 8 = omega arith in
-    c.u64-at.ensures ∙ ap (λ (n : ℕ). u64At (take n (drop (8 * i) l)) 0) e ∙ eight-in-part l (8 * i) s.requires
+    c.u64-at.ensures ∙ ap (λ (n : ℕ). u64_at (take n (drop (8 * i) l)) 0) e ∙ eight_in_part l (8 * i) s.requires
 
 pub number-at-spec : {M : Type 1} → statement M
 number-at-spec =

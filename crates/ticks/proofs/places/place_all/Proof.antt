@@ -4,32 +4,32 @@ use native.Mathlib.Omega.{arith}
 use mathlib.Core.Path.{◌∙◌}
 use mathlib.Core.Logic.{⊎_elim}
 use borrow.Author.Tests.{eq-eqb, ne_eqb}
-use Rattle.ticks.specs.Ticks.{passesOf}
-use Rattle.ticks.specs.places.Places.{placedReading, readingAt}
-use Rattle.ticks.proofs.places.Puts.{Putting, putting-starts, putting-goes, putting-ends}
+use Rattle.ticks.specs.Ticks.{passes_of}
+use Rattle.ticks.specs.places.Places.{placed_reading, reading_at}
+use Rattle.ticks.proofs.places.Puts.{Putting, putting_starts, putting_goes, putting_ends}
 use Rattle.ticks.proofs.places.place_all.Statement.{statement}
 use Rattle.ticks.proofs.places.place_all.Tie as tie
 
 abbrev invariant-loop : tie.invariant-loop
 invariant-loop passes places k millis n out₀ numbers₀ first last without₀ j₀ i₀ out numbers without j i =
-    Putting (readingAt passes places millis numbers₀) n k out₀ numbers₀ out numbers without j i
+    Putting (reading_at passes places millis numbers₀) n k out₀ numbers₀ out numbers without j i
 
 abbrev decreases-loop : tie.decreases-loop
 decreases-loop passes places k millis n out₀ numbers₀ first last without₀ j₀ i₀ out numbers without j i = n - i
 
 number-at-requires : tie.Need-number-at-requires invariant-loop decreases-loop
-number-at-requires c κs = omega (arith, c.before.before.before.before.before.requires.passes.ticks-there)
+number-at-requires c κs = omega (arith, c.before.before.before.before.before.requires.passes.ticks_there)
 
 add-number-at : tie.Need-overflow-add-number-at invariant-loop decreases-loop
 add-number-at c = record { fits = omega (arith, c.before.before.before.before.before.before.requires.passes.few) }
 
 number-at-requires-2 : tie.Need-number-at-requires-2 invariant-loop decreases-loop
-number-at-requires-2 c κs = omega (arith, c.before.before.before.before.before.before.requires.passes.ticks-there)
+number-at-requires-2 c κs = omega (arith, c.before.before.before.before.before.before.requires.passes.ticks_there)
 
 loop-holds : tie.Need-loop-init invariant-loop decreases-loop
 loop-holds c =
     let a = c.before.before.before.before.before.before.before.args in
-    putting-starts (readingAt a.passes.now a.places.now a.millis.now a.numbers.now) a.n a.k a.out.now a.numbers.now
+    putting_starts (reading_at a.passes.now a.places.now a.millis.now a.numbers.now) a.n a.k a.out.now a.numbers.now
 
 number-at-requires-3 : tie.Need-number-at-requires-3 invariant-loop decreases-loop
 number-at-requires-3 c κs = omega (arith, c.loop-test.true, c.before.before.before.before.before.before.before.before.before.requires.there)
@@ -38,7 +38,7 @@ slice-read-place-reading : tie.Need-slice-read-place-reading invariant-loop decr
 slice-read-place-reading c =
     let l = c.before.before.before in
     let s = l.before.before.before.before.before.before.before.before in
-    omega (arith, c.before.before.loop-test.true, l.loop.invariant.ns-length, s.requires.bytes)
+    omega (arith, c.before.before.loop-test.true, l.loop.invariant.ns_length, s.requires.bytes)
 
 place-reading-requires : tie.Need-place-reading-requires invariant-loop decreases-loop
 place-reading-requires c κs =
@@ -56,7 +56,7 @@ slice-write-numbers : tie.Need-slice-write-numbers invariant-loop decreases-loop
 slice-write-numbers c =
     let l = c.before.before.before.before.before.before.before in
     let s = l.before.before.before.before.before.before.before.before in
-    omega (arith, c.before.before.before.before.before.before.loop-test.true, l.loop.invariant.ns-length, s.requires.bytes)
+    omega (arith, c.before.before.before.before.before.before.loop-test.true, l.loop.invariant.ns_length, s.requires.bytes)
 
 add-without : tie.Need-overflow-add-without invariant-loop decreases-loop
 add-without c =
@@ -80,9 +80,9 @@ loop-again c =
     let a = s.args in
     let q = c.before.before.before in
     let m = c.before.before.before.before.before.before.number-at3 in
-    putting-goes (readingAt a.passes.now a.places.now a.millis.now a.numbers.now) a.n a.k a.out.now a.numbers.now l.loop.out
-    l.loop.numbers l.loop.without l.loop.j l.loop.i l.loop.invariant (passesOf a.passes.now a.places.now) m.result
-    (λ x. placedReading (passesOf a.passes.now a.places.now) (l.loop.invariant.number-yet x) (m.ensures x))
+    putting_goes (reading_at a.passes.now a.places.now a.millis.now a.numbers.now) a.n a.k a.out.now a.numbers.now l.loop.out
+    l.loop.numbers l.loop.without l.loop.j l.loop.i l.loop.invariant (passes_of a.passes.now a.places.now) m.result
+    (λ x. placed_reading (passes_of a.passes.now a.places.now) (l.loop.invariant.number-yet x) (m.ensures x))
     _ q.place-reading.result.number q.place-reading.result.near c.if1.without
     c.before.before.before.before.before.before.before.loop-test.true q.place-reading.ensures
     (⊎_elim (λ w. w.1 ∙ rw (ne_eqb _ 0 w.0.taken)) (λ w. w.1 ∙ rw (eq-eqb _ 0 w.0.left) (omega arith)) c.if1.branch)
@@ -91,14 +91,14 @@ same_length : tie.Need-same-length invariant-loop decreases-loop
 same_length c = c.before.loop.invariant.out-length
 
 same-length-2 : tie.Need-same-length-2 invariant-loop decreases-loop
-same-length-2 c = c.before.loop.invariant.ns-length
+same-length-2 c = c.before.loop.invariant.ns_length
 
 returns : tie.Need-returns invariant-loop decreases-loop
 returns c =
     let l = c.before in
     let s = l.before.before.before.before.before.before.before.before in
     let a = s.args in
-    putting-ends (readingAt a.passes.now a.places.now a.millis.now a.numbers.now) a.n a.k a.out.now a.numbers.now l.loop.out
+    putting_ends (reading_at a.passes.now a.places.now a.millis.now a.numbers.now) a.n a.k a.out.now a.numbers.now l.loop.out
     l.loop.numbers l.loop.without l.loop.j l.loop.i l.loop.invariant c.loop-test.false
 
 pub place-all-spec : {M : Type 1} → statement M

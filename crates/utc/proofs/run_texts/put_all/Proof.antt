@@ -5,37 +5,37 @@ use mathlib.Core.List.{List}
 use borrow.Author.Rules.{rules}
 use Rattle.refusals.specs.Outcome.{Outcome}
 use Rattle.leap_table.specs.rows.Table.{Row}
-use Rattle.leap_table.specs.rows.Announced.{rowsIn}
-use Rattle.utc.specs.iso_texts.Named.{formNamed}
-use Rattle.utc.specs.run_texts.RunTexts.{stampText}
+use Rattle.leap_table.specs.rows.Announced.{rows_in}
+use Rattle.utc.specs.iso_texts.Named.{form_named}
+use Rattle.utc.specs.run_texts.RunTexts.{stamp_text}
 use Rattle.utc.specs.run_texts.Kept.{RightKept}
 use Rattle.utc.proofs.run_texts.KeptDays.{no_end}
-use Rattle.utc.proofs.run_texts.Puts.{Putting, putting-starts, len1, len2, len3, few, putting-goes, putting-ends}
+use Rattle.utc.proofs.run_texts.Puts.{Putting, putting_starts, len1, len2, len3, few, putting_goes, putting_ends}
 use Rattle.utc.proofs.run_texts.put_all.Statement.{statement}
 use Rattle.utc.proofs.run_texts.put_all.Tie as tie
 
 abbrev invariant-loop : tie.invariant-loop
 invariant-loop textForm jd1s jd2s n size months seconds texts₀ lengths₀ numbers₀ refused₀ kept₀ i₀ texts lengths numbers refused kept i =
-    Putting (stampText (formNamed textForm) (rowsIn size months seconds) jd1s jd2s) n texts₀ lengths₀ numbers₀ texts lengths numbers refused i
-    × RightKept (rowsIn size months seconds) kept
+    Putting (stamp_text (form_named textForm) (rows_in size months seconds) jd1s jd2s) n texts₀ lengths₀ numbers₀ texts lengths numbers refused i
+    × RightKept (rows_in size months seconds) kept
 
 abbrev decreases-loop : tie.decreases-loop
 decreases-loop textForm jd1s jd2s n size months seconds texts₀ lengths₀ numbers₀ refused₀ kept₀ i₀ texts lengths numbers refused kept i = n - i
 
 -- the text of each stamp
 abbrev answers : tie.Start invariant-loop decreases-loop → ℕ → Outcome (List ℕ)
-answers s = let a = s.args in stampText (formNamed a.textForm) (rowsIn a.size a.months.now a.seconds.now) a.jd1s.now a.jd2s.now
+answers s = let a = s.args in stamp_text (form_named a.textForm) (rows_in a.size a.months.now a.seconds.now) a.jd1s.now a.jd2s.now
 
 -- the rows that are read
 abbrev rows : tie.Start invariant-loop decreases-loop → List Row
-rows s = rowsIn s.args.size s.args.months.now s.args.seconds.now
+rows s = rows_in s.args.size s.args.months.now s.args.seconds.now
 
 loop-holds : tie.Need-loop-init invariant-loop decreases-loop
 unfolding RightKept
 loop-holds c =
     let s = c.before.before.before.before.before.before in
     let a = s.args in
-    (putting-starts (answers s) a.n a.texts.now a.lengths.now a.numbers.now, (λ l. absurd (no_end _ c.no-day.ensures l)))
+    (putting_starts (answers s) a.n a.texts.now a.lengths.now a.numbers.now, (λ l. absurd (no_end _ c.no_day.ensures l)))
 
 put-stamp-requires : tie.Need-put-stamp-requires invariant-loop decreases-loop
 put-stamp-requires c κs =
@@ -85,7 +85,7 @@ loop-again c =
     let test = at-put-stamp.before.before in
     let l = test.before in
     let s = l.before.before.before.before.before.before.before in (
-      putting-goes (answers s) _ _ _ _ _ _ _ _ _ l.loop.invariant.0 _ _ _ test.loop-test.true at-put-stamp.put-stamp.ensures.0
+      putting_goes (answers s) _ _ _ _ _ _ _ _ _ l.loop.invariant.0 _ _ _ test.loop-test.true at-put-stamp.put-stamp.ensures.0
           c.one-if-refused.ensures.0,
       at-put-stamp.put-stamp.ensures.1,
     )
@@ -112,7 +112,7 @@ returns : tie.Need-returns invariant-loop decreases-loop
 returns c =
     let l = c.before in
     let s = l.before.before.before.before.before.before.before in
-    putting-ends (answers s) _ _ _ _ _ _ _ _ _ l.loop.invariant.0 (omega (arith, c.loop-test.false))
+    putting_ends (answers s) _ _ _ _ _ _ _ _ _ l.loop.invariant.0 (omega (arith, c.loop-test.false))
 
 pub put-all-spec : {M : Type 1} → statement M
 put-all-spec =

@@ -4,7 +4,7 @@ use native.Mathlib.Omega.{arith}
 use mathlib.Core.Path.{subst}
 use mathlib.Core.Bool.{Bool}
 use borrow.Rule.Slice.PartMut.{mid_of}
-use Rattle.leap_table.specs.rows.Announced.{rowsIn}
+use Rattle.leap_table.specs.rows.Announced.{rows_in}
 use Rattle.utc.specs.run_texts.Kept.{PutsByDay}
 use Rattle.utc.proofs.run_texts.KeptDays.{short-beside}
 use Rattle.utc.proofs.run_texts.Puts.{part_room, part-unchanged, stamp-placed, stamp-placed-again}
@@ -21,7 +21,7 @@ returns c =
     let s = d.before.before.before.before in
     let a = s.args in
     let size = 27 * a.i + 27 - 27 * a.i in
-    let rows = rowsIn a.size a.months.now a.seconds.now in (
+    let rows = rows_in a.size a.months.now a.seconds.now in (
       stamp-placed a.textForm rows a.jd1s.now a.jd2s.now a.texts.now a.i size d.stamp-of.result _ _ (omega arith)
           d.stamp-of.ensures s.requires.0
           (short-beside _ _ _ (part_room a.texts.now (27 * a.i) size (omega arith) s.requires.0)
@@ -42,7 +42,7 @@ returns-2 c =
     let s = d.before.before.before.before in
     let a = s.args in
     let size = 27 * a.i + 27 - 27 * a.i in
-    let rows = rowsIn a.size a.months.now a.seconds.now in (
+    let rows = rows_in a.size a.months.now a.seconds.now in (
       stamp-placed-again a.textForm rows a.jd1s.now a.jd2s.now a.texts.now _ a.i size d.stamp-of.result _ _
           (omega arith) d.stamp-of.ensures s.requires.0
           (part-unchanged a.texts.now (27 * a.i) size _ (omega arith)

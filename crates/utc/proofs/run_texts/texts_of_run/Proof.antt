@@ -3,9 +3,9 @@ use mathlib.Core.Path.{ap, ◌∙◌}
 use mathlib.Core.List.{List}
 use Rattle.leap_table.specs.rows.Table.{Row}
 use Rattle.leap_table.specs.rows.Announced.{rows_of, table_of}
-use Rattle.leap_table.proofs.rows.ByParts.{rows_in}
-use Rattle.utc.specs.iso_texts.Named.{formNamed}
-use Rattle.utc.specs.run_texts.RunTexts.{textsBy}
+use Rattle.leap_table.proofs.rows.ByParts.{rows_in_lem}
+use Rattle.utc.specs.iso_texts.Named.{form_named}
+use Rattle.utc.specs.run_texts.RunTexts.{texts_by}
 use Rattle.utc.proofs.run_texts.Calls.{table-refused, table_taken}
 use borrow.Author.Rules.{rules}
 use Rattle.utc.proofs.run_texts.texts_of_run.Statement.{statement}
@@ -15,7 +15,7 @@ returns : tie.Need-returns
 returns c =
     let a = c.before.before.before.before.before.before.before.args in
     let q = c.before in
-    table-refused (table_of a.t4) (rows_of a.t4) q.table-refusal.result q.table-refusal.ensures (formNamed a.textForm) a.jd1s.now
+    table-refused (table_of a.t4) (rows_of a.t4) q.table-refusal.result q.table-refusal.ensures (form_named a.textForm) a.jd1s.now
     a.jd2s.now a.texts.now a.lengths.now a.numbers.now c.if1.true
 
 returns-2 : tie.Need-returns-2
@@ -26,9 +26,9 @@ returns-2 c =
     let q = at-if1.before in
     let a = q.before.before.before.before.before.before.args in
     at-texts.texts-of-run-by-arrays.ensures
-    ∙ ap (λ (l : List Row). textsBy (formNamed a.textForm) l a.jd1s.now a.jd2s.now a.texts.now a.lengths.now a.numbers.now)
-    (rows_in a.t4 z.size_of.result z.size_of.ensures)
-    ∙ table_taken (table_of a.t4) (rows_of a.t4) q.table-refusal.result q.table-refusal.ensures (formNamed a.textForm) a.jd1s.now
+    ∙ ap (λ (l : List Row). texts_by (form_named a.textForm) l a.jd1s.now a.jd2s.now a.texts.now a.lengths.now a.numbers.now)
+    (rows_in_lem a.t4 z.size_of.result z.size_of.ensures)
+    ∙ table_taken (table_of a.t4) (rows_of a.t4) q.table-refusal.result q.table-refusal.ensures (form_named a.textForm) a.jd1s.now
     a.jd2s.now a.texts.now a.lengths.now a.numbers.now at-if1.if1.false
 
 pub texts-of-run-spec : {M : Type 1} → statement M

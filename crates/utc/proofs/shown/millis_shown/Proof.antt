@@ -2,14 +2,14 @@
 use mathlib.Core.Path.{ap, ◌∙◌}
 use mir.Syntax.{w64}
 use mir.Facts.{to_z-of_z}
-use Rattle.time_of_day.specs.TimeShown.{fromZero, countBy}
+use Rattle.time_of_day.specs.TimeShown.{from_zero, count_by}
 use borrow.Author.Rules.{rules}
 use Rattle.utc.proofs.shown.millis_shown.Statement.{statement}
 use Rattle.utc.proofs.shown.millis_shown.Tie as tie
 
 returns : tie.Need-returns
-unfolding countBy
-returns c = c.from_zero.ensures ∙ ap fromZero
+unfolding count_by
+returns c = c.from_zero.ensures ∙ ap from_zero
     (to_z-of_z {w = w64} {z = c.before.milliseconds.result} (record { sfits = c.before.milliseconds.type-inv }) ∙ c.before.milliseconds.ensures)
 
 pub millis-shown-spec : {M : Type 1} → statement M

@@ -4,18 +4,18 @@ use lib.Ieee.{Float, binary64, mul, to_signed}
 use mir.Facts.{to_z-of_z}
 use mir.Syntax.{w64}
 use borrow.Author.Rules.{rules}
-use Rattle.floats.specs.Whole.{toWhole, away}
-use Rattle.time_of_day.specs.Milliseconds.{millisOf, thousand-f}
+use Rattle.floats.specs.Whole.{to_whole, away}
+use Rattle.time_of_day.specs.Milliseconds.{millis_of, thousand_f}
 use Rattle.utc.proofs.shown.milliseconds.Statement.{statement}
 use Rattle.utc.proofs.shown.milliseconds.Tie as tie
 
 returns : tie.Need-returns
-unfolding millisOf
+unfolding millis_of
 returns c =
     to_z-of_z {w = w64} {z = c.saturating-i64.result} (record { sfits = c.saturating-i64.type-inv })
     ∙ c.saturating-i64.ensures
     ∙ ap (λ (x : Float). to_signed 63 x) c.before.round.ensures
-    ∙ ap (λ (x : Float). to_signed 63 (toWhole away (mul binary64 thousand-f x))) c.before.before.seconds.ensures
+    ∙ ap (λ (x : Float). to_signed 63 (to_whole away (mul binary64 thousand_f x))) c.before.before.seconds.ensures
 
 pub milliseconds-spec : {M : Type 1} → statement M
 milliseconds-spec = tie.close (tie.spec (λ c κs. search rules) (λ c κs. search rules) (λ c κs. search rules) returns)

@@ -1,11 +1,11 @@
 -- `utc::shown::seconds` meets its contract: it is the definition. Assumes nothing.
 use mathlib.Core.Path.{refl}
-use Rattle.time_of_day.specs.Milliseconds.{fractionSeconds}
+use Rattle.time_of_day.specs.Milliseconds.{fraction_seconds}
 use Rattle.utc.proofs.shown.seconds.Statement.{statement}
 use Rattle.utc.proofs.shown.seconds.Tie as tie
 
 returns : tie.Need-returns
-unfolding fractionSeconds
+unfolding fraction_seconds
 returns c = refl
 
 pub seconds-spec : {M : Type 1} → statement M

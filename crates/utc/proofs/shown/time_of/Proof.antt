@@ -3,7 +3,7 @@ use mathlib.Core.Path.{ap}
 use Prim.Native.Nat.{ℕ, ◌-◌, ◌*◌, ◌/◌, ◌%◌}
 use borrow.Author.Rules.{rules}
 use Rattle.time_of_day.specs.declared.TimeOfDay.{TimeOfDay}
-use Rattle.time_of_day.specs.TimeShown.{timeOf}
+use Rattle.time_of_day.specs.TimeShown.{time_of}
 use Rattle.utc.proofs.shown.time_of.Statement.{statement}
 use Rattle.utc.proofs.shown.time_of.Tie as tie
 
@@ -11,7 +11,7 @@ abbrev with-minute : ℕ → ℕ → TimeOfDay
 with-minute k m = record { hour = m / 60; minute = m % 60; second = (k - m * 60000) / 1000; milli = (k - m * 60000) % 1000 }
 
 returns : tie.Need-returns
-unfolding timeOf
+unfolding time_of
 returns c = ap (λ (m : ℕ). with-minute c.before.args.millis m) c.minute-of-day.ensures
 
 pub time-of-spec : {M : Type 1} → statement M

@@ -4,13 +4,13 @@ use mathlib.Core.Bool.{Bool, true, false, cond}
 use lib.Ieee.{Float, lt, of_bits}
 use borrow.Author.Rules.{rules}
 use Rattle.floats.specs.Whole.{abs, nought, half}
-use Rattle.time_of_day.specs.Milliseconds.{wholeLeap}
+use Rattle.time_of_day.specs.Milliseconds.{whole_leap}
 use Rattle.utc.proofs.shown.whole_leap.Statement.{statement}
 use Rattle.utc.proofs.shown.whole_leap.Tie as tie
 
 -- what the test saw is what the definition tests
-picks : (b : Bool) (x r : Float) → r ≡ abs x → lt half r ≡ b → cond b x nought ≡ wholeLeap x
-unfolding wholeLeap
+picks : (b : Bool) (x r : Float) → r ≡ abs x → lt half r ≡ b → cond b x nought ≡ whole_leap x
+unfolding whole_leap
 picks b x r e t = ap (λ (z : Bool). cond z x nought) (sym t ∙ ap (λ (v : Float). lt half v) e)
 
 returns : tie.Need-returns

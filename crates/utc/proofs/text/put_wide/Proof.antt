@@ -2,7 +2,7 @@
 use mathlib.Core.List.{◌++◌}
 use native.Mathlib.Omega.{arith}
 use borrow.Author.Rules.{rules}
-use Rattle.utc.specs.text.Text.{afterYear}
+use Rattle.utc.specs.text.Text.{after_year}
 use Rattle.utc.specs.text.Layout.{signed}
 use Rattle.utc.proofs.text.Laws.{short, put-done, source, wide-length}
 use Rattle.utc.proofs.text.put_wide.Statement.{statement}
@@ -11,14 +11,14 @@ use Rattle.utc.proofs.text.put_wide.Tie as tie
 returns : tie.Need-returns
 returns c =
     let a = c.before.before.before.before.before.before.args in
-    short (signed a.negative a.size ++ afterYear a.date a.time) a.out.now
+    short (signed a.negative a.size ++ after_year a.date a.time) a.out.now
     (omega (arith, wide-length a.size a.date a.time a.negative))
 
 returns-2 : tie.Need-returns-2
 returns-2 c =
     let b = c.before.before.before.before.before.before.before in
     let a = b.before.before.before.before.before.args in
-    put-done _ (signed a.negative a.size ++ afterYear a.date a.time) a.out.now _ _
+    put-done _ (signed a.negative a.size ++ after_year a.date a.time) a.out.now _ _
     (source a.size a.date a.time a.negative _ _ _ _
     b.before.before.before.third.ensures b.before.before.fourth.ensures b.skipped.ensures.0 b.before.wide-bytes.ensures)
     c.before.before.copy.ensures.0

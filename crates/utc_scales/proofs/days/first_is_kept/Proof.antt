@@ -1,11 +1,11 @@
 -- `utc_scales::days::first_is_kept` meets its contract. Assumes nothing.
-use Rattle.utc_scales.specs.days.LargerPart.{firstIsKept}
+use Rattle.utc_scales.specs.days.LargerPart.{first_is_kept}
 use borrow.Author.Rules.{rules}
 use Rattle.utc_scales.proofs.days.first_is_kept.Statement.{statement}
 use Rattle.utc_scales.proofs.days.first_is_kept.Tie as tie
 
 returns : tie.Need-returns
-unfolding firstIsKept
+unfolding first_is_kept
 returns c = c.at-least-in-size.ensures
 
 pub first-is-kept-spec : {M : Type 1} → statement M

@@ -2,13 +2,13 @@
 use mathlib.Core.Path.{ap, ◌∙◌}
 use mir.Facts.{to_z-of_z}
 use Rattle.floats.specs.Whole.{nought}
-use Rattle.calendar.specs.Gregorian.{gregorianDate}
-use Rattle.leap_table.specs.offsets.Rule.{offsetByRule}
+use Rattle.calendar.specs.Gregorian.{gregorian_date}
+use Rattle.leap_table.specs.offsets.Rule.{offset_by_rule}
 use Rattle.leap_table.specs.rows.Table.{Row}
-use Rattle.leap_table.specs.rows.Announced.{rowsIn}
-use Rattle.utc_scales.specs.days.Dates.{offsetAt0h}
-use Rattle.utc_scales.specs.days.DateRule.{ruleOn}
-use Rattle.utc_scales.proofs.days.Midnights.{month-fits, day-of-month-fits, handed}
+use Rattle.leap_table.specs.rows.Announced.{rows_in}
+use Rattle.utc_scales.specs.days.Dates.{offset_at0h}
+use Rattle.utc_scales.specs.days.DateRule.{rule_on}
+use Rattle.utc_scales.proofs.days.Midnights.{month_fits, day-of-month-fits, handed}
 use mathlib.Core.List.{List}
 use borrow.Author.Rules.{rules}
 use Rattle.utc_scales.proofs.days.offset_at_0h.Statement.{statement}
@@ -16,21 +16,21 @@ use Rattle.utc_scales.proofs.days.offset_at_0h.Tie as tie
 
 -- the rows that are read
 abbrev rows : tie.Start → List Row
-rows s = rowsIn s.args.size s.args.months.now s.args.seconds.now
+rows s = rows_in s.args.size s.args.months.now s.args.seconds.now
 
 cast-offset-at-0h-by-arrays : tie.Need-overflow-cast-offset-at-0h-by-arrays
-cast-offset-at-0h-by-arrays c = month-fits _ _ (c.before.gregorian-date.ensures ∙ ap gregorianDate (to_z-of_z c.before.before.ranges.day))
+cast-offset-at-0h-by-arrays c = month_fits _ _ (c.before.gregorian-date.ensures ∙ ap gregorian_date (to_z-of_z c.before.before.ranges.day))
 
 cast-offset-at-0h-by-arrays-2 : tie.Need-overflow-cast-offset-at-0h-by-arrays-2
 cast-offset-at-0h-by-arrays-2 c =
-    day-of-month-fits _ _ (c.before.before.gregorian-date.ensures ∙ ap gregorianDate (to_z-of_z c.before.before.before.ranges.day))
+    day-of-month-fits _ _ (c.before.before.gregorian-date.ensures ∙ ap gregorian_date (to_z-of_z c.before.before.before.ranges.day))
 
 returns : tie.Need-returns
-unfolding offsetAt0h ruleOn offsetByRule
+unfolding offset_at0h rule_on offset_by_rule
 returns c = c.offset-at-0h-by-arrays.ensures
     ∙ handed _ _ (c.before.before.before.before.gregorian-date.ensures
-    ∙ ap gregorianDate (to_z-of_z c.before.before.before.before.before.ranges.day))
-    (λ y m d. offsetByRule (rows c.before.before.before.before.before) y m d nought) (record { sfits = c.before.struct_told.given.0.1 })
+    ∙ ap gregorian_date (to_z-of_z c.before.before.before.before.before.ranges.day))
+    (λ y m d. offset_by_rule (rows c.before.before.before.before.before) y m d nought) (record { sfits = c.before.struct_told.given.0.1 })
 
 pub offset-at-0h-spec : {M : Type 1} → statement M
 offset-at-0h-spec =

@@ -1,11 +1,11 @@
 -- `utc_scales::from_ut1::near_step` meets its contract. Assumes nothing.
-use Rattle.utc_scales.specs.from_ut1.Ut1Utc.{nearStep}
+use Rattle.utc_scales.specs.from_ut1.Ut1Utc.{near_step}
 use borrow.Author.Rules.{rules}
 use Rattle.utc_scales.proofs.from_ut1.near_step.Statement.{statement}
 use Rattle.utc_scales.proofs.from_ut1.near_step.Tie as tie
 
 returns : tie.Need-returns
-unfolding nearStep
+unfolding near_step
 returns c = cc
 
 pub near-step-spec : {M : Type 1} → statement M

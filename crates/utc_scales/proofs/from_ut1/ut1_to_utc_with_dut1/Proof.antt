@@ -2,16 +2,16 @@
 use mathlib.Core.Path.{ap, ◌∙◌}
 use mathlib.Core.List.{List}
 use Rattle.leap_table.specs.rows.Table.{Row}
-use Rattle.leap_table.proofs.rows.ByParts.{rows_in}
+use Rattle.leap_table.proofs.rows.ByParts.{rows_in_lem}
 use Rattle.leap_table.proofs.rows.TablesTaken.{not_taken, taken}
-use Rattle.scales.specs.Scales.{utcOutcome}
-use Rattle.utc_scales.specs.from_ut1.Ut1Utc.{ut1ToUtc}
+use Rattle.scales.specs.Scales.{utc_outcome}
+use Rattle.utc_scales.specs.from_ut1.Ut1Utc.{ut1_to_utc}
 use borrow.Author.Rules.{rules}
 use Rattle.utc_scales.proofs.from_ut1.ut1_to_utc_with_dut1.Statement.{statement}
 use Rattle.utc_scales.proofs.from_ut1.ut1_to_utc_with_dut1.Tie as tie
 
 returns : tie.Need-returns
-unfolding utcOutcome
+unfolding utc_outcome
 returns c = let r = c.before in not_taken r.before.args.t3 r.table-refusal.result r.table-refusal.ensures _ c.if1.true
 
 returns-2 : tie.Need-returns-2
@@ -20,7 +20,7 @@ returns-2 c =
     let r = z.before.before in
     let s = r.before in
     c.ut1-to-utc-with-dut1-by-arrays.ensures
-    ∙ ap (λ (l : List Row). ut1ToUtc l s.args.ut1.0 s.args.dut1) (rows_in s.args.t3 z.size_of.result z.size_of.ensures)
+    ∙ ap (λ (l : List Row). ut1_to_utc l s.args.ut1.0 s.args.dut1) (rows_in_lem s.args.t3 z.size_of.result z.size_of.ensures)
     ∙ taken s.args.t3 r.table-refusal.result r.table-refusal.ensures _ z.before.if1.false
 
 pub ut1-to-utc-with-dut1-spec : {M : Type 1} → statement M

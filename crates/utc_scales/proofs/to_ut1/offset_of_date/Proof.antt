@@ -2,15 +2,15 @@
 use mathlib.Core.Path.{sym, ap, ◌∙◌}
 use lib.IntN.{ℤ}
 use Rattle.floats.proofs.Laws.{yes}
-use Rattle.calendar.specs.Gregorian.{gregorianDate}
-use Rattle.julian.specs.day_number.Answer.{dayOutcome}
+use Rattle.calendar.specs.Gregorian.{gregorian_date}
+use Rattle.julian.specs.day_number.Answer.{day_outcome}
 use Rattle.julian.proofs.day_number.Ranges.{day-range, day-read}
-use Rattle.leap_table.specs.offsets.Answers.{secondsByRuleOutcome}
-use Rattle.leap_table.specs.offsets.Rule.{withRule}
+use Rattle.leap_table.specs.offsets.Answers.{seconds_by_rule_outcome}
+use Rattle.leap_table.specs.offsets.Rule.{with_rule}
 use Rattle.leap_table.specs.rows.Table.{Row}
-use Rattle.leap_table.specs.rows.Announced.{rowsIn}
-use Rattle.utc_scales.specs.days.Dates.{offsetAt0h}
-use Rattle.utc_scales.specs.days.DateRule.{ruleOn}
+use Rattle.leap_table.specs.rows.Announced.{rows_in}
+use Rattle.utc_scales.specs.days.Dates.{offset_at0h}
+use Rattle.utc_scales.specs.days.DateRule.{rule_on}
 use Rattle.utc_scales.proofs.days.Rules.{offset-by-rule, offset-by-rule-refused}
 use mathlib.Core.List.{List}
 use borrow.Author.Rules.{rules}
@@ -19,23 +19,23 @@ use Rattle.utc_scales.proofs.to_ut1.offset_of_date.Tie as tie
 
 -- the rows that are read
 abbrev rows : tie.Start → List Row
-rows s = rowsIn s.args.size s.args.months.now s.args.seconds.now
+rows s = rows_in s.args.size s.args.months.now s.args.seconds.now
 
 returns : tie.Need-returns
-unfolding secondsByRuleOutcome dayOutcome
+unfolding seconds_by_rule_outcome day_outcome
 returns c = offset-by-rule-refused (rows c.before.before.before.before) _ _ _
-    (sym c.before.before.before.day-number-and-fraction.ensures ∙ ap dayOutcome c.before.number.given.1)
+    (sym c.before.before.before.day-number-and-fraction.ensures ∙ ap day_outcome c.before.number.given.1)
 
 returns-2 : tie.Need-returns-2
-unfolding secondsByRuleOutcome dayOutcome
+unfolding seconds_by_rule_outcome day_outcome
 returns-2 c =
     let d = c.before.before.before in
     let n = d.before.before in
     let s = n.before in
-    let e = sym n.day-number-and-fraction.ensures ∙ ap dayOutcome d.d.given.1 in
-    let r = day-range _ _ (yes s.well-formed.0.1) (yes s.well-formed.1.0.1) _ e in
+    let e = sym n.day-number-and-fraction.ensures ∙ ap day_outcome d.d.given.1 in
+    let r = day-range _ _ (yes s.well_formed.0.1) (yes s.well_formed.1.0.1) _ e in
     c.offset-at-0h.ensures
-    ∙ ap (λ (z : ℤ). withRule (offsetAt0h (rows s) (gregorianDate z)) (ruleOn (rows s) (gregorianDate z))) (day-read _ r)
+    ∙ ap (λ (z : ℤ). with_rule (offset_at0h (rows s) (gregorian_date z)) (rule_on (rows s) (gregorian_date z))) (day-read _ r)
     ∙ offset-by-rule (rows s) _ _ _ e
 
 pub offset-of-date-spec : {M : Type 1} → statement M

@@ -3,9 +3,9 @@ use mathlib.Core.Bool.{true, false}
 use mathlib.Core.Path.{◌∙◌}
 use mathlib.Core.List.{List}
 use Rattle.leap_table.specs.rows.Table.{Row}
-use Rattle.leap_table.specs.rows.Announced.{rowsIn}
-use Rattle.leap_table.specs.offsets.Answers.{secondsByRuleOutcome}
-use Rattle.utc_scales.specs.days.DateRule.{offsetOfDateByRule}
+use Rattle.leap_table.specs.rows.Announced.{rows_in}
+use Rattle.leap_table.specs.offsets.Answers.{seconds_by_rule_outcome}
+use Rattle.utc_scales.specs.days.DateRule.{offset_of_date_by_rule}
 use Rattle.utc_scales.proofs.to_ut1.Steps.{parts-offset}
 use Rattle.utc_scales.proofs.days.Rules.{passed}
 use borrow.Author.Rules.{rules}
@@ -14,11 +14,11 @@ use Rattle.utc_scales.proofs.to_ut1.offset_with.Tie as tie
 
 -- the rows that are read
 abbrev rows : tie.Start → List Row
-rows s = rowsIn s.args.size s.args.months.now s.args.seconds.now
+rows s = rows_in s.args.size s.args.months.now s.args.seconds.now
 
 returns : tie.Need-returns
-unfolding secondsByRuleOutcome offsetOfDateByRule
-returns c = let s = c.before in passed _ _ _ _ s.requires.offset s.requires.by-rule ∙ parts-offset (rows s) s.args.p true c.if1.true
+unfolding seconds_by_rule_outcome offset_of_date_by_rule
+returns c = let s = c.before in passed _ _ _ _ s.requires.offset s.requires.by_rule ∙ parts-offset (rows s) s.args.p true c.if1.true
 
 returns-2 : tie.Need-returns-2
 returns-2 c = c.offset-of-date.ensures ∙ parts-offset (rows c.before.before) _ false c.before.if1.false

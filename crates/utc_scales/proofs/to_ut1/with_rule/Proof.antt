@@ -2,20 +2,20 @@
 use mathlib.Core.Path.{ap, sym}
 use Rattle.refusals.specs.Outcome.{onward}
 use Rattle.scales.specs.declared.Ut1Answer.{Ut1Answer}
-use Rattle.scales.specs.Scales.{ut1Outcome}
-use Rattle.leap_table.specs.offsets.Rule.{withRule}
-use Rattle.utc_scales.specs.to_ut1.ByRule.{ut1ByRuleOutcome}
+use Rattle.scales.specs.Scales.{ut1_outcome}
+use Rattle.leap_table.specs.offsets.Rule.{with_rule}
+use Rattle.utc_scales.specs.to_ut1.ByRule.{ut1_by_rule_outcome}
 use borrow.Author.Rules.{rules}
 use Rattle.utc_scales.proofs.to_ut1.with_rule.Statement.{statement}
 use Rattle.utc_scales.proofs.to_ut1.with_rule.Tie as tie
 
 returns : tie.Need-returns
-unfolding ut1ByRuleOutcome ut1Outcome withRule onward
-returns c = ap (λ (x : Ut1Answer). withRule (ut1Outcome x) c.before.before.before.args.rule) (sym c.before.found.given.1)
+unfolding ut1_by_rule_outcome ut1_outcome with_rule onward
+returns c = ap (λ (x : Ut1Answer). with_rule (ut1_outcome x) c.before.before.before.args.rule) (sym c.before.found.given.1)
 
 returns-2 : tie.Need-returns-2
-unfolding ut1ByRuleOutcome ut1Outcome withRule onward
-returns-2 c = ap (λ (x : Ut1Answer). withRule (ut1Outcome x) c.before.before.before.args.rule) (sym c.before.found2.given.1)
+unfolding ut1_by_rule_outcome ut1_outcome with_rule onward
+returns-2 c = ap (λ (x : Ut1Answer). with_rule (ut1_outcome x) c.before.before.before.args.rule) (sym c.before.found2.given.1)
 
 pub with-rule-spec : {M : Type 1} → statement M
 with-rule-spec = tie.close (tie.spec (λ c. search rules) (λ c. search rules) returns returns-2)

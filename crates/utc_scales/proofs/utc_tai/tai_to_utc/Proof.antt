@@ -2,16 +2,16 @@
 use mathlib.Core.Path.{ap, ◌∙◌}
 use mathlib.Core.List.{List}
 use Rattle.leap_table.specs.rows.Table.{Row}
-use Rattle.leap_table.proofs.rows.ByParts.{rows_in}
+use Rattle.leap_table.proofs.rows.ByParts.{rows_in_lem}
 use Rattle.leap_table.proofs.rows.TablesTaken.{not_taken, taken}
-use Rattle.scales.specs.Scales.{utcOutcome}
-use Rattle.utc_scales.specs.UtcTai.{taiToUtc}
+use Rattle.scales.specs.Scales.{utc_outcome}
+use Rattle.utc_scales.specs.UtcTai.{tai_to_utc}
 use borrow.Author.Rules.{rules}
 use Rattle.utc_scales.proofs.utc_tai.tai_to_utc.Statement.{statement}
 use Rattle.utc_scales.proofs.utc_tai.tai_to_utc.Tie as tie
 
 returns : tie.Need-returns
-unfolding utcOutcome
+unfolding utc_outcome
 returns c = let r = c.before in not_taken r.before.args.t2 r.table-refusal.result r.table-refusal.ensures _ c.if1.true
 
 returns-2 : tie.Need-returns-2
@@ -20,7 +20,7 @@ returns-2 c =
     let r = z.before.before in
     let s = r.before in
     c.tai-to-utc-by-arrays.ensures
-    ∙ ap (λ (l : List Row). taiToUtc l s.args.tai.0) (rows_in s.args.t2 z.size_of.result z.size_of.ensures)
+    ∙ ap (λ (l : List Row). tai_to_utc l s.args.tai.0) (rows_in_lem s.args.t2 z.size_of.result z.size_of.ensures)
     ∙ taken s.args.t2 r.table-refusal.result r.table-refusal.ensures _ z.before.if1.false
 
 pub tai-to-utc-spec : {M : Type 1} → statement M

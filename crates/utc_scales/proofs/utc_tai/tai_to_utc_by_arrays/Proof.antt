@@ -1,10 +1,10 @@
 -- `utc_scales::utc_tai::tai_to_utc_by_arrays` meets its contract. Assumes nothing.
 use mathlib.Core.Path.{sym, ap, ◌∙◌}
-use Rattle.julian.specs.JulianDate.{julianOutcome}
+use Rattle.julian.specs.JulianDate.{julian_outcome}
 use Rattle.leap_table.specs.rows.Table.{Row}
-use Rattle.leap_table.specs.rows.Announced.{rowsIn}
-use Rattle.scales.specs.Scales.{utcOutcome}
-use Rattle.utc_scales.specs.UtcTai.{refineUtcFraction, taiToUtc}
+use Rattle.leap_table.specs.rows.Announced.{rows_in}
+use Rattle.scales.specs.Scales.{utc_outcome}
+use Rattle.utc_scales.specs.UtcTai.{refine_utc_fraction, tai_to_utc}
 use Rattle.utc_scales.proofs.days.Steps.{changes}
 use mathlib.Core.List.{List}
 use borrow.Author.Rules.{rules}
@@ -13,20 +13,20 @@ use Rattle.utc_scales.proofs.utc_tai.tai_to_utc_by_arrays.Tie as tie
 
 -- the rows that are read
 abbrev rows : tie.Start → List Row
-rows s = rowsIn s.args.size s.args.months.now s.args.seconds.now
+rows s = rows_in s.args.size s.args.months.now s.args.seconds.now
 
 returns : tie.Need-returns
-unfolding utcOutcome julianOutcome taiToUtc
-returns c = sym (ap julianOutcome c.before.number.given.1)
+unfolding utc_outcome julian_outcome tai_to_utc
+returns c = sym (ap julian_outcome c.before.number.given.1)
     ∙ (c.before.before.before.placed.ensures
-    ∙ changes (refineUtcFraction (rows c.before.before.before.before.before.before)) _ _ _
+    ∙ changes (refine_utc_fraction (rows c.before.before.before.before.before.before)) _ _ _
     c.before.before.before.before.before.kept-parts.ensures c.before.before.before.before.refine-utc-fraction.ensures)
 
 returns-2 : tie.Need-returns-2
-unfolding utcOutcome julianOutcome taiToUtc
-returns-2 c = sym (ap julianOutcome c.before.jd.given.1)
+unfolding utc_outcome julian_outcome tai_to_utc
+returns-2 c = sym (ap julian_outcome c.before.jd.given.1)
     ∙ (c.before.before.before.placed.ensures
-    ∙ changes (refineUtcFraction (rows c.before.before.before.before.before.before)) _ _ _
+    ∙ changes (refine_utc_fraction (rows c.before.before.before.before.before.before)) _ _ _
     c.before.before.before.before.before.kept-parts.ensures c.before.before.before.before.refine-utc-fraction.ensures)
 
 pub tai-to-utc-by-arrays-spec : {M : Type 1} → statement M

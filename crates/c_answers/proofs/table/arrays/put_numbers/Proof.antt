@@ -7,7 +7,7 @@ use lib.IntN.{pos}
 use lib.ListN.{length, get_or}
 use mir.Syntax.{w32}
 use mir.Facts.{to_z-of_z}
-use Rattle.numerals.specs.little_endian.LittleEndian.{i32At}
+use Rattle.numerals.specs.little_endian.LittleEndian.{i32_at}
 use Rattle.c_answers.proofs.table.Reading.{one-more-read}
 use borrow.Author.Rules.{rules}
 use Rattle.c_answers.proofs.table.arrays.put_numbers.Statement.{statement}
@@ -15,7 +15,7 @@ use Rattle.c_answers.proofs.table.arrays.put_numbers.Tie as tie
 
 abbrev invariant-loop : tie.invariant-loop
 invariant-loop bytes at size numbers₀ i₀ numbers i = (i ≤ size)
-    × (length numbers₀ ≡ 16 → (length numbers ≡ 16) × ((k : ℕ) → k < i → get_or numbers k (pos 0) ≡ i32At bytes (at + 4 * k)))
+    × (length numbers₀ ≡ 16 → (length numbers ≡ 16) × ((k : ℕ) → k < i → get_or numbers k (pos 0) ≡ i32_at bytes (at + 4 * k)))
 
 abbrev decreases-loop : tie.decreases-loop
 decreases-loop bytes at size numbers₀ i₀ numbers i = size - i

@@ -4,10 +4,10 @@ use lib.Ieee.{binary64, div}
 use Rattle.constants.proofs.Bits.{seconds-per-day}
 use Rattle.julian.proofs.shifts.given_offset.days_of.Statement.{statement}
 use Rattle.julian.proofs.shifts.given_offset.days_of.Tie as tie
-use Rattle.julian.specs.shifts.Shifts.{daysOf}
+use Rattle.julian.specs.shifts.Shifts.{days_of}
 
 returns : tie.Need-returns
-unfolding daysOf
+unfolding days_of
 returns c = ap (div binary64 c.args.seconds) seconds-per-day
 
 pub days-of-spec : {M : Type 1} → statement M

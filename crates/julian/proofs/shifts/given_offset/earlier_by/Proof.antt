@@ -4,10 +4,10 @@ use Rattle.julian.proofs.shifts.Outcomes.{moved-alike}
 use borrow.Author.Rules.{rules}
 use Rattle.julian.proofs.shifts.given_offset.earlier_by.Statement.{statement}
 use Rattle.julian.proofs.shifts.given_offset.earlier_by.Tie as tie
-use Rattle.julian.specs.shifts.Shifts.{minus, convertedBy}
+use Rattle.julian.specs.shifts.Shifts.{minus, converted_by}
 
 returns : tie.Need-returns
-unfolding convertedBy
+unfolding converted_by
 returns c = c.earlier.ensures ∙ moved-alike minus c.before.before.finite-both.ensures c.before.days-of.ensures
 
 pub earlier-by-spec : {M : Type 1} → statement M

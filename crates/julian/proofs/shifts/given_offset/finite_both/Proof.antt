@@ -4,10 +4,10 @@ use Rattle.julian.proofs.shifts.Outcomes.{both}
 use borrow.Author.Rules.{rules}
 use Rattle.julian.proofs.shifts.given_offset.finite_both.Statement.{statement}
 use Rattle.julian.proofs.shifts.given_offset.finite_both.Tie as tie
-use Rattle.julian.specs.shifts.Shifts.{finiteBoth}
+use Rattle.julian.specs.shifts.Shifts.{finite_both}
 
 returns : tie.Need-returns
-unfolding finiteBoth
+unfolding finite_both
 returns c = c.first-refusal.ensures
     ∙ both c.before.before.before.args.seconds c.before.before.before.args.jd c.before.before.finite-jd.ensures
     c.before.finite-offset.ensures

@@ -2,16 +2,16 @@
 use mathlib.Core.Path.{ap, ◌∙◌}
 use lib.Ieee.{binary64, add}
 use Rattle.julian.specs.declared.shifts.smaller_part.Parts.{Parts}
-use Rattle.julian.specs.shifts.SmallerPart.{putBack, mapSmallerPart}
+use Rattle.julian.specs.shifts.SmallerPart.{put_back, map_smaller_part}
 use borrow.Author.Rules.{rules}
 use Rattle.julian.proofs.shifts.smaller_part.add_days.Statement.{statement}
 use Rattle.julian.proofs.shifts.smaller_part.add_days.Tie as tie
 use Rattle.julian.specs.shifts.Shifts.{plus}
 
 returns : tie.Need-returns
-unfolding mapSmallerPart plus
+unfolding map_smaller_part plus
 returns c = c.put_back.ensures
-    ∙ ap (λ (p : Parts). putBack c.before.before.before.args.jd (add binary64 p.smaller c.before.before.before.args.days))
+    ∙ ap (λ (p : Parts). put_back c.before.before.before.args.jd (add binary64 p.smaller c.before.before.before.args.days))
     c.before.before.split.ensures
 
 pub add-days-spec : {M : Type 1} → statement M

@@ -1,11 +1,11 @@
 -- `julian::shifts::smaller_part::first_is_larger` meets its contract. Assumes nothing.
-use Rattle.julian.specs.shifts.SmallerPart.{firstIsLarger}
+use Rattle.julian.specs.shifts.SmallerPart.{first_is_larger}
 use borrow.Author.Rules.{rules}
 use Rattle.julian.proofs.shifts.smaller_part.first_is_larger.Statement.{statement}
 use Rattle.julian.proofs.shifts.smaller_part.first_is_larger.Tie as tie
 
 returns : tie.Need-returns
-unfolding firstIsLarger
+unfolding first_is_larger
 returns c = c.larger-in-size.ensures
 
 pub first-is-larger-spec : {M : Type 1} → statement M

@@ -1,7 +1,7 @@
 -- `julian::shifts::smaller_part::later` meets its contract. Assumes nothing.
 use mathlib.Core.Path.{sym, ap, ◌∙◌}
 use Rattle.refusals.specs.Outcome.{answer}
-use Rattle.julian.specs.JulianDate.{julianOutcome}
+use Rattle.julian.specs.JulianDate.{julian_outcome}
 use Rattle.refusals.proofs.Onward.{went, stopped}
 use borrow.Author.Rules.{rules}
 use Rattle.julian.proofs.shifts.smaller_part.later.Statement.{statement}
@@ -9,13 +9,13 @@ use Rattle.julian.proofs.shifts.smaller_part.later.Tie as tie
 use Rattle.julian.specs.shifts.Shifts.{plus, changed}
 
 returns : tie.Need-returns
-unfolding julianOutcome changed
+unfolding julian_outcome changed
 returns c = ap answer c.add-days.ensures
-    ∙ sym (went (changed (plus c.before.before.before.before.args.days)) (ap julianOutcome c.before.before.a.given.1))
+    ∙ sym (went (changed (plus c.before.before.before.before.args.days)) (ap julian_outcome c.before.before.a.given.1))
 
 returns-2 : tie.Need-returns-2
-unfolding julianOutcome
-returns-2 c = sym (stopped (changed (plus c.before.before.before.args.days)) (ap julianOutcome c.before.a2.given.1))
+unfolding julian_outcome
+returns-2 c = sym (stopped (changed (plus c.before.before.before.args.days)) (ap julian_outcome c.before.a2.given.1))
 
 pub later-spec : {M : Type 1} → statement M
 later-spec = tie.close (tie.spec (λ c. search rules) (λ c κs. search rules) (λ c. search rules) returns returns-2)

@@ -2,16 +2,16 @@
 use mathlib.Core.Path.{ap, ◌∙◌}
 use lib.Ieee.{binary64, sub}
 use Rattle.julian.specs.declared.shifts.smaller_part.Parts.{Parts}
-use Rattle.julian.specs.shifts.SmallerPart.{putBack, mapSmallerPart}
+use Rattle.julian.specs.shifts.SmallerPart.{put_back, map_smaller_part}
 use borrow.Author.Rules.{rules}
 use Rattle.julian.proofs.shifts.smaller_part.subtract_days.Statement.{statement}
 use Rattle.julian.proofs.shifts.smaller_part.subtract_days.Tie as tie
 use Rattle.julian.specs.shifts.Shifts.{minus}
 
 returns : tie.Need-returns
-unfolding mapSmallerPart minus
+unfolding map_smaller_part minus
 returns c = c.put_back.ensures
-    ∙ ap (λ (p : Parts). putBack c.before.before.before.args.jd (sub binary64 p.smaller c.before.before.before.args.days))
+    ∙ ap (λ (p : Parts). put_back c.before.before.before.args.jd (sub binary64 p.smaller c.before.before.before.args.days))
     c.before.before.split.ensures
 
 pub subtract-days-spec : {M : Type 1} → statement M

@@ -5,14 +5,14 @@ use lib.ListN.{take}
 use lib.Seq.{get_or-take}
 use lib.Ieee.{round, of_bits}
 use Rattle.leap_table.specs.rows.Table.{fixed, none}
-use Rattle.leap_table.specs.offsets.Offset.{rateOf}
+use Rattle.leap_table.specs.offsets.Offset.{rate_of}
 use Rattle.leap_table.proofs.rows.Rows.{place}
 use Rattle.leap_table.proofs.offsets.fixed_rows.rate_at.Statement.{statement}
 use Rattle.leap_table.proofs.offsets.fixed_rows.rate_at.Tie as tie
 
 returns : tie.Need-returns
-unfolding fixed rateOf round of_bits
-returns c = place rateOf (take 14 fixed) c.args.i c.requires ∙ ap rateOf (get_or-take 14 fixed c.args.i none c.requires)
+unfolding fixed rate_of round of_bits
+returns c = place rate_of (take 14 fixed) c.args.i c.requires ∙ ap rate_of (get_or-take 14 fixed c.args.i none c.requires)
 
 pub rate-at-spec : {M : Type 1} → statement M
 rate-at-spec = tie.close (tie.spec (λ c. search rules) (λ c. search rules) returns)

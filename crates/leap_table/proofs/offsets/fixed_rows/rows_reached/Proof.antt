@@ -6,7 +6,7 @@ use lib.ListN.{length, drop}
 use native.Mathlib.Omega.{arith}
 use borrow.Author.Rules.{rules}
 use Rattle.leap_table.specs.rows.Table.{reached}
-use Rattle.leap_table.proofs.rows.Reached.{found, passed, at-start}
+use Rattle.leap_table.proofs.rows.Reached.{found, passed, at_start}
 use Rattle.leap_table.proofs.offsets.fixed_rows.rows_reached.Statement.{statement}
 use Rattle.leap_table.proofs.offsets.fixed_rows.rows_reached.Tie as tie
 
@@ -53,7 +53,7 @@ loop-again c =
 returns-2 : tie.Need-returns-2 invariant-loop decreases-loop
 returns-2 c =
     let l = c.before in
-    at-start l.before.args.months.now l.loop.i l.before.args.n c.loop-test.false l.loop.invariant.1
+    at_start l.before.args.months.now l.loop.i l.before.args.n c.loop-test.false l.loop.invariant.1
 
 pub rows-reached-spec : {M : Type 1} → statement M
 rows-reached-spec =

@@ -5,14 +5,14 @@ use lib.ListN.{take}
 use lib.Seq.{get_or-take}
 use lib.Ieee.{round, of_bits}
 use Rattle.leap_table.specs.rows.Table.{fixed, none}
-use Rattle.leap_table.specs.offsets.Offset.{secondsOf}
+use Rattle.leap_table.specs.offsets.Offset.{seconds_of}
 use Rattle.leap_table.proofs.rows.Rows.{place}
 use Rattle.leap_table.proofs.offsets.fixed_rows.seconds_at.Statement.{statement}
 use Rattle.leap_table.proofs.offsets.fixed_rows.seconds_at.Tie as tie
 
 returns : tie.Need-returns
-unfolding fixed secondsOf round of_bits
-returns c = place secondsOf (take 14 fixed) c.args.i c.requires ∙ ap secondsOf (get_or-take 14 fixed c.args.i none c.requires)
+unfolding fixed seconds_of round of_bits
+returns c = place seconds_of (take 14 fixed) c.args.i c.requires ∙ ap seconds_of (get_or-take 14 fixed c.args.i none c.requires)
 
 pub seconds-at-spec : {M : Type 1} → statement M
 seconds-at-spec = tie.close (tie.spec (λ c. search rules) (λ c. search rules) returns)

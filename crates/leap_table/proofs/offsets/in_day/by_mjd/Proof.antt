@@ -4,32 +4,32 @@ use native.Mathlib.Omega.{arith}
 use Prim.Native.Nat.{◌<◌}
 use lib.IntN.{nat_abs}
 use Rattle.refusals.specs.Outcome.{answer}
-use Rattle.calendar.specs.DayCount.{mjdOf}
+use Rattle.calendar.specs.DayCount.{mjd_of}
 use Rattle.calendar.proofs.Signs.{to-unsigned, read_back}
 use Rattle.calendar.proofs.Accepted.{Accepted, date-accepted}
 use Rattle.calendar.proofs.Mjd.{mjd-valid}
 use mathlib.Core.List.{List}
 use Rattle.leap_table.specs.rows.Table.{Row, starts, reached}
-use Rattle.leap_table.specs.rows.Announced.{rowsIn}
-use Rattle.leap_table.specs.offsets.Rule.{ruleBy, ruleOf, ruleAt, offsetByRule}
-use Rattle.leap_table.specs.offsets.Answers.{secondsByRuleOutcome}
+use Rattle.leap_table.specs.rows.Announced.{rows_in}
+use Rattle.leap_table.specs.offsets.Rule.{rule_by, rule_of, rule_at, offset_by_rule}
+use Rattle.leap_table.specs.offsets.Answers.{seconds_by_rule_outcome}
 use Rattle.leap_table.proofs.offsets.Month.{read-month}
-use Rattle.leap_table.proofs.offsets.Mjd.{mjd-small, read, float_fits, mjd-is, no-mjd}
-use Rattle.leap_table.proofs.offsets.At.{at-month}
-use Rattle.leap_table.proofs.offsets.Offsets.{date-refused, offset-given}
+use Rattle.leap_table.proofs.offsets.Mjd.{mjd-small, read, float_fits, mjd-is, no_mjd}
+use Rattle.leap_table.proofs.offsets.At.{at_month}
+use Rattle.leap_table.proofs.offsets.Offsets.{date_refused, offset-given}
 use Rattle.leap_table.proofs.rows.ByParts.{few-rows}
-use Rattle.leap_table.proofs.offsets.Rules.{told, not-told}
+use Rattle.leap_table.proofs.offsets.Rules.{told, not_told}
 use borrow.Author.Rules.{rules}
 use Rattle.leap_table.proofs.offsets.in_day.by_mjd.Statement.{statement}
 use Rattle.leap_table.proofs.offsets.in_day.by_mjd.Tie as tie
 
 -- the rows that are read
 abbrev rows : tie.Start → List Row
-rows s = rowsIn s.args.size s.args.months.now s.args.seconds.now
+rows s = rows_in s.args.size s.args.months.now s.args.seconds.now
 
 -- where the date is not refused
 module _ (c : tie.After-known-told2) where
-  mjd : let s = c.before.before.before.before.args in mjdOf s.year s.month s.day ≡ answer c.before.n.given.0.0
+  mjd : let s = c.before.before.before.before.args in mjd_of s.year s.month s.day ≡ answer c.before.n.given.0.0
   mjd =
       let v = c.before.before.before in
       let s = v.before in
@@ -48,7 +48,7 @@ month-number-requires : tie.Need-month-number-requires
 month-number-requires c κs =
     let s = c.before.before.before.before in
     let m = read_back s.args.month s.ranges.month in
-    (omega (arith, m, (ok c).m-low), omega (arith, m, (ok c).m-high))
+    (omega (arith, m, (ok c).m_low), omega (arith, m, (ok c).m_high))
 
 int-to-float-offset-by : tie.Need-int-to-float-offset-by
 int-to-float-offset-by c = let k = c.before.before.before in float_fits k.before.n.given.0.0 (small k)
@@ -64,18 +64,18 @@ rule-by-requires c κs =
     few-rows r.before.before.before.before.before.before.args.size _ r.table-rows-reached.ensures.1
 
 returns : tie.Need-returns
-unfolding secondsByRuleOutcome offsetByRule
+unfolding seconds_by_rule_outcome offset_by_rule
 returns c =
     let v = c.before.before.before in
     let s = v.before in
-    not-told _ _ _
+    not_told _ _ _
     (sym
-    (date-refused _ _ _ _ _ v.before.requires _
-    (no-mjd _ _ _ s.ranges.year s.ranges.month s.ranges.day v.modified-julian-day.result v.modified-julian-day.ensures _
+    (date_refused _ _ _ _ _ v.before.requires _
+    (no_mjd _ _ _ s.ranges.year s.ranges.month s.ranges.day v.modified-julian-day.result v.modified-julian-day.ensures _
     c.before.number.given.1)))
 
 returns-2 : tie.Need-returns-2
-unfolding secondsByRuleOutcome offsetByRule ruleOf ruleAt
+unfolding seconds_by_rule_outcome offset_by_rule rule_of rule_at
 returns-2 c =
     let r = c.before.before.before in
     let k = r.before.before in
@@ -89,9 +89,9 @@ returns-2 c =
     told _ _ _ _
     (ap answer
     (c.before.offset-by.ensures s.args.size m h
-    ∙ at-month _ _ _ _ _ _ e (read _ (small k)))
+    ∙ at_month _ _ _ _ _ _ e (read _ (small k)))
     ∙ sym (offset-given _ _ _ _ _ v.before.requires _ (mjd k)))
-    (c.rule-by.ensures s.args.size m l h ∙ ap (ruleBy (rows s)) e)
+    (c.rule-by.ensures s.args.size m l h ∙ ap (rule_by (rows s)) e)
 
 pub by-mjd-spec : {M : Type 1} → statement M
 by-mjd-spec =

@@ -5,11 +5,11 @@ use mathlib.Core.List.{List}
 use lib.Ieee.{of_bits}
 use mir.Facts.{to_z-of_z}
 use Rattle.leap_table.specs.rows.Table.{Row}
-use Rattle.leap_table.specs.rows.Announced.{rowsIn}
-use Rattle.leap_table.specs.offsets.Rule.{offsetByRule}
-use Rattle.leap_table.specs.offsets.Answers.{secondsByRuleOutcome}
-use Rattle.leap_table.proofs.offsets.Offsets.{too-low, too-high, in-day, fraction-refused}
-use Rattle.leap_table.proofs.offsets.Rules.{told, not-told}
+use Rattle.leap_table.specs.rows.Announced.{rows_in}
+use Rattle.leap_table.specs.offsets.Rule.{offset_by_rule}
+use Rattle.leap_table.specs.offsets.Answers.{seconds_by_rule_outcome}
+use Rattle.leap_table.proofs.offsets.Offsets.{too_low, too_high, in-day, fraction-refused}
+use Rattle.leap_table.proofs.offsets.Rules.{told, not_told}
 use Rattle.leap_table.proofs.offsets.Plain.{read_plain, plain-offset, read-offset, read-rule}
 use borrow.Author.Rules.{rules}
 use Rattle.leap_table.proofs.offsets.in_day.get_tai_utc_offset_by_arrays.Statement.{statement}
@@ -17,18 +17,18 @@ use Rattle.leap_table.proofs.offsets.in_day.get_tai_utc_offset_by_arrays.Tie as 
 
 -- the rows that are read
 abbrev rows : tie.Start → List Row
-rows s = rowsIn s.args.size s.args.months.now s.args.seconds.now
+rows s = rows_in s.args.size s.args.months.now s.args.seconds.now
 
 returns : tie.Need-returns
-unfolding of_bits secondsByRuleOutcome offsetByRule
-returns c = not-told _ _ _ (sym (fraction-refused _ _ _ _ _ (too-low _ c.if1.true)))
+unfolding of_bits seconds_by_rule_outcome offset_by_rule
+returns c = not_told _ _ _ (sym (fraction-refused _ _ _ _ _ (too_low _ c.if1.true)))
 
 returns-2 : tie.Need-returns-2
-unfolding of_bits secondsByRuleOutcome offsetByRule
-returns-2 c = not-told _ _ _ (sym (fraction-refused _ _ _ _ _ (too-high _ c.before.if1.false c.if2.true)))
+unfolding of_bits seconds_by_rule_outcome offset_by_rule
+returns-2 c = not_told _ _ _ (sym (fraction-refused _ _ _ _ _ (too_high _ c.before.if1.false c.if2.true)))
 
 returns-3 : tie.Need-returns-3
-unfolding of_bits secondsByRuleOutcome offsetByRule
+unfolding of_bits seconds_by_rule_outcome offset_by_rule
 returns-3 c =
     let t = c.before in
     let e = t.before.before in
@@ -46,7 +46,7 @@ by-mjd-requires c κs = let e = c.before.before in in-day _ e.before.if1.false e
 returns-4 : tie.Need-returns-4
 returns-4 c =
     let s = c.before.before.before.before.before in
-    c.by-mjd.ensures ∙ (λ i. offsetByRule (rows s) (to_z-of_z s.ranges.year i) (to_z-of_z s.ranges.month i) (to_z-of_z s.ranges.day i) s.args.fraction)
+    c.by-mjd.ensures ∙ (λ i. offset_by_rule (rows s) (to_z-of_z s.ranges.year i) (to_z-of_z s.ranges.month i) (to_z-of_z s.ranges.day i) s.args.fraction)
 
 pub get-tai-utc-offset-by-arrays-spec : {M : Type 1} → statement M
 get-tai-utc-offset-by-arrays-spec =

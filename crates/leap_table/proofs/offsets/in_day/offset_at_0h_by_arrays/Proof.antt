@@ -6,10 +6,10 @@ use lib.Ieee.{of_bits, le}
 use mir.Facts.{to_z-of_z}
 use Rattle.floats.specs.Whole.{nought}
 use Rattle.leap_table.specs.rows.Table.{Row}
-use Rattle.leap_table.specs.rows.Announced.{rowsIn}
-use Rattle.leap_table.specs.offsets.Offset.{inDay}
-use Rattle.leap_table.specs.offsets.Rule.{offsetByRule}
-use Rattle.leap_table.specs.offsets.Answers.{secondsByRuleOutcome}
+use Rattle.leap_table.specs.rows.Announced.{rows_in}
+use Rattle.leap_table.specs.offsets.Offset.{in_day}
+use Rattle.leap_table.specs.offsets.Rule.{offset_by_rule}
+use Rattle.leap_table.specs.offsets.Answers.{seconds_by_rule_outcome}
 use Rattle.leap_table.proofs.offsets.Rules.{told}
 use Rattle.leap_table.proofs.offsets.Plain.{read_plain, plain-offset, read-offset, read-rule}
 use borrow.Author.Rules.{rules}
@@ -18,14 +18,14 @@ use Rattle.leap_table.proofs.offsets.in_day.offset_at_0h_by_arrays.Tie as tie
 
 -- the rows that are read
 abbrev rows : tie.Start → List Row
-rows s = rowsIn s.args.size s.args.months.now s.args.seconds.now
+rows s = rows_in s.args.size s.args.months.now s.args.seconds.now
 
-at-0h : inDay nought ≡ true
-unfolding inDay le
+at-0h : in_day nought ≡ true
+unfolding in_day le
 at-0h = refl
 
 returns : tie.Need-returns
-unfolding secondsByRuleOutcome offsetByRule
+unfolding seconds_by_rule_outcome offset_by_rule
 returns c =
     let t = c.before in
     let s = t.before.before in
@@ -43,7 +43,7 @@ returns-2 : tie.Need-returns-2
 unfolding of_bits
 returns-2 c =
     let s = c.before.before.before in
-    c.by-mjd.ensures ∙ (λ i. offsetByRule (rows s) (to_z-of_z s.ranges.year i) (to_z-of_z s.ranges.month i) (to_z-of_z s.ranges.day i) nought)
+    c.by-mjd.ensures ∙ (λ i. offset_by_rule (rows s) (to_z-of_z s.ranges.year i) (to_z-of_z s.ranges.month i) (to_z-of_z s.ranges.day i) nought)
 
 pub offset-at-0h-by-arrays-spec : {M : Type 1} → statement M
 offset-at-0h-by-arrays-spec =

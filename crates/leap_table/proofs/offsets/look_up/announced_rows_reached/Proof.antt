@@ -15,19 +15,19 @@ use mir.Facts.{to_z-of_z}
 use borrow.Author.Rules.{rules}
 use Rattle.leap_table.specs.declared.rows.AnnouncedRows.{AnnouncedRows}
 use Rattle.leap_table.specs.rows.Table.{starts, reached}
-use Rattle.leap_table.specs.rows.Announced.{natural, least, announcedTable, rows_to}
-use Rattle.leap_table.specs.offsets.Plain.{byFound}
-use Rattle.leap_table.proofs.rows.Tables.{announced-found, announced-passed}
+use Rattle.leap_table.specs.rows.Announced.{natural, least, announced_table, rows_to}
+use Rattle.leap_table.specs.offsets.Plain.{by_found}
+use Rattle.leap_table.proofs.rows.Tables.{announced_found, announced_passed}
 use Rattle.leap_table.proofs.rows.Naturals.{begun-or-not}
 use Rattle.leap_table.proofs.offsets.look_up.announced_rows_reached.Statement.{statement}
 use Rattle.leap_table.proofs.offsets.look_up.announced_rows_reached.Tie as tie
 
 -- the table whose months are announced
 abbrev announced : List ℤ → AnnouncedRows
-announced months = announcedTable 0 0 months []
+announced months = announced_table 0 0 months []
 
 abbrev invariant-loop : tie.invariant-loop
-invariant-loop size months n month found₀ i₀ found i = (i ≤ size) × (found ≤ i) × (byFound n found ≡ reached (starts (rows_to (announced months) i)) n)
+invariant-loop size months n month found₀ i₀ found i = (i ≤ size) × (found ≤ i) × (by_found n found ≡ reached (starts (rows_to (announced months) i)) n)
 
 abbrev decreases-loop : tie.decreases-loop
 decreases-loop size months n month found₀ i₀ found i = size - i
@@ -62,18 +62,18 @@ same a b g h = omega arith
 
 -- one row more
 more : (m : List ℤ) (n i found r : ℕ) (z : ℤ) → SFits w32 z → z ≡ get_or m i (pos 0) → r ≡ cond (le_z z (pos (least n 2147483647))) (i + 1) found → found ≤ i
-    → byFound n found ≡ reached (starts (rows_to (announced m) i)) n
-    → (r ≤ i + 1) × (byFound n r ≡ reached (starts (rows_to (announced m) (i + 1))) n)
+    → by_found n found ≡ reached (starts (rows_to (announced m) i)) n
+    → (r ≤ i + 1) × (by_found n r ≡ reached (starts (rows_to (announced m) (i + 1))) n)
 more m n i found r z f p e h inv = go (le_z z (pos (least n 2147483647))) refl
   where
-    go : (b : Bool) → le_z z (pos (least n 2147483647)) ≡ b → (r ≤ i + 1) × (byFound n r ≡ reached (starts (rows_to (announced m) (i + 1))) n)
+    go : (b : Bool) → le_z z (pos (least n 2147483647)) ≡ b → (r ≤ i + 1) × (by_found n r ≡ reached (starts (rows_to (announced m) (i + 1))) n)
     go true q =
         let k : r ≡ i + 1 = e ∙ rw q in
-        let w = announced-found (announced m) i n (subst (λ (y : ℤ). natural y ≤ n) p ((begun-or-not z n f).0 q)) in
+        let w = announced_found (announced m) i n (subst (λ (y : ℤ). natural y ≤ n) p ((begun-or-not z n f).0 q)) in
         (omega arith, rw (k, add-one i) (sym w))
     go false q =
         let k : r ≡ found = e ∙ rw q in
-        let w = announced-passed (announced m) i n (subst (λ (y : ℤ). n < natural y) p ((begun-or-not z n f).1 q)) in
+        let w = announced_passed (announced m) i n (subst (λ (y : ℤ). n < natural y) p ((begun-or-not z n f).1 q)) in
         (omega arith, rw (k, add-one i) (inv ∙ sym w))
 
 loop-again : tie.Need-loop-preserved invariant-loop decreases-loop
@@ -84,7 +84,7 @@ loop-again c =
     let m = s.months.now in
     let i = l.loop.i in
     let f : SFits w32 (get_or m i (pos 0)) = record { sfits = c.before.found-next-arg.given } in
-    let k = to_z-of_z {w = w32} {z = b.as-announced.result} (record { sfits = b.as-announced.type-inv }) ∙ b.as-announced.ensures in
+    let k = to_z-of_z {w = w32} {z = b.as_announced.result} (record { sfits = b.as_announced.type-inv }) ∙ b.as_announced.ensures in
     let e : c.found-next.result ≡ cond (le_z (get_or m i (pos 0)) (pos (least s.n 2147483647))) (i + 1) l.loop.found = c.found-next.ensures
     ∙ (λ j. cond (le_z (to_z-of_z f j) (k j)) (i + 1) l.loop.found) in
     let (p, q) = more m s.n i l.loop.found c.found-next.result (get_or m i (pos 0)) f refl e l.loop.invariant.1 l.loop.invariant.2 in

@@ -5,25 +5,25 @@ use Prim.Native.Nat.{ℕ, zero, suc, ◌+◌}
 use native.Mathlib.Omega.{arith}
 use lib.IntN.{ℤ}
 use borrow.Author.Rules.{rules}
-use Rattle.leap_table.specs.rows.Table.{fixed, starts, reached, fixedRows}
-use Rattle.leap_table.specs.rows.Announced.{least, announcedTable, rowsIn, rows_to}
-use Rattle.leap_table.specs.offsets.Plain.{byFound}
+use Rattle.leap_table.specs.rows.Table.{fixed, starts, reached, fixed_rows}
+use Rattle.leap_table.specs.rows.Announced.{least, announced_table, rows_in, rows_to}
+use Rattle.leap_table.specs.offsets.Plain.{by_found}
 use Rattle.leap_table.proofs.rows.ByParts.{announced-size, starts-alike}
 use Rattle.leap_table.proofs.offsets.look_up.any_rows_reached.Statement.{statement}
 use Rattle.leap_table.proofs.offsets.look_up.any_rows_reached.Tie as tie
 
 -- what the first k announced rows say is what the table says, whatever its seconds
-of-table : (size : ℕ) (m s : List ℤ) (n k : ℕ) → k ≡ least size 16
-    → reached (starts (rows_to (announcedTable 0 0 m []) k)) n ≡ reached (starts (rowsIn size m s)) n
-of-table size m s n k e =
+of_table : (size : ℕ) (m s : List ℤ) (n k : ℕ) → k ≡ least size 16
+    → reached (starts (rows_to (announced_table 0 0 m []) k)) n ≡ reached (starts (rows_in size m s)) n
+of_table size m s n k e =
     ap (λ (l : List ℕ). reached l n) (starts-alike 0 0 size size s m [] k)
-    ∙ ap (λ (j : ℕ). reached (starts (rows_to (announcedTable size size m s) j)) n) (e ∙ sym (announced-size size m s))
+    ∙ ap (λ (j : ℕ). reached (starts (rows_to (announced_table size size m s) j)) n) (e ∙ sym (announced-size size m s))
 
-by-none : (n k : ℕ) → k ≡ 0 → byFound n k ≡ reached (starts fixed) n
+by-none : (n k : ℕ) → k ≡ 0 → by_found n k ≡ reached (starts fixed) n
 by-none n zero e = refl
 by-none n (suc k) e = absurd (omega arith)
 
-by-some : (n k : ℕ) → (k ≡ 0 → ⊥) → byFound n k ≡ fixedRows + k
+by-some : (n k : ℕ) → (k ≡ 0 → ⊥) → by_found n k ≡ fixed_rows + k
 by-some n zero e = absurd (e refl)
 by-some n (suc k) e = refl
 
@@ -33,7 +33,7 @@ returns c =
     let s = f.before.before.args in
     let r = c.fixed-rows-reached.ensures in (
       λ seconds. r.0 ∙ sym (by-none s.n _ c.before.if1.true) ∙ f.announced-rows-reached.ensures.0
-          ∙ of-table s.size s.months.now seconds s.n _ f.before.at-most-16.ensures.0,
+          ∙ of_table s.size s.months.now seconds s.n _ f.before.at_most_16.ensures.0,
       omega (arith, r.1),
     )
 
@@ -41,8 +41,8 @@ returns-2 : tie.Need-returns-2
 returns-2 c =
     let f = c.before in
     let s = f.before.before.args in
-    let e = f.before.at-most-16.ensures.0 in (
-      λ seconds. sym (by-some s.n _ c.if1.false) ∙ f.announced-rows-reached.ensures.0 ∙ of-table s.size s.months.now seconds s.n _ e,
+    let e = f.before.at_most_16.ensures.0 in (
+      λ seconds. sym (by-some s.n _ c.if1.false) ∙ f.announced-rows-reached.ensures.0 ∙ of_table s.size s.months.now seconds s.n _ e,
       omega (arith, f.announced-rows-reached.ensures.1, e),
     )
 

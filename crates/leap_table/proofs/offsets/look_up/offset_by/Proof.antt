@@ -7,8 +7,8 @@ use native.Mathlib.Omega.{arith}
 use lib.Ieee.{of_bits}
 use borrow.Author.Tests.{lt-ltb, le-ltb}
 use borrow.Author.Rules.{rules}
-use Rattle.leap_table.specs.rows.Announced.{announcedSize, announcedTable, rowsIn}
-use Rattle.leap_table.specs.offsets.Offset.{secondsOf, start_of, rateOf}
+use Rattle.leap_table.specs.rows.Announced.{announced_size, announced_table, rows_in}
+use Rattle.leap_table.specs.offsets.Offset.{seconds_of, start_of, rate_of}
 use Rattle.leap_table.proofs.rows.Tables.{fixed-place, table-drifts}
 use Rattle.leap_table.proofs.rows.ByParts.{announced-size}
 use Rattle.leap_table.proofs.offsets.At.{absent, row-drifts, row_stays}
@@ -22,30 +22,30 @@ returns : tie.Need-returns
 unfolding of_bits
 returns c size months h =
     let s = c.before.args in
-    absent (rowsIn size months s.seconds.now) s.rows s.mjd s.fraction c.if1.true
+    absent (rows_in size months s.seconds.now) s.rows s.mjd s.fraction c.if1.true
 
 returns-2 : tie.Need-returns-2
 returns-2 c size months h =
     let f = c.before.before.before.before in
     let s = f.before.args in
-    let t = announcedTable size size months s.seconds.now in
+    let t = announced_table size size months s.seconds.now in
     let g = c.before.before.before.if2.true in
-    let p = sym (fixed-place t (announcedSize t) (s.rows - 1) (omega arith)) in
-    row-drifts (rowsIn size months s.seconds.now) s.rows s.mjd s.fraction (above _ f.if1.false)
-    (table-drifts t (announcedSize t) (s.rows - 1) (omega arith) ∙ ap not (lt-ltb (s.rows - 1) 14 g))
+    let p = sym (fixed-place t (announced_size t) (s.rows - 1) (omega arith)) in
+    row-drifts (rows_in size months s.seconds.now) s.rows s.mjd s.fraction (above _ f.if1.false)
+    (table-drifts t (announced_size t) (s.rows - 1) (omega arith) ∙ ap not (lt-ltb (s.rows - 1) 14 g))
     _ _ _
-    (c.before.before.seconds-at.ensures ∙ ap secondsOf p)
+    (c.before.before.seconds-at.ensures ∙ ap seconds_of p)
     (c.before.start-at.ensures ∙ ap start_of p)
-    (c.rate-at.ensures ∙ ap rateOf p)
+    (c.rate-at.ensures ∙ ap rate_of p)
 
 returns-3 : tie.Need-returns-3
 returns-3 c size months h =
     let f = c.before.before in
     let s = f.before.args in
-    let t = announcedTable size size months s.seconds.now in
+    let t = announced_table size size months s.seconds.now in
     let a = above _ f.if1.false in
-    row_stays (rowsIn size months s.seconds.now) s.rows s.mjd s.fraction a
-    (table-drifts t (announcedSize t) (s.rows - 1) (omega (arith, a, h, announced-size size months s.seconds.now))
+    row_stays (rows_in size months s.seconds.now) s.rows s.mjd s.fraction a
+    (table-drifts t (announced_size t) (s.rows - 1) (omega (arith, a, h, announced-size size months s.seconds.now))
     ∙ ap not (le-ltb (s.rows - 1) 14 c.before.if2.false))
     _ (c.seconds-of-row.ensures size months h)
 

@@ -4,7 +4,7 @@ use mathlib.Core.Path.{◌≡◌}
 use mathlib.Core.Bool.{true, false}
 use Prim.Native.Nat.{ℕ}
 use lib.IntN.{pos}
-use Rattle.calendar.proofs.Signs.{lt-left, lt-right}
+use Rattle.calendar.proofs.Signs.{lt_left, lt_right}
 use Rattle.leap_table.proofs.offsets.Plain.{plain, le_left}
 use Rattle.leap_table.proofs.offsets.look_up.plain_day.Statement.{statement}
 use Rattle.leap_table.proofs.offsets.look_up.plain_day.Tie as tie
@@ -16,10 +16,10 @@ returns-5 : tie.Need-returns-5
 returns-5 c e =
     let s = c.before.before.before.before in
     plain _ _ _ _ _
-    (lt-left _ _ _ s.ranges.year c.before.before.before.if1.false)
-    (lt-left _ _ _ s.ranges.month c.before.before.if2.false)
-    (lt-right (pos 12) _ _ s.ranges.month c.before.if3.false)
-    (lt-left _ _ _ s.ranges.day c.if4.false)
+    (lt_left _ _ _ s.ranges.year c.before.before.before.if1.false)
+    (lt_left _ _ _ s.ranges.month c.before.before.if2.false)
+    (lt_right (pos 12) _ _ s.ranges.month c.before.if3.false)
+    (lt_left _ _ _ s.ranges.day c.if4.false)
     (le_left _ _ _ s.ranges.day e)
     (omega arith)
     (omega arith)

@@ -6,7 +6,7 @@ use native.Mathlib.Omega.{arith}
 use borrow.Author.Tests.{lt-ltb, le-ltb}
 use borrow.Author.Rules.{rules}
 use Rattle.leap_table.specs.declared.offsets.Rule.TheVariants.{Whole}
-use Rattle.leap_table.specs.rows.Announced.{announcedSize, announcedTable, rowsIn}
+use Rattle.leap_table.specs.rows.Announced.{announced_size, announced_table, rows_in}
 use Rattle.leap_table.proofs.rows.Tables.{table-drifts}
 use Rattle.leap_table.proofs.rows.ByParts.{announced-size}
 use Rattle.leap_table.proofs.offsets.Rules.{rule-absent, rule-drifts, rule-whole}
@@ -20,26 +20,26 @@ named : (r k : ℕ) → r ≡ k - 1 → Whole r ≡ Whole (k - 1)
 named r k e = ap Whole e
 
 returns : tie.Need-returns
-returns c size months seconds h = rule-absent (rowsIn size months seconds) c.before.args.rows c.if1.true
+returns c size months seconds h = rule-absent (rows_in size months seconds) c.before.args.rows c.if1.true
 
 returns-2 : tie.Need-returns-2
 returns-2 c size months seconds h =
     let f = c.before in
     let k = f.before.args.rows in
-    let t = announcedTable size size months seconds in
+    let t = announced_table size size months seconds in
     let a = above _ f.if1.false in
-    rule-drifts (rowsIn size months seconds) k a
-    (table-drifts t (announcedSize t) (k - 1) (omega (arith, a, h, announced-size size months seconds)) ∙ ap not (lt-ltb (k - 1) 14 c.if2.true))
+    rule-drifts (rows_in size months seconds) k a
+    (table-drifts t (announced_size t) (k - 1) (omega (arith, a, h, announced-size size months seconds)) ∙ ap not (lt-ltb (k - 1) 14 c.if2.true))
 
 returns-3 : tie.Need-returns-3
 returns-3 c size months seconds h =
     let f = c.before in
     let k = f.before.args.rows in
-    let t = announcedTable size size months seconds in
+    let t = announced_table size size months seconds in
     let a = above _ f.if1.false in
     named _ k (omega arith)
-    ∙ rule-whole (rowsIn size months seconds) k a
-    (table-drifts t (announcedSize t) (k - 1) (omega (arith, a, h, announced-size size months seconds)) ∙ ap not (le-ltb (k - 1) 14 c.if2.false))
+    ∙ rule-whole (rows_in size months seconds) k a
+    (table-drifts t (announced_size t) (k - 1) (omega (arith, a, h, announced-size size months seconds)) ∙ ap not (le-ltb (k - 1) 14 c.if2.false))
 
 pub rule-by-spec : {M : Type 1} → statement M
 rule-by-spec = tie.close (tie.spec returns (λ c. search rules) (λ c. search rules) returns-2 (λ c. search rules) returns-3)

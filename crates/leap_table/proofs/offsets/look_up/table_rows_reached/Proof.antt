@@ -6,14 +6,14 @@ use native.Mathlib.Omega.{arith}
 use lib.IntN.{ℤ}
 use borrow.Author.Rules.{rules}
 use Rattle.leap_table.specs.rows.Table.{fixed, starts, reached}
-use Rattle.leap_table.specs.rows.Announced.{least, announcedTable, rowsIn, rows_to}
+use Rattle.leap_table.specs.rows.Announced.{least, announced_table, rows_in, rows_to}
 use Rattle.leap_table.proofs.rows.ByParts.{announced-size}
 use Rattle.leap_table.proofs.offsets.look_up.table_rows_reached.Statement.{statement}
 use Rattle.leap_table.proofs.offsets.look_up.table_rows_reached.Tie as tie
 
-no-announced : (size : ℕ) (m s : List ℤ) (n : ℕ) → size ≡ 0 → reached (starts fixed) n ≡ reached (starts (rowsIn size m s)) n
+no-announced : (size : ℕ) (m s : List ℤ) (n : ℕ) → size ≡ 0 → reached (starts fixed) n ≡ reached (starts (rows_in size m s)) n
 unfolding rows_to
-no-announced size m s n e = ap (λ (k : ℕ). reached (starts (rows_to (announcedTable size size m s) k)) n)
+no-announced size m s n e = ap (λ (k : ℕ). reached (starts (rows_to (announced_table size size m s) k)) n)
     (sym (announced-size size m s ∙ ap (λ (k : ℕ). least k 16) e))
 
 returns : tie.Need-returns

@@ -5,7 +5,7 @@ use Prim.Native.Nat.{◌-◌}
 use native.Mathlib.Omega.{arith}
 use borrow.Author.Tests.{le-ltb}
 use borrow.Author.Rules.{rules}
-use Rattle.leap_table.specs.rows.Announced.{announcedSize, announcedTable, rowsIn}
+use Rattle.leap_table.specs.rows.Announced.{announced_size, announced_table, rows_in}
 use Rattle.leap_table.proofs.rows.Tables.{table-drifts}
 use Rattle.leap_table.proofs.rows.ByParts.{announced-size}
 use Rattle.leap_table.proofs.offsets.Rules.{rule-whole}
@@ -16,9 +16,9 @@ returns : tie.Need-returns
 returns c size months seconds h =
     let k = c.args.rows in
     let p = c.requires.0 in
-    let t = announcedTable size size months seconds in
-    rule-whole (rowsIn size months seconds) k (omega arith)
-    (table-drifts t (announcedSize t) (k - 1) (omega (arith, p, h, announced-size size months seconds)) ∙ ap not (le-ltb (k - 1) 14 (omega arith)))
+    let t = announced_table size size months seconds in
+    rule-whole (rows_in size months seconds) k (omega arith)
+    (table-drifts t (announced_size t) (k - 1) (omega (arith, p, h, announced-size size months seconds)) ∙ ap not (le-ltb (k - 1) 14 (omega arith)))
 
 pub whole-rule-spec : {M : Type 1} → statement M
 whole-rule-spec = tie.close (tie.spec (λ c. search rules) (λ c. search rules) returns)

@@ -6,13 +6,13 @@ use native.Mathlib.Omega.{arith}
 use lib.IntN.{pos}
 use lib.ListN.{get_or}
 use borrow.Author.Rules.{rules}
-use Rattle.leap_table.specs.rows.Table.{Row, starts, reached, fixedRows}
-use Rattle.leap_table.specs.rows.Announced.{least, announcedSize, rows_of}
+use Rattle.leap_table.specs.rows.Table.{Row, starts, reached, fixed_rows}
+use Rattle.leap_table.specs.rows.Announced.{least, announced_size, rows_of}
 use Rattle.leap_table.proofs.rows.Naturals.{read-natural}
-use Rattle.leap_table.proofs.rows.Tables.{at-most-16}
-use Rattle.leap_table.proofs.rows.ByParts.{rows_in}
+use Rattle.leap_table.proofs.rows.Tables.{at_most_16}
+use Rattle.leap_table.proofs.rows.ByParts.{rows_in_lem}
 use Rattle.leap_table.proofs.offsets.TableYears.{whole-rows-of}
-use Rattle.leap_table.proofs.offsets.WholeSeconds.{in-fixed-row, in-announced-row}
+use Rattle.leap_table.proofs.offsets.WholeSeconds.{in_fixed_row, in_announced_row}
 use Rattle.leap_table.proofs.offsets.seconds.seconds_in.Statement.{statement}
 use Rattle.leap_table.proofs.offsets.seconds.seconds_in.Tie as tie
 
@@ -22,13 +22,13 @@ module _ (c : tie.After-table-rows-reached) where
       let z = c.before.before.before in
       let a = z.before.args in
       c.table-rows-reached.ensures.0 a.t1.seconds
-      ∙ ap (λ (rows : List Row). reached (starts rows) a.month) (rows_in a.t1 z.size_of.result z.size_of.ensures)
+      ∙ ap (λ (rows : List Row). reached (starts rows) a.month) (rows_in_lem a.t1 z.size_of.result z.size_of.ensures)
 
-  few : let s = c.before.before.before.before in c.table-rows-reached.result ≤ fixedRows + announcedSize s.args.t1
-  unfolding announcedSize
+  few : let s = c.before.before.before.before in c.table-rows-reached.result ≤ fixed_rows + announced_size s.args.t1
+  unfolding announced_size
   few =
       let z = c.before.before.before in
-      subst (λ (n : ℕ). c.table-rows-reached.result ≤ fixedRows + least n 16) z.size_of.ensures c.table-rows-reached.ensures.1
+      subst (λ (n : ℕ). c.table-rows-reached.result ≤ fixed_rows + least n 16) z.size_of.ensures c.table-rows-reached.ensures.1
 
   enough : 15 ≤ c.table-rows-reached.result
   enough = let s = c.before.before.before.before in omega (arith, rows_are, whole-rows-of s.args.t1 s.args.month s.requires)
@@ -37,19 +37,19 @@ returns : tie.Need-returns
 returns c =
     let r = c.before in
     let s = r.before.before.before.before in
-    (in-fixed-row s.args.t1 s.args.month r.table-rows-reached.result (rows_are r) (enough r) c.if1.true, omega (arith, c.if1.true))
+    (in_fixed_row s.args.t1 s.args.month r.table-rows-reached.result (rows_are r) (enough r) c.if1.true, omega (arith, c.if1.true))
 
 mul-natural : tie.Need-overflow-mul-natural
 mul-natural c =
     let r = c.before in
     let z = r.before.before.before in
-    omega (arith, few r, at-most-16 z.before.args.t1)
+    omega (arith, few r, at_most_16 z.before.args.t1)
 
 element-copy-out-natural : tie.Need-element-copy-out-natural
 element-copy-out-natural c =
     let r = c.before in
     let z = r.before.before.before in
-    omega (arith, few r, at-most-16 z.before.args.t1)
+    omega (arith, few r, at_most_16 z.before.args.t1)
 
 returns-2 : tie.Need-returns-2
 returns-2 c =
@@ -57,9 +57,9 @@ returns-2 c =
     let r = i.before in
     let s = r.before.before.before.before in (
       c.natural.ensures.0
-          ∙ read-natural (get_or s.args.t1.seconds (r.table-rows-reached.result - fixedRows - 1) (pos 0))
+          ∙ read-natural (get_or s.args.t1.seconds (r.table-rows-reached.result - fixed_rows - 1) (pos 0))
           (record { sfits = c.before.natural-arg.given })
-          ∙ in-announced-row s.args.t1 s.args.month r.table-rows-reached.result (rows_are r) (enough r) i.if1.false (few r),
+          ∙ in_announced_row s.args.t1 s.args.month r.table-rows-reached.result (rows_are r) (enough r) i.if1.false (few r),
       c.natural.ensures.1,
     )
 

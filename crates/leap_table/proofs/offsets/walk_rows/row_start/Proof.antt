@@ -6,7 +6,7 @@ use native.Mathlib.Omega.{arith}
 use lib.IntN.{pos}
 use lib.ListN.{get_or}
 use borrow.Author.Rules.{rules}
-use Rattle.leap_table.specs.rows.Table.{fixed, fixedRows}
+use Rattle.leap_table.specs.rows.Table.{fixed, fixed_rows}
 use Rattle.leap_table.proofs.rows.Naturals.{read-natural}
 use Rattle.leap_table.proofs.offsets.Forward.{start-fixed, start-announced, start-past}
 use Rattle.leap_table.proofs.offsets.walk_rows.row_start.Statement.{statement}
@@ -26,7 +26,7 @@ returns-2 c =
     let f = n.before in
     let s = f.before.args in
     c.natural.ensures.0
-    ∙ read-natural (get_or s.t1.months (s.i - fixedRows) (pos 0)) (record { sfits = c.before.natural-arg.given })
+    ∙ read-natural (get_or s.t1.months (s.i - fixed_rows) (pos 0)) (record { sfits = c.before.natural-arg.given })
     ∙ start-announced s.t1 s.i f.if1.false (omega (arith, q.if2.true, n.announced-size.ensures.0))
 
 returns-3 : tie.Need-returns-3

@@ -11,10 +11,10 @@ use Rattle.leap_table.specs.rows.Table.{starts, rising}
 use mathlib.Core.List.{List, []}
 use lib.IntN.{ℤ, pos}
 use Rattle.leap_table.specs.declared.rows.AnnouncedRows.{AnnouncedRows}
-use Rattle.leap_table.specs.rows.Announced.{announcedRow, rows_to, announcedTable}
+use Rattle.leap_table.specs.rows.Announced.{announced_row, rows_to, announced_table}
 use Rattle.leap_table.proofs.rows.Naturals.{read-natural}
-use Rattle.leap_table.proofs.rows.Tables.{monthBefore}
-use Rattle.leap_table.proofs.rows.TableTests.{rises-none, not-later, later}
+use Rattle.leap_table.proofs.rows.Tables.{month_before}
+use Rattle.leap_table.proofs.rows.TableTests.{rises-none, not_later, later}
 use Rattle.leap_table.proofs.rows.announced.rises.Statement.{statement}
 use Rattle.leap_table.proofs.rows.announced.rises.Tie as tie
 
@@ -23,10 +23,10 @@ same a b g h = omega arith
 
 -- the table whose months are announced
 abbrev announced : List ℤ → AnnouncedRows
-announced months = announcedTable 0 0 months []
+announced months = announced_table 0 0 months []
 
 abbrev invariant-loop : tie.invariant-loop
-invariant-loop months size before₀ i₀ before i = (i ≤ size) × (before ≡ monthBefore (announced months) i) × (rising (starts (rows_to (announced months) i)) ≡ true)
+invariant-loop months size before₀ i₀ before i = (i ≤ size) × (before ≡ month_before (announced months) i) × (rising (starts (rows_to (announced months) i)) ≡ true)
 
 abbrev decreases-loop : tie.decreases-loop
 decreases-loop months size before₀ i₀ before i = size - i
@@ -44,7 +44,7 @@ natural-requires : tie.Need-natural-requires invariant-loop decreases-loop
 natural-requires c κs = search rules
 
 month-read : (c : tie.After-natural invariant-loop decreases-loop) → let l =
-    c.before.before.before in c.natural.result ≡ (announcedRow (announced l.before.args.months.now) l.loop.i).month
+    c.before.before.before in c.natural.result ≡ (announced_row (announced l.before.args.months.now) l.loop.i).month
 month-read c =
     let l = c.before.before.before in
     c.natural.ensures.0 ∙ read-natural (get_or l.before.args.months.now l.loop.i (pos 0)) (record { sfits = c.before.natural-arg.given })
@@ -53,7 +53,7 @@ returns : tie.Need-returns invariant-loop decreases-loop
 returns c =
     let l = c.before.before.before.before in
     let s = l.before in
-    not-later (announced s.args.months.now) l.loop.i s.args.size c.before.before.before.loop-test.true
+    not_later (announced s.args.months.now) l.loop.i s.args.size c.before.before.before.loop-test.true
     (omega (arith, c.if1.true, l.loop.invariant.1, month-read c.before))
 
 add-i : tie.Need-overflow-add-i invariant-loop decreases-loop

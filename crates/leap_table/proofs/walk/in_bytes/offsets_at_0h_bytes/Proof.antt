@@ -4,12 +4,12 @@ use native.Mathlib.Omega.{arith}
 use lib.Dec.{eqb}
 use lib.ListN.{length}
 use Rattle.leap_table.specs.rows.Announced.{rows_of}
-use Rattle.leap_table.specs.walk.Walk.{tripleOffset}
-use Rattle.leap_table.specs.judging.Lists.{datesFrom, tripleIn}
+use Rattle.leap_table.specs.walk.Walk.{triple_offset}
+use Rattle.leap_table.specs.judging.Lists.{dates_from, triple_in}
 use Rattle.leap_table.specs.walk.Lists.{in_eights}
-use Rattle.leap_table.proofs.judging.Judges.{how-many}
+use Rattle.leap_table.proofs.judging.Judges.{how_many}
 use Rattle.leap_table.proofs.walk.Goods.{all-good}
-use Rattle.leap_table.proofs.walk.Eights.{eights-length}
+use Rattle.leap_table.proofs.walk.Eights.{eights_length}
 use Rattle.leap_table.proofs.walk.Calls.{passed, refused-call, walked_call}
 use borrow.Author.Rules.{rules}
 use Rattle.leap_table.proofs.walk.in_bytes.offsets_at_0h_bytes.Statement.{statement}
@@ -20,7 +20,7 @@ returns c =
     let r = c.before in
     let s = r.before.before.before.args in
     let l = s.dates.now in
-    refused-call s.table (eqb (length l % 12) 0) (datesFrom (tripleIn l) 0 (length l / 12)) (length s.out.now / 8) in_eights s.out.now
+    refused-call s.table (eqb (length l % 12) 0) (dates_from (triple_in l) 0 (length l / 12)) (length s.out.now / 8) in_eights s.out.now
     r.bytes-refusal.result r.bytes-refusal.ensures c.if1.true
 
 walk-all-requires : tie.Need-walk-all-requires
@@ -29,9 +29,9 @@ walk-all-requires c κs =
     let r = i.before in
     let s = r.before.before.before.args in
     let l = s.dates.now in
-    let p = passed s.table (eqb (length l % 12) 0) (datesFrom (tripleIn l) 0 (length l / 12)) (length s.out.now / 8) r.bytes-refusal.result
+    let p = passed s.table (eqb (length l % 12) 0) (dates_from (triple_in l) 0 (length l / 12)) (length s.out.now / 8) r.bytes-refusal.result
     r.bytes-refusal.ensures i.if1.false in
-    (all-good (tripleIn l) (length l / 12) p.good, p.order, omega arith, omega (arith, p.fits, how-many (tripleIn l) (length l / 12) 0))
+    (all-good (triple_in l) (length l / 12) p.good, p.order, omega arith, omega (arith, p.fits, how_many (triple_in l) (length l / 12) 0))
 
 returns-2 : tie.Need-returns-2
 returns-2 c =
@@ -40,10 +40,10 @@ returns-2 c =
     let r = i.before in
     let s = r.before.before.before.args in
     let l = s.dates.now in
-    walked_call s.table (eqb (length l % 12) 0) (datesFrom (tripleIn l) 0 (length l / 12)) (length s.out.now / 8) in_eights s.out.now
+    walked_call s.table (eqb (length l % 12) 0) (dates_from (triple_in l) 0 (length l / 12)) (length s.out.now / 8) in_eights s.out.now
     r.bytes-refusal.result r.bytes-refusal.ensures i.if1.false
     w.walk-all.result _ (8 * (length l / 12)) w.walk-all.ensures.0 w.walk-all.ensures.1
-    (eights-length (tripleOffset (rows_of s.table)) (tripleIn l) (length l / 12))
+    (eights_length (triple_offset (rows_of s.table)) (triple_in l) (length l / 12))
 
 pub offsets-at-0h-bytes-spec : {M : Type 1} → statement M
 offsets-at-0h-bytes-spec =

@@ -9,28 +9,28 @@ use lib.Seq.{sets}
 use lib.Ieee.{binary64, of_int}
 use Rattle.refusals.specs.Outcome.{answer}
 use Rattle.floats.specs.Whole.{nought}
-use Rattle.numerals.specs.little_endian.LittleEndian.{eightBytes}
+use Rattle.numerals.specs.little_endian.LittleEndian.{eight_bytes}
 use Rattle.numerals.proofs.little_endian.Puts.{put-64-is}
-use Rattle.calendar.specs.DayCount.{mjdNumber}
+use Rattle.calendar.specs.DayCount.{mjd_number}
 use Rattle.leap_table.specs.rows.Announced.{rows_of}
-use Rattle.leap_table.specs.offsets.Forward.{byTerms}
+use Rattle.leap_table.specs.offsets.Forward.{by_terms}
 use Rattle.leap_table.specs.declared.judging.Triple.{Triple}
 use Rattle.leap_table.specs.declared.walk.Walk.{Walk}
-use Rattle.leap_table.specs.judging.Judging.{validTriple}
-use Rattle.leap_table.specs.walk.Walk.{monthIn, tripleOffset}
-use Rattle.leap_table.specs.judging.Lists.{tripleIn}
+use Rattle.leap_table.specs.judging.Judging.{valid_triple}
+use Rattle.leap_table.specs.walk.Walk.{month_in, triple_offset}
+use Rattle.leap_table.specs.judging.Lists.{triple_in}
 use Rattle.leap_table.specs.walk.Asked.{Stepped}
-use Rattle.leap_table.proofs.walk.Pacing.{Pacing, pacing-starts, stays-there, pacing-goes, offset-is, pacing-ends}
+use Rattle.leap_table.proofs.walk.Pacing.{Pacing, pacing_starts, stays-there, pacing_goes, offset-is, pacing_ends}
 use Rattle.leap_table.proofs.walk.Writes.{Putting}
-use Rattle.leap_table.proofs.walk.Eights.{wholeE, restE, eights-start, eights-go, eights-end}
+use Rattle.leap_table.proofs.walk.Eights.{whole_e, rest_e, eights_start, eights_go, eights_end}
 use borrow.Author.Rules.{rules}
 use Rattle.leap_table.proofs.walk.in_bytes.walk_all.Statement.{statement}
 use Rattle.leap_table.proofs.walk.in_bytes.walk_all.Tie as tie
 
 abbrev invariant-loop : tie.invariant-loop
 invariant-loop dates n table out₀ w₀ i₀ out w i =
-    Pacing (rows_of table) (tripleIn dates) n i w
-    × Putting (wholeE (tripleOffset (rows_of table)) (tripleIn dates) n out₀) (restE (tripleOffset (rows_of table)) (tripleIn dates) n out₀ i) out₀ out
+    Pacing (rows_of table) (triple_in dates) n i w
+    × Putting (whole_e (triple_offset (rows_of table)) (triple_in dates) n out₀) (rest_e (triple_offset (rows_of table)) (triple_in dates) n out₀ i) out₀ out
     (8 * i)
 
 abbrev decreases-loop : tie.decreases-loop
@@ -42,17 +42,17 @@ at-start-requires c κs = search rules
 loop-holds : tie.Need-loop-init invariant-loop decreases-loop
 loop-holds c =
     let s = c.before.before.before.args in (
-      pacing-starts (rows_of s.table) (tripleIn s.dates.now) s.n c.at-start.result c.at-start.ensures,
-      eights-start (tripleOffset (rows_of s.table)) (tripleIn s.dates.now) s.n s.out.now,
+      pacing_starts (rows_of s.table) (triple_in s.dates.now) s.n c.at_start.result c.at_start.ensures,
+      eights_start (triple_offset (rows_of s.table)) (triple_in s.dates.now) s.n s.out.now,
     )
 
 triple-in-requires : tie.Need-triple-in-requires invariant-loop decreases-loop
 triple-in-requires c κs = omega (arith, c.loop-test.true, c.before.before.before.before.before.requires.2)
 
-good : (c : tie.After-triple-in invariant-loop decreases-loop) → validTriple c.triple-in.result ≡ answer tt
+good : (c : tie.After-triple-in invariant-loop decreases-loop) → valid_triple c.triple-in.result ≡ answer tt
 good c =
     let l = c.before.before in
-    ap validTriple c.triple-in.ensures ∙ l.before.before.before.before.requires.0.good l.loop.i c.before.loop-test.true
+    ap valid_triple c.triple-in.ensures ∙ l.before.before.before.before.requires.0.good l.loop.i c.before.loop-test.true
 
 month-of-requires : tie.Need-month-of-requires invariant-loop decreases-loop
 month-of-requires c κs = good c
@@ -64,9 +64,9 @@ walk-to-requires c κs =
     let p = l.loop.invariant.0 in
     (p.stands, m.month-of.ensures.1, omega (arith, p.few, p.stands.most, p.stands.small, p.within, l.before.before.before.before.requires.2))
 
-month-is : (c : tie.After-month-of invariant-loop decreases-loop) → let l =
-    c.before.before.before in c.month-of.result ≡ monthIn (tripleIn l.before.before.before.before.args.dates.now l.loop.i)
-month-is c = c.month-of.ensures.0 ∙ ap monthIn c.before.triple-in.ensures
+month_is : (c : tie.After-month-of invariant-loop decreases-loop) → let l =
+    c.before.before.before in c.month-of.result ≡ month_in (triple_in l.before.before.before.before.args.dates.now l.loop.i)
+month_is c = c.month-of.ensures.0 ∙ ap month_in c.before.triple-in.ensures
 
 stepped : (c : tie.Joined1 invariant-loop decreases-loop) → let l =
     c.before.before.before.before.before in Stepped (rows_of l.before.before.before.before.args.table) l.loop.w
@@ -78,7 +78,7 @@ stepped c =
     ⊎_elim
     (λ x. subst (λ (v : Walk). Stepped rows l.loop.w m.month-of.result v) (sym x.2) x.1.ensures)
     (λ x. subst (λ (v : Walk). Stepped rows l.loop.w m.month-of.result v) (sym x.1)
-    (stays-there rows (tripleIn l.before.before.before.before.args.dates.now) l.before.before.before.before.args.n l.loop.w
+    (stays-there rows (triple_in l.before.before.before.before.args.dates.now) l.before.before.before.before.args.n l.loop.w
     m.month-of.result l.loop.invariant.0.stands x.0.left))
     c.if1.branch
 
@@ -113,19 +113,19 @@ loop-again c =
     let b = l.before.before.before.before in
     let s = b.args in
     let rows = rows_of s.table in
-    let f = tripleIn s.dates.now in
+    let f = triple_in s.dates.now in
     let h = m.before.before.loop-test.true in
     let p = l.loop.invariant.0 in
     let room : 8 * l.loop.i + 8 ≤ length l.loop.out = omega (arith, l.loop.invariant.1.long, h, b.requires.3) in
     let x =
     o.offset-in.ensures
-    ∙ ap (λ (y : Triple). byTerms j.if1.w.terms (of_int binary64 (mjdNumber y.year y.month y.day)) nought) m.before.triple-in.ensures
-    ∙ offset-is rows f s.n l.loop.i m.month-of.result l.loop.w j.if1.w p h (month-is m) (stepped j) b.requires.1 in (
-      pacing-goes rows f s.n l.loop.i m.month-of.result l.loop.w j.if1.w p h (month-is m) (stepped j) b.requires.0
+    ∙ ap (λ (y : Triple). by_terms j.if1.w.terms (of_int binary64 (mjd_number y.year y.month y.day)) nought) m.before.triple-in.ensures
+    ∙ offset-is rows f s.n l.loop.i m.month-of.result l.loop.w j.if1.w p h (month_is m) (stepped j) b.requires.1 in (
+      pacing_goes rows f s.n l.loop.i m.month-of.result l.loop.w j.if1.w p h (month_is m) (stepped j) b.requires.0
           o.before.next-counted.result o.before.next-counted.ensures,
-      eights-go (tripleOffset rows) f s.n s.out.now l.loop.i l.loop.out _ o.offset-in.result h l.loop.invariant.1 x
+      eights_go (triple_offset rows) f s.n s.out.now l.loop.i l.loop.out _ o.offset-in.result h l.loop.invariant.1 x
           (u.put-nth-u64.ensures ∙ put-64-is l.loop.out l.loop.i _ room
-          ∙ ap (λ (z : ℕ). sets l.loop.out (8 * l.loop.i) (eightBytes z)) u.before.to-bits.ensures) room,
+          ∙ ap (λ (z : ℕ). sets l.loop.out (8 * l.loop.i) (eight_bytes z)) u.before.to-bits.ensures) room,
     )
 
 same_length : tie.Need-same-length invariant-loop decreases-loop
@@ -136,9 +136,9 @@ returns c =
     let l = c.before in
     let s = l.before.before.before.before.args in
     let rows = rows_of s.table in
-    let f = tripleIn s.dates.now in (
-      pacing-ends rows f s.n l.loop.i l.loop.w l.loop.invariant.0 c.loop-test.false,
-      eights-end (tripleOffset rows) f s.n s.out.now l.loop.i l.loop.out l.loop.invariant.0.within c.loop-test.false l.loop.invariant.1,
+    let f = triple_in s.dates.now in (
+      pacing_ends rows f s.n l.loop.i l.loop.w l.loop.invariant.0 c.loop-test.false,
+      eights_end (triple_offset rows) f s.n s.out.now l.loop.i l.loop.out l.loop.invariant.0.within c.loop-test.false l.loop.invariant.1,
     )
 
 pub walk-all-spec : {M : Type 1} → statement M

@@ -1,8 +1,8 @@
 -- `numbers::hex_digit` meets its contract: the table has the digits in turn. Assumes nothing.
-use Rattle.reasons.proofs.sentences.Digits.{in-turn}
+use Rattle.reasons.proofs.sentences.Digits.{in_turn}
 use borrow.Author.Rules.{rules}
 use Rattle.reasons.proofs.sentences.numbers.hex_digit.Statement.{statement}
 use Rattle.reasons.proofs.sentences.numbers.hex_digit.Tie as tie
 
 pub hex-digit-spec : {M : Type 1} → statement M
-hex-digit-spec = tie.close (tie.spec (λ c. search rules) (λ c. in-turn c.args.d c.requires))
+hex-digit-spec = tie.close (tie.spec (λ c. search rules) (λ c. in_turn c.args.d c.requires))

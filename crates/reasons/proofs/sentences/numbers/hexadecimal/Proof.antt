@@ -2,7 +2,7 @@
 use native.Mathlib.Omega.{arith}
 use mathlib.Core.Path.{ap}
 use lib.ListN.{length}
-use Rattle.numerals.proofs.digits.Hexadecimal.{hex-length}
+use Rattle.numerals.proofs.digits.Hexadecimal.{hex_length}
 use Rattle.numerals.proofs.digits.Places.{placed-as}
 use borrow.Author.Rules.{rules}
 use Rattle.reasons.proofs.sentences.numbers.hexadecimal.Statement.{statement}
@@ -14,8 +14,8 @@ returns c =
     let n = s.before.before.args.n in
     let long = ap length s.sixteen.ensures in
     let p = placed-as s.sixteen.ensures
-    (c.before.before.place-bytes.ensures.written (omega (arith, long, hex-length n, s.before.before.requires))) in
-    (p, omega (arith, p.ends, hex-length n))
+    (c.before.before.place-bytes.ensures.written (omega (arith, long, hex_length n, s.before.before.requires))) in
+    (p, omega (arith, p.ends, hex_length n))
 
 pub hexadecimal-spec : {M : Type 1} → statement M
 hexadecimal-spec =

@@ -5,7 +5,7 @@ use lib.ListN.{set, length-set}
 use native.Mathlib.Omega.{arith}
 use borrow.Author.Rules.{rules}
 use Rattle.reasons.proofs.sentences.Digits.{Behind, begun, room-left, one_written, two-written, part-written, few-digits}
-use Rattle.reasons.proofs.sentences.Placing.{placing-as}
+use Rattle.reasons.proofs.sentences.Placing.{placing_as}
 use Rattle.reasons.proofs.sentences.numbers.place_decimal.Statement.{statement}
 use Rattle.reasons.proofs.sentences.numbers.place_decimal.Tie as tie
 
@@ -101,7 +101,7 @@ returns c =
     let l = c.before.before.before.before.before.before.before.before.loop in
     let w = one_written l.invariant (room-left l.invariant (omega arith)) (omega arith) in
     let h = room-left w (omega arith) in
-    (placing-as (part-written w h (omega arith)) c.before.before.place-bytes.ensures, few-digits w h (omega arith))
+    (placing_as (part-written w h (omega arith)) c.before.before.place-bytes.ensures, few-digits w h (omega arith))
 
 sub-place-bytes-2 : tie.Need-overflow-sub-place-bytes-2 invariant-loop decreases-loop
 sub-place-bytes-2 c = omega (arith, c.before.before.loop.invariant.within)
@@ -124,7 +124,7 @@ returns-2 : tie.Need-returns-2 invariant-loop decreases-loop
 returns-2 c =
     let l = c.before.before.before.before.before.before.before.before.loop in
     let h = room-left l.invariant (omega arith) in
-    (placing-as (part-written l.invariant h (omega arith)) c.before.before.place-bytes2.ensures, few-digits l.invariant h (omega arith))
+    (placing_as (part-written l.invariant h (omega arith)) c.before.before.place-bytes2.ensures, few-digits l.invariant h (omega arith))
 
 pub place-decimal-spec : {M : Type 1} → statement M
 place-decimal-spec =

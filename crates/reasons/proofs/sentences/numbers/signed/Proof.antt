@@ -6,8 +6,8 @@ use mathlib.Core.List.{◌∷◌}
 use mathlib.Core.Bool.{true, false}
 use lib.IntN.{pos, nat_abs}
 use mir.Facts.{to_z-of_z}
-use Rattle.calendar.proofs.Signs.{lt-left}
-use Rattle.numerals.specs.digits.Decimal.{digitsOf}
+use Rattle.calendar.proofs.Signs.{lt_left}
+use Rattle.numerals.specs.digits.Decimal.{digits_of}
 use Rattle.numerals.proofs.digits.Places.{then, placed-as}
 use Rattle.reasons.proofs.sentences.Digits.{signed_below, signed-from}
 use Rattle.reasons.proofs.sentences.Placing.{placed-length, decimal-placed}
@@ -26,7 +26,7 @@ returns c =
     let l = placed-length m (omega (arith, st.requires)) in
     let q = decimal-placed d.place-decimal.ensures.0 d.place-decimal.ensures.1 (omega (arith, m.ends, l, st.requires)) in
     let p = then m q.0 (omega (arith, q.1, m.ends, st.requires)) in (
-      placed-as (ap (λ (k : ℕ). 45 ∷ digitsOf k) e ∙ signed_below st.args.n (lt-left st.args.n (pos 0) true st.ranges.n i.if1.true)) p,
+      placed-as (ap (λ (k : ℕ). 45 ∷ digits_of k) e ∙ signed_below st.args.n (lt_left st.args.n (pos 0) true st.ranges.n i.if1.true)) p,
       omega (arith, q.1, m.ends),
     )
 
@@ -37,7 +37,7 @@ returns-2 c =
     let st = i.before.before.before in
     let e = i.before.size.ensures ∙ ap nat_abs (to_z-of_z st.ranges.n) in
     let q = decimal-placed d.place-decimal2.ensures.0 d.place-decimal2.ensures.1 (omega (arith, st.requires)) in (
-      placed-as (ap digitsOf e ∙ signed-from st.args.n (lt-left st.args.n (pos 0) false st.ranges.n i.if1.false)) q.0,
+      placed-as (ap digits_of e ∙ signed-from st.args.n (lt_left st.args.n (pos 0) false st.ranges.n i.if1.false)) q.0,
       omega (arith, q.1),
     )
 

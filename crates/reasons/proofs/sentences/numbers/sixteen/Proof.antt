@@ -1,11 +1,11 @@
 -- `numbers::sixteen` meets its contract. Assumes nothing.
-use Rattle.numerals.specs.digits.Hexadecimal.{hex16, hexDigits}
+use Rattle.numerals.specs.digits.Hexadecimal.{hex16, hex_digits}
 use borrow.Author.Rules.{rules}
 use Rattle.reasons.proofs.sentences.numbers.sixteen.Statement.{statement}
 use Rattle.reasons.proofs.sentences.numbers.sixteen.Tie as tie
 
 returns : tie.Need-returns
-unfolding hex16 hexDigits
+unfolding hex16 hex_digits
 returns c = cc
 
 pub sixteen-spec : {M : Type 1} → statement M

@@ -3,7 +3,7 @@ use native.Mathlib.Omega.{arith}
 use mathlib.Core.Path.{ap}
 use mir.Facts.{to_z-of_z}
 use Rattle.numerals.proofs.digits.Places.{then, placed-as}
-use Rattle.reasons.specs.sentences.Render.{signedDigits}
+use Rattle.reasons.specs.sentences.Render.{signed_digits}
 use Rattle.reasons.proofs.sentences.Placing.{placed-length}
 use borrow.Author.Rules.{rules}
 use Rattle.reasons.proofs.sentences.words.signed.Statement.{statement}
@@ -22,7 +22,7 @@ returns c =
     let b = s.before.before.before.before in
     let st = b.before.before.before.before in
     let p = b.place-bytes.ensures.written (omega (arith, st.requires)) in
-    let q = placed-as (ap signedDigits (to_z-of_z st.ranges.n)) s.signed.ensures.0 in
+    let q = placed-as (ap signed_digits (to_z-of_z st.ranges.n)) s.signed.ensures.0 in
     let short = s.signed.ensures.1 in
     (then p q (omega (arith, p.ends, short, st.requires)), omega (arith, p.ends, short, st.requires))
 

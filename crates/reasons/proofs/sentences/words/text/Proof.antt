@@ -1,12 +1,12 @@
 -- `words::text` meets its contract: each arm places the bytes of a text of the list. Assumes nothing.
-use Rattle.reasons.specs.sentences.Texts.{texts, fixedText}
+use Rattle.reasons.specs.sentences.Texts.{texts, fixed_text}
 use Rattle.reasons.proofs.sentences.Placing.{by_number, no_text}
 use borrow.Author.Rules.{rules}
 use Rattle.reasons.proofs.sentences.words.text.Statement.{statement}
 use Rattle.reasons.proofs.sentences.words.text.Tie as tie
 
 pub text-spec : {M : Type 1} → statement M
-unfolding fixedText texts
+unfolding fixed_text texts
 text-spec =
     tie.close
     (tie.spec (λ c. search rules) (λ c κs. search rules) (λ c. search rules) (λ c κs. search rules) (λ c. search rules) (λ c κs. search rules)

@@ -2,20 +2,20 @@
 use Prim.Native.Nat.{◌-◌}
 use native.Mathlib.Omega.{arith}
 use borrow.Author.Rules.{rules}
-use Rattle.runs.specs.by_formula.Asked.{changeOf, changedStamp}
-use Rattle.runs.proofs.by_formula.Puts.{Putting, putting-starts, len1, len2, len3, few, has-places, has-byte, putting-goes, putting-ends}
+use Rattle.runs.specs.by_formula.Asked.{change_of, changed_stamp}
+use Rattle.runs.proofs.by_formula.Puts.{Putting, putting_starts, len1, len2, len3, few, has-places, has-byte, putting_goes, putting_ends}
 use Rattle.runs.proofs.by_formula.changes.change_all.Statement.{statement}
 use Rattle.runs.proofs.by_formula.changes.change_all.Tie as tie
 
 abbrev invariant-loop : tie.invariant-loop
 invariant-loop kind days jd1s jd2s n out1₀ out2₀ numbers₀ refused₀ i₀ out1 out2 numbers refused i =
-    Putting (changedStamp (changeOf kind days) jd1s jd2s) n out1₀ out2₀ numbers₀ out1 out2 numbers refused i
+    Putting (changed_stamp (change_of kind days) jd1s jd2s) n out1₀ out2₀ numbers₀ out1 out2 numbers refused i
 
 abbrev decreases-loop : tie.decreases-loop
 decreases-loop kind days jd1s jd2s n out1₀ out2₀ numbers₀ refused₀ i₀ out1 out2 numbers refused i = n - i
 
 loop-holds : tie.Need-loop-init invariant-loop decreases-loop
-loop-holds c = putting-starts
+loop-holds c = putting_starts
 
 change-stamp-requires : tie.Need-change-stamp-requires invariant-loop decreases-loop
 change-stamp-requires c κs =
@@ -51,10 +51,10 @@ loop-again : tie.Need-loop-preserved invariant-loop decreases-loop
 loop-again c =
     let put = c.before.before.before.before.before in
     let test = put.before.before.before in
-    putting-goes test.before.loop.invariant test.loop-test.true put.change-stamp.ensures c.one-if-refused.ensures.0
+    putting_goes test.before.loop.invariant test.loop-test.true put.change-stamp.ensures c.one-if-refused.ensures.0
 
 returns : tie.Need-returns invariant-loop decreases-loop
-returns c = putting-ends c.before.loop.invariant (omega (arith, c.loop-test.false))
+returns c = putting_ends c.before.loop.invariant (omega (arith, c.loop-test.false))
 
 pub change-all-spec : {M : Type 1} → statement M
 change-all-spec =

@@ -1,27 +1,27 @@
 -- `runs::by_formula::pairs::formula_of` meets its contract. Assumes nothing.
 use mathlib.Core.Path.{sym, ap, ◌∙◌}
 use lib.Ieee.{neg}
-use Rattle.runs.specs.by_formula.Asked.{needsNone}
-use Rattle.runs.proofs.by_formula.KindLaws.{gps-to-tai, tai-to-gps, tai-to-tt, tt-to-tai, tt-to-tcg, tcg-to-tt, tcb-to-tdb, tdb-to-tcb, found, kept}
+use Rattle.runs.specs.by_formula.Asked.{needs_none}
+use Rattle.runs.proofs.by_formula.KindLaws.{gps_to_tai, tai_to_gps, tai_to_tt, tt_to_tai, tt-to-tcg, tcg-to-tt, tcb-to-tdb, tdb-to-tcb, found, kept}
 use borrow.Author.Rules.{rules}
 use Rattle.runs.proofs.by_formula.pairs.formula_of.Statement.{statement}
 use Rattle.runs.proofs.by_formula.pairs.formula_of.Tie as tie
 
 returns : tie.Need-returns
 returns c = found 4 1 3 (sym c.before.before.before.are.ensures ∙ c.before.before.if1.true) c.of-kind.ensures.0
-    (c.of-kind.ensures.1 ∙ c.before.gps-days.ensures) gps-to-tai
+    (c.of-kind.ensures.1 ∙ c.before.gps-days.ensures) gps_to_tai
 
 returns-2 : tie.Need-returns-2
 returns-2 c = found 1 4 3 (sym c.before.before.before.are2.ensures ∙ c.before.before.if2.true) c.of-kind2.ensures.0
-    (c.of-kind2.ensures.1 ∙ (ap neg c.before.gps-days2.ensures)) tai-to-gps
+    (c.of-kind2.ensures.1 ∙ (ap neg c.before.gps-days2.ensures)) tai_to_gps
 
 returns-3 : tie.Need-returns-3
 returns-3 c = found 1 3 3 (sym c.before.before.before.are3.ensures ∙ c.before.before.if3.true) c.of-kind3.ensures.0
-    (c.of-kind3.ensures.1 ∙ c.before.tt-days.ensures) tai-to-tt
+    (c.of-kind3.ensures.1 ∙ c.before.tt-days.ensures) tai_to_tt
 
 returns-4 : tie.Need-returns-4
 returns-4 c = found 3 1 3 (sym c.before.before.before.are4.ensures ∙ c.before.before.if4.true) c.of-kind4.ensures.0
-    (c.of-kind4.ensures.1 ∙ (ap neg c.before.tt-days2.ensures)) tt-to-tai
+    (c.of-kind4.ensures.1 ∙ (ap neg c.before.tt-days2.ensures)) tt_to_tai
 
 returns-5 : tie.Need-returns-5
 returns-5 c = found 3 5 4 (sym c.before.before.are5.ensures ∙ c.before.if5.true) c.of-kind5.ensures.0 c.of-kind5.ensures.1 (tt-to-tcg _)
@@ -36,7 +36,7 @@ returns-8 : tie.Need-returns-8
 returns-8 c = found 7 6 7 (sym c.before.before.are8.ensures ∙ c.before.if8.true) c.of-kind8.ensures.0 c.of-kind8.ensures.1 (tdb-to-tcb _)
 
 offset-kind-requires : tie.Need-offset-kind-requires
-unfolding needsNone
+unfolding needs_none
 offset-kind-requires c κs =
     let at-are7 = c.before.before.before in
     let at-if6 = at-are7.before in

@@ -1,27 +1,27 @@
 -- `runs::by_formula::pairs::offset_kind` meets its contract. Assumes nothing.
 use mathlib.Core.Path.{refl, sym, ◌∙◌}
-use Rattle.runs.proofs.by_formula.KindLaws.{tai-to-ut1, ut1-to-tai, ut1-to-tt, tt-to-ut1, tt-to-tdb, tdb-to-tt, found, no-formula}
+use Rattle.runs.proofs.by_formula.KindLaws.{tai_to_ut1, ut1_to_tai, ut1_to_tt, tt_to_ut1, tt_to_tdb, tdb_to_tt, found, no_formula}
 use borrow.Author.Rules.{rules}
 use Rattle.runs.proofs.by_formula.pairs.offset_kind.Statement.{statement}
 use Rattle.runs.proofs.by_formula.pairs.offset_kind.Tie as tie
 
 returns : tie.Need-returns
-returns c = λ days. found 1 2 1 (sym c.before.are.ensures ∙ c.if1.true) refl refl (tai-to-ut1 days)
+returns c = λ days. found 1 2 1 (sym c.before.are.ensures ∙ c.if1.true) refl refl (tai_to_ut1 days)
 
 returns-2 : tie.Need-returns-2
-returns-2 c = λ days. found 2 1 2 (sym c.before.are2.ensures ∙ c.if2.true) refl refl (ut1-to-tai days)
+returns-2 c = λ days. found 2 1 2 (sym c.before.are2.ensures ∙ c.if2.true) refl refl (ut1_to_tai days)
 
 returns-3 : tie.Need-returns-3
-returns-3 c = λ days. found 2 3 1 (sym c.before.are3.ensures ∙ c.if3.true) refl refl (ut1-to-tt days)
+returns-3 c = λ days. found 2 3 1 (sym c.before.are3.ensures ∙ c.if3.true) refl refl (ut1_to_tt days)
 
 returns-4 : tie.Need-returns-4
-returns-4 c = λ days. found 3 2 2 (sym c.before.are4.ensures ∙ c.if4.true) refl refl (tt-to-ut1 days)
+returns-4 c = λ days. found 3 2 2 (sym c.before.are4.ensures ∙ c.if4.true) refl refl (tt_to_ut1 days)
 
 returns-5 : tie.Need-returns-5
-returns-5 c = λ days. found 3 7 1 (sym c.before.are5.ensures ∙ c.if5.true) refl refl (tt-to-tdb days)
+returns-5 c = λ days. found 3 7 1 (sym c.before.are5.ensures ∙ c.if5.true) refl refl (tt_to_tdb days)
 
 returns-6 : tie.Need-returns-6
-returns-6 c = λ days. found 7 3 2 (sym c.before.are6.ensures ∙ c.if6.true) refl refl (tdb-to-tt days)
+returns-6 c = λ days. found 7 3 2 (sym c.before.are6.ensures ∙ c.if6.true) refl refl (tdb_to_tt days)
 
 returns-7 : tie.Need-returns-7
 returns-7 c =
@@ -35,7 +35,7 @@ returns-7 c =
     let at-if1 = at-are2.before in
     let at-are = at-if1.before in
     let start = at-are.before in
-    λ days. no-formula start.args.from
+    λ days. no_formula start.args.from
     start.args.to days
     start.requires
     (sym at-are.are.ensures

@@ -1,19 +1,19 @@
 -- `utc::iso_texts::expanded::to_iso8601_expanded` meets its contract: the table is tested, and its rows are read. Assumes nothing.
 use borrow.Author.Rules.{rules}
-use Rattle.utc.specs.iso_texts.Expanded.{expandedForm}
+use Rattle.utc.specs.iso_texts.Expanded.{expanded_form}
 use Rattle.utc.proofs.iso_texts.EachForm.{table-refused, table_taken}
 use Rattle.utc.proofs.iso_texts.expanded.to_iso8601_expanded.Statement.{statement}
 use Rattle.utc.proofs.iso_texts.expanded.to_iso8601_expanded.Tie as tie
 
 returns : tie.Need-returns
-returns c = table-refused expandedForm _ _ _ c.before.table-refusal.ensures c.if1.true
+returns c = table-refused expanded_form _ _ _ c.before.table-refusal.ensures c.if1.true
 
 returns-2 : tie.Need-returns-2
 returns-2 c =
     let v = c.before.before in
     let z = v.before.before.before.before.before in
     let i = z.before in
-    table_taken expandedForm _ _ _ i.before.table-refusal.ensures i.if1.false z.size_of.ensures v.to-iso8601-expanded-by-arrays.ensures
+    table_taken expanded_form _ _ _ i.before.table-refusal.ensures i.if1.false z.size_of.ensures v.to-iso8601-expanded-by-arrays.ensures
 
 pub to-iso8601-expanded-spec : {M : Type 1} → statement M
 to-iso8601-expanded-spec =

@@ -1,19 +1,19 @@
 -- `utc::iso_texts::half_even::to_iso8601_half_even` meets its contract: the table is tested, and its rows are read. Assumes nothing.
 use borrow.Author.Rules.{rules}
-use Rattle.utc.specs.iso_texts.HalfEven.{halfEvenForm}
+use Rattle.utc.specs.iso_texts.HalfEven.{half_even_form}
 use Rattle.utc.proofs.iso_texts.EachForm.{table-refused, table_taken}
 use Rattle.utc.proofs.iso_texts.half_even.to_iso8601_half_even.Statement.{statement}
 use Rattle.utc.proofs.iso_texts.half_even.to_iso8601_half_even.Tie as tie
 
 returns : tie.Need-returns
-returns c = table-refused halfEvenForm _ _ _ c.before.table-refusal.ensures c.if1.true
+returns c = table-refused half_even_form _ _ _ c.before.table-refusal.ensures c.if1.true
 
 returns-2 : tie.Need-returns-2
 returns-2 c =
     let v = c.before.before in
     let z = v.before.before.before.before.before in
     let i = z.before in
-    table_taken halfEvenForm _ _ _ i.before.table-refusal.ensures i.if1.false z.size_of.ensures v.to-iso8601-half-even-by-arrays.ensures
+    table_taken half_even_form _ _ _ i.before.table-refusal.ensures i.if1.false z.size_of.ensures v.to-iso8601-half-even-by-arrays.ensures
 
 pub to-iso8601-half-even-spec : {M : Type 1} → statement M
 to-iso8601-half-even-spec =

@@ -3,22 +3,22 @@ use Prim.Native.Nat.{ℕ, ◌-◌, ◌*◌, ◌/◌, ◌%◌}
 use native.Mathlib.Omega.{arith}
 use mathlib.Core.Path.{◌≡◌, ap, ◌∙◌}
 use mathlib.Core.List.{List, ◌++◌}
-use Rattle.time_of_day.specs.TimeShown.{minuteOf, timeOf}
-use Rattle.utc.specs.run_texts.Kept.{eleven, timeCharacters}
+use Rattle.time_of_day.specs.TimeShown.{minute_of, time_of}
+use Rattle.utc.specs.run_texts.Kept.{eleven, time_characters}
 use Rattle.utc.proofs.run_texts.KeptDays.{time-written}
 use borrow.Author.Rules.{rules}
 use Rattle.utc.proofs.run_texts.kept_day.day_bytes.Statement.{statement}
 use Rattle.utc.proofs.run_texts.kept_day.day_bytes.Tie as tie
 
 returns : tie.Need-returns
-unfolding timeOf
+unfolding time_of
 returns c =
     let a = c.before.args in
     let m = c.minute-of-day.result in
     let k = a.millis in
-    let e : m ≡ minuteOf k = c.minute-of-day.ensures in
+    let e : m ≡ minute_of k = c.minute-of-day.ensures in
     ap (λ (z : List ℕ). eleven a.t1 ++ z) (time-written m (k - m * 60000) (omega (arith, e)) (omega (arith, e, c.before.requires))
-    ∙ ap (λ (n : ℕ). timeCharacters (record { hour = n / 60; minute = n % 60; second = (k - n * 60000) / 1000; milli = (k - n * 60000) % 1000 })) e)
+    ∙ ap (λ (n : ℕ). time_characters (record { hour = n / 60; minute = n % 60; second = (k - n * 60000) / 1000; milli = (k - n * 60000) % 1000 })) e)
 
 pub day-bytes-spec : {M : Type 1} → statement M
 day-bytes-spec =

@@ -22,7 +22,7 @@ returns c l =
       record {
         year = z.size.result;
         basic = y.0;
-        in-year = y.1;
+        in_year = y.1;
         counts = w.whole-leap.ensures;
         ends = e.day-end.ensures.0;
         characters = c.date-bytes.ensures;

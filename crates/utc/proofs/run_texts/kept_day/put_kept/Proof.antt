@@ -2,7 +2,7 @@
 use mathlib.Core.Path.{refl}
 use lib.Ieee.{of_bits}
 use Rattle.utc.specs.run_texts.Kept.{PutsByDay}
-use Rattle.utc.proofs.run_texts.KeptDays.{by-day}
+use Rattle.utc.proofs.run_texts.KeptDays.{by_day}
 use borrow.Author.Rules.{rules}
 use Rattle.utc.proofs.run_texts.kept_day.put_kept.Statement.{statement}
 use Rattle.utc.proofs.run_texts.kept_day.put_kept.Tie as tie
@@ -17,7 +17,7 @@ returns c =
     let k = i2.before.before.struct-known2.given in
     let i1 = i2.before.before.before in
     let s = i1.before.before.before in
-    by-day s.args.textForm s.args.jd s.args.kept s.args.out.now t.put-time.result _ i1.if1.true k.0 k.1.0 i2.if2.true
+    by_day s.args.textForm s.args.jd s.args.kept s.args.out.now t.put-time.result _ i1.if1.true k.0 k.1.0 i2.if2.true
     i3.if3.true i4.if4.true t.put-time.ensures
 
 returns-2 : tie.Need-returns-2

@@ -2,16 +2,16 @@
 use mathlib.Core.Path.{ap, ◌∙◌}
 use mir.Facts.{to_z-of_z}
 use mir.Syntax.{w64}
-use Rattle.time_of_day.specs.TimeShown.{fromZero}
-use Rattle.time_of_day.specs.HalfEven.{gridUnits}
+use Rattle.time_of_day.specs.TimeShown.{from_zero}
+use Rattle.time_of_day.specs.HalfEven.{grid_units}
 use borrow.Author.Rules.{rules}
 use Rattle.utc.proofs.shown.half_even.grid_units.Statement.{statement}
 use Rattle.utc.proofs.shown.half_even.grid_units.Tie as tie
 
 returns : tie.Need-returns
-unfolding gridUnits
+unfolding grid_units
 returns c = c.from_zero.ensures
-    ∙ ap fromZero (to_z-of_z {w = w64} {z = c.before.saturating-i64.result} (record { sfits = c.before.saturating-i64.type-inv })
+    ∙ ap from_zero (to_z-of_z {w = w64} {z = c.before.saturating-i64.result} (record { sfits = c.before.saturating-i64.type-inv })
     ∙ c.before.saturating-i64.ensures)
 
 pub grid-units-spec : {M : Type 1} → statement M

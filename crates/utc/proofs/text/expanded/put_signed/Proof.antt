@@ -2,7 +2,7 @@
 use mathlib.Core.List.{◌∷◌, ◌++◌}
 use mathlib.Core.Bool.{cond}
 use native.Mathlib.Omega.{arith}
-use Rattle.utc.specs.text.Text.{seven, afterYear}
+use Rattle.utc.specs.text.Text.{seven, after_year}
 use Rattle.utc.proofs.text.Laws.{short}
 use Rattle.utc.proofs.text.ExpandedLaws.{seven-source, signed-put}
 use borrow.Author.Rules.{rules}
@@ -12,7 +12,7 @@ use Rattle.utc.proofs.text.expanded.put_signed.Tie as tie
 returns : tie.Need-returns
 returns c =
     let a = c.before.before.before.before.before.args in
-    short ((cond a.negative 45 43 ∷ seven a.size) ++ afterYear a.date a.time) a.out.now (omega (arith, c.if1.true))
+    short ((cond a.negative 45 43 ∷ seven a.size) ++ after_year a.date a.time) a.out.now (omega (arith, c.if1.true))
 
 returns-2 : tie.Need-returns-2
 returns-2 c =

@@ -1,7 +1,7 @@
 -- `expanded::put_text_expanded` meets its contract. Assumes nothing.
 use mathlib.Core.Path.{sym, ◌∙◌}
 use mathlib.Core.Bool.{true, false}
-use Rattle.utc.proofs.text.ExpandedLaws.{of-expanded}
+use Rattle.utc.proofs.text.ExpandedLaws.{of_expanded}
 use borrow.Author.Rules.{rules}
 use Rattle.utc.proofs.text.expanded.put_text_expanded.Statement.{statement}
 use Rattle.utc.proofs.text.expanded.put_text_expanded.Tie as tie
@@ -12,7 +12,7 @@ returns c =
     let i = p.before.before in
     let s = i.before.before in
     let n = s.before.before in
-    of-expanded n.before.before.before.args.date n.before.before.before.args.time n.negative.result true s.size.result _ _ _
+    of_expanded n.before.before.before.args.date n.before.before.before.args.time n.negative.result true s.size.result _ _ _
     (record { sfits = n.before.struct_told.given.0.1 }) n.negative.ensures s.size.ensures
     (sym i.before.is-basic.ensures ∙ i.if1.true) p.put-basic.ensures
 
@@ -22,7 +22,7 @@ returns-2 c =
     let i = p.before.before in
     let s = i.before.before in
     let n = s.before.before in
-    of-expanded n.before.before.before.args.date n.before.before.before.args.time n.negative.result false s.size.result _ _ _
+    of_expanded n.before.before.before.args.date n.before.before.before.args.time n.negative.result false s.size.result _ _ _
     (record { sfits = n.before.struct_told.given.0.1 }) n.negative.ensures s.size.ensures
     (sym i.before.is-basic.ensures ∙ i.if1.false) p.put-signed.ensures
 

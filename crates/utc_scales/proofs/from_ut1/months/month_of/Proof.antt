@@ -4,15 +4,15 @@ use mathlib.Core.List.{List}
 use lib.IntN.{ℤ}
 use mir.Facts.{to_z-of_z}
 use Rattle.calendar.specs.declared.CalendarDate.{CalendarDate}
-use Rattle.calendar.specs.Gregorian.{gregorianDate}
+use Rattle.calendar.specs.Gregorian.{gregorian_date}
 use Rattle.leap_table.specs.rows.Table.{Row}
-use Rattle.leap_table.specs.rows.Announced.{rowsIn}
-use Rattle.leap_table.specs.offsets.Rule.{withRule}
-use Rattle.leap_table.specs.offsets.Answers.{secondsByRuleOutcome}
+use Rattle.leap_table.specs.rows.Announced.{rows_in}
+use Rattle.leap_table.specs.offsets.Rule.{with_rule}
+use Rattle.leap_table.specs.offsets.Answers.{seconds_by_rule_outcome}
 use Rattle.leap_table.proofs.offsets.Rules.{apart, refused-apart}
-use Rattle.utc_scales.specs.days.Dates.{offsetAt0h}
-use Rattle.utc_scales.specs.days.DateRule.{ruleOn}
-use Rattle.utc_scales.specs.from_ut1.KnownMonths.{monthOutcome, RightMonths}
+use Rattle.utc_scales.specs.days.Dates.{offset_at0h}
+use Rattle.utc_scales.specs.days.DateRule.{rule_on}
+use Rattle.utc_scales.specs.from_ut1.KnownMonths.{month_outcome, RightMonths}
 use Rattle.utc_scales.proofs.from_ut1.MonthOffsets.{month-right}
 use borrow.Author.Rules.{rules}
 use Rattle.utc_scales.proofs.from_ut1.months.month_of.Statement.{statement}
@@ -20,26 +20,26 @@ use Rattle.utc_scales.proofs.from_ut1.months.month_of.Tie as tie
 
 -- the rows that are read
 abbrev rows : tie.Start → List Row
-rows s = rowsIn s.args.size s.args.months.now s.args.seconds.now
+rows s = rows_in s.args.size s.args.months.now s.args.seconds.now
 
 called : (v : tie.After-offset-at-0h)
-    → secondsByRuleOutcome v.offset-at-0h.result ≡ withRule (offsetAt0h (rows v.before) (gregorianDate v.before.args.day))
-    (ruleOn (rows v.before) (gregorianDate v.before.args.day))
+    → seconds_by_rule_outcome v.offset-at-0h.result ≡ with_rule (offset_at0h (rows v.before) (gregorian_date v.before.args.day))
+    (rule_on (rows v.before) (gregorian_date v.before.args.day))
 called v = let s = v.before in v.offset-at-0h.ensures
-    ∙ ap (λ (z : ℤ). withRule (offsetAt0h (rows s) (gregorianDate z)) (ruleOn (rows s) (gregorianDate z))) (to_z-of_z s.ranges.day)
+    ∙ ap (λ (z : ℤ). with_rule (offset_at0h (rows s) (gregorian_date z)) (rule_on (rows s) (gregorian_date z))) (to_z-of_z s.ranges.day)
 
 returns : tie.Need-returns
-unfolding monthOutcome RightMonths secondsByRuleOutcome
-returns c = (sym (refused-apart _ _ _ (sym (called c.before.before.before) ∙ ap secondsByRuleOutcome c.before.number.given.1)), tt)
+unfolding month_outcome RightMonths seconds_by_rule_outcome
+returns c = (sym (refused-apart _ _ _ (sym (called c.before.before.before) ∙ ap seconds_by_rule_outcome c.before.number.given.1)), tt)
 
 returns-2 : tie.Need-returns-2
-unfolding monthOutcome RightMonths secondsByRuleOutcome
+unfolding month_outcome RightMonths seconds_by_rule_outcome
 returns-2 c =
     let x = c.before.before.before in
     let v = x.before.before in
     let s = v.before in
-    let g = c.before.gregorian-date.ensures ∙ ap gregorianDate (to_z-of_z s.ranges.day) in
-    let p = (apart _ _ _ _ (sym (called v) ∙ ap secondsByRuleOutcome x.x.given.1)).0 in (
+    let g = c.before.gregorian-date.ensures ∙ ap gregorian_date (to_z-of_z s.ranges.day) in
+    let p = (apart _ _ _ _ (sym (called v) ∙ ap seconds_by_rule_outcome x.x.given.1)).0 in (
       sym p,
       month-right _ _ _ s.args.day _ (to_z-of_z (record { sfits = c.struct_told.given.0.1 }) ∙ ap (λ (t : CalendarDate). t.year) g)
           (ap (λ (t : CalendarDate). t.month) g) p,

@@ -2,40 +2,40 @@
 use mathlib.Core.Path.{sym, ap, ◌∙◌}
 use lib.IntN.{ℤ}
 use Rattle.floats.proofs.Laws.{yes}
-use Rattle.calendar.specs.Gregorian.{gregorianDate}
-use Rattle.julian.specs.day_number.Answer.{dayOutcome}
+use Rattle.calendar.specs.Gregorian.{gregorian_date}
+use Rattle.julian.specs.day_number.Answer.{day_outcome}
 use Rattle.julian.proofs.day_number.Ranges.{day-range, day-read}
-use Rattle.utc_scales.specs.days.Dates.{offsetAt0h}
-use Rattle.utc_scales.specs.from_ut1.KnownMonths.{monthOutcome, RightMonths}
+use Rattle.utc_scales.specs.days.Dates.{offset_at0h}
+use Rattle.utc_scales.specs.from_ut1.KnownMonths.{month_outcome, RightMonths}
 use Rattle.utc_scales.proofs.days.Steps.{offset-no-date, offset-of-day}
 use mathlib.Core.List.{List}
 use Rattle.leap_table.specs.rows.Table.{Row}
-use Rattle.leap_table.specs.rows.Announced.{rowsIn}
+use Rattle.leap_table.specs.rows.Announced.{rows_in}
 use borrow.Author.Rules.{rules}
 use Rattle.utc_scales.proofs.from_ut1.months.month_of_date.Statement.{statement}
 use Rattle.utc_scales.proofs.from_ut1.months.month_of_date.Tie as tie
 
 -- the rows that are read
 abbrev rows : tie.Start → List Row
-rows s = rowsIn s.args.size s.args.months.now s.args.seconds.now
+rows s = rows_in s.args.size s.args.months.now s.args.seconds.now
 
 returns : tie.Need-returns
-unfolding monthOutcome RightMonths dayOutcome
+unfolding month_outcome RightMonths day_outcome
 returns c = (
-  sym (offset-no-date _ _ _ (sym c.before.before.before.day-number-and-fraction.ensures ∙ ap dayOutcome c.before.number.given.1)
+  sym (offset-no-date _ _ _ (sym c.before.before.before.day-number-and-fraction.ensures ∙ ap day_outcome c.before.number.given.1)
       (rows c.before.before.before.before)),
   tt,
 )
 
 returns-2 : tie.Need-returns-2
-unfolding dayOutcome
+unfolding day_outcome
 returns-2 c =
     let d = c.before.before.before in
     let n = d.before.before in
     let s = n.before in
-    let e = sym n.day-number-and-fraction.ensures ∙ ap dayOutcome d.d.given.1 in
-    let r = day-range _ _ (yes s.well-formed.0.1) (yes s.well-formed.1.0.1) _ e in (
-      c.month-of.ensures.0 ∙ ap (λ (z : ℤ). offsetAt0h (rows s) (gregorianDate z)) (day-read _ r) ∙ sym (offset-of-day (rows s) _ _ _ e),
+    let e = sym n.day-number-and-fraction.ensures ∙ ap day_outcome d.d.given.1 in
+    let r = day-range _ _ (yes s.well_formed.0.1) (yes s.well_formed.1.0.1) _ e in (
+      c.month-of.ensures.0 ∙ ap (λ (z : ℤ). offset_at0h (rows s) (gregorian_date z)) (day-read _ r) ∙ sym (offset-of-day (rows s) _ _ _ e),
       c.month-of.ensures.1,
     )
 
