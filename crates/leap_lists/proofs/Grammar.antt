@@ -3,7 +3,7 @@ use Prim.Native.Nat.{ℕ, zero, suc, ◌+◌, ◌-◌, ◌*◌, ◌/◌, ◌%◌
 use native.Mathlib.Omega.{arith}
 use mathlib.Core.Path.{◌≡◌, refl, sym, ap, ◌∙◌, subst}
 use mathlib.Core.List.{List, [], ◌∷◌, ◌++◌}
-use mathlib.Core.Bool.{Bool, true, false, cond, and_false}
+use mathlib.Core.Bool.{Bool, true, false, cond, and-false}
 use lib.ListN.{length, drop, get_or}
 use lib.Seq.{drop-append_seam}
 use lib.Dec.{eqb, ltb}
@@ -31,7 +31,7 @@ digit_no_blank r c h =
     let a : c ≡ 32 → ⊥ = λ e. omega arith in
     let b : c ≡ 9 → ⊥ = λ e. omega arith in
     let d : c ≡ 13 → ⊥ = λ e. omega arith in
-    rw (ne_eqb _ _ a, ne_eqb _ _ b, ne_eqb _ _ d) (simp and_false)
+    rw (ne_eqb _ _ a, ne_eqb _ _ b, ne_eqb _ _ d) (simp and-false)
 
 blank_no_digit : (r : Bool) (c : ℕ) → line_blank r c ≡ true → is_digit c ≡ false
 blank_no_digit r c e = either (is_digit c) refl

@@ -3,7 +3,7 @@ use Prim.Native.Nat.{ℕ, zero, suc, ◌+◌, ◌≤◌, ◌<◌}
 use native.Mathlib.Omega.{arith}
 use mathlib.Core.Path.{◌≡◌, refl, sym, ap, ◌∙◌, subst}
 use mathlib.Core.List.{List, [], ◌∷◌, ◌++◌}
-use mathlib.Core.Bool.{Bool, true, false, cond, ◌&&◌, and_false, and-eq-true_iff}
+use mathlib.Core.Bool.{Bool, true, false, cond, ◌&&◌, and-false, and-eq-true_iff}
 use mathlib.Core.Logic.{◌⊎◌, inl, inr}
 use lib.ListN.{length, drop}
 use lib.Seq.{drop-append_seam}
@@ -124,8 +124,8 @@ fraction-split s = either (eqb (length (fraction_digits s)) 0) refl
 -- ---- the zone and the end
 no_zulu : (utc : Bool) (after : List ℕ) → AllBlank after → zulu_first utc after ≡ false
 unfolding AllBlank
-no_zulu utc [] h = and_false utc
-no_zulu utc (c ∷ cs) h = ap (λ (b : Bool). utc && b) (of_blank c h.0) ∙ and_false utc
+no_zulu utc [] h = and-false utc
+no_zulu utc (c ∷ cs) h = ap (λ (b : Bool). utc && b) (of_blank c h.0) ∙ and-false utc
   where
     of_blank : (c : ℕ) → Blank c → eqb c 90 ≡ false
     of_blank c (inl k) = ne_eqb c 90 (λ e. omega (arith, k.1))

@@ -5,7 +5,7 @@ use mathlib.Core.Path.{◌≡◌, refl, sym, ap, ◌∙◌, subst}
 use mathlib.Core.List.{List, [], ◌∷◌}
 use mathlib.Core.Bool.{Bool, true, false, ◌||◌, and-eq-true_iff}
 use lib.ListN.{length, drop, get_or-eq_default}
-use lib.Seq.{drop_cons}
+use lib.Seq.{drop-cons}
 use lib.Dec.{ltb, eqb}
 use borrow.Author.Tests.{ltb-true, ltb-false, eqb-true}
 use Rattle.numerals.specs.digits.Decimal.{number, is_digit, AllDigits, Digits}
@@ -178,29 +178,29 @@ nineteen s k = either (ltb 18 (length s)) refl
 pub all-nineteen : (s : List ℕ) → 19 ≤ length s
     → s ≡ byte_at s 0 ∷ byte_at s 1 ∷ byte_at s 2 ∷ byte_at s 3 ∷ byte_at s 4 ∷ byte_at s 5 ∷ byte_at s 6 ∷ byte_at s 7 ∷ byte_at s 8 ∷ byte_at s 9 ∷ byte_at s 10 ∷
     byte_at s 11 ∷ byte_at s 12 ∷ byte_at s 13 ∷ byte_at s 14 ∷ byte_at s 15 ∷ byte_at s 16 ∷ byte_at s 17 ∷ byte_at s 18 ∷ drop 19 s
-all-nineteen s h = drop_cons s 0 0 (omega arith)
+all-nineteen s h = drop-cons s 0 0 (omega arith)
     ∙ ap (λ (l : List ℕ). byte_at s 0 ∷ l)
-    (drop_cons s 1 0 (omega arith) ∙ ap (λ (l : List ℕ). byte_at s 1 ∷ l)
-    (drop_cons s 2 0 (omega arith) ∙ ap (λ (l : List ℕ). byte_at s 2 ∷ l)
-    (drop_cons s 3 0 (omega arith) ∙ ap (λ (l : List ℕ). byte_at s 3 ∷ l)
-    (drop_cons s 4 0 (omega arith) ∙ ap (λ (l : List ℕ). byte_at s 4 ∷ l)
-    (drop_cons s 5 0 (omega arith) ∙ ap (λ (l : List ℕ). byte_at s 5 ∷ l)
-    (drop_cons s 6 0 (omega arith) ∙ ap (λ (l : List ℕ). byte_at s 6 ∷ l)
-    (drop_cons s 7 0 (omega arith) ∙ ap (λ (l : List ℕ). byte_at s 7 ∷ l)
-    (drop_cons s 8 0 (omega arith) ∙ ap (λ (l : List ℕ). byte_at s 8 ∷ l)
-    (drop_cons s 9 0 (omega arith) ∙ ap (λ (l : List ℕ). byte_at s 9 ∷ l)
-    (drop_cons s 10 0 (omega arith)
+    (drop-cons s 1 0 (omega arith) ∙ ap (λ (l : List ℕ). byte_at s 1 ∷ l)
+    (drop-cons s 2 0 (omega arith) ∙ ap (λ (l : List ℕ). byte_at s 2 ∷ l)
+    (drop-cons s 3 0 (omega arith) ∙ ap (λ (l : List ℕ). byte_at s 3 ∷ l)
+    (drop-cons s 4 0 (omega arith) ∙ ap (λ (l : List ℕ). byte_at s 4 ∷ l)
+    (drop-cons s 5 0 (omega arith) ∙ ap (λ (l : List ℕ). byte_at s 5 ∷ l)
+    (drop-cons s 6 0 (omega arith) ∙ ap (λ (l : List ℕ). byte_at s 6 ∷ l)
+    (drop-cons s 7 0 (omega arith) ∙ ap (λ (l : List ℕ). byte_at s 7 ∷ l)
+    (drop-cons s 8 0 (omega arith) ∙ ap (λ (l : List ℕ). byte_at s 8 ∷ l)
+    (drop-cons s 9 0 (omega arith) ∙ ap (λ (l : List ℕ). byte_at s 9 ∷ l)
+    (drop-cons s 10 0 (omega arith)
     ∙ ap (λ (l : List ℕ). byte_at s 10 ∷ l)
-    (drop_cons s 11 0 (omega arith)
+    (drop-cons s 11 0 (omega arith)
     ∙ ap (λ (l : List ℕ). byte_at s 11 ∷ l)
-    (drop_cons s 12 0 (omega arith)
+    (drop-cons s 12 0 (omega arith)
     ∙ ap (λ (l : List ℕ). byte_at s 12 ∷ l)
-    (drop_cons s 13 0 (omega arith)
+    (drop-cons s 13 0 (omega arith)
     ∙ ap (λ (l : List ℕ). byte_at s 13 ∷ l)
-    (drop_cons s 14 0 (omega arith)
+    (drop-cons s 14 0 (omega arith)
     ∙ ap (λ (l : List ℕ). byte_at s 14 ∷ l)
-    (drop_cons s 15 0 (omega arith)
+    (drop-cons s 15 0 (omega arith)
     ∙ ap (λ (l : List ℕ). byte_at s 15 ∷ l)
-    (drop_cons s 16 0 (omega arith)
+    (drop-cons s 16 0 (omega arith)
     ∙ ap (λ (l : List ℕ). byte_at s 16 ∷ l)
-    (drop_cons s 17 0 (omega arith) ∙ ap (λ (l : List ℕ). byte_at s 17 ∷ l) (drop_cons s 18 0 (omega arith)))))))))))))))))))
+    (drop-cons s 17 0 (omega arith) ∙ ap (λ (l : List ℕ). byte_at s 17 ∷ l) (drop-cons s 18 0 (omega arith)))))))))))))))))))

@@ -4,7 +4,7 @@ use Prim.Native.Nat.{ℕ, ◌*◌, ◌^◌, ◌≤◌}
 use native.Mathlib.Omega.{arith}
 use mathlib.Core.Path.{◌≡◌, refl, sym, ap, ◌∙◌, subst}
 use mathlib.Core.List.{List}
-use mathlib.Core.Bool.{Bool, true, false, cond, ◌&&◌, ◌||◌, and-eq-true_iff, and_false}
+use mathlib.Core.Bool.{Bool, true, false, cond, ◌&&◌, ◌||◌, and-eq-true_iff, and-false}
 use mathlib.Core.Logic.{◌⊎◌, inl, inr}
 use lib.Dec.{leb, ltb}
 use lib.IntN.{ℤ, pos}
@@ -27,7 +27,7 @@ module _ (w : Written) where
   no_time : NoTime w → time_fits w ≡ false
   unfolding time_fits
   no_time (hour_over h) = rw (lt-leb w.hour 23 h)
-  no_time (minute_over h) = rw (lt-leb w.minute 59 h) (and_false (leb w.hour 23))
+  no_time (minute_over h) = rw (lt-leb w.minute 59 h) (and-false (leb w.hour 23))
   no_time (second_over h) = rw (le-ltb w.whole (61 * 10 ^ w.places) h) (both (leb w.hour 23) (leb w.minute 59))
     where
       both : (a b : Bool) → (a && (b && false)) ≡ false

@@ -1,7 +1,7 @@
 -- `block_io::read_block` meets its contract. The measure is the room that is left. Assumes nothing.
 use lib.ListN.{length, length-take, length-drop}
 use mathlib.Core.Path.{◌≡◌, refl}
-use Prim.Native.Nat.{◌-◌, ◌≤◌, zero_le}
+use Prim.Native.Nat.{◌-◌, ◌≤◌, zero-le}
 use native.Mathlib.Omega.{arith}
 use borrow.Author.Rules.{rules}
 use Rattle.block_io.proofs.Counted.{counts}
@@ -15,7 +15,7 @@ abbrev decreases-loop : tie.decreases-loop
 decreases-loop space₀ done₀ space done = length space₀ - done
 
 loop-holds : tie.Need-loop-init invariant-loop decreases-loop
-loop-holds c = (zero_le, refl)
+loop-holds c = (zero-le, refl)
 
 returns : tie.Need-returns invariant-loop decreases-loop
 returns c = counts _ _ (search rules)

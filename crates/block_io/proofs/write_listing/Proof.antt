@@ -1,6 +1,6 @@
 -- `block_io::write_listing` meets its contract: a part that is not the last brings it on by a line at least. The measure is the number of lines that can be
 -- left. Assumes nothing.
-use Prim.Native.Nat.{◌-◌, ◌≤◌, zero_le}
+use Prim.Native.Nat.{◌-◌, ◌≤◌, zero-le}
 use mathlib.Core.Path.{◌≡◌}
 use mathlib.Core.Bool.{false≢true}
 use lib.ListN.{length}
@@ -21,7 +21,7 @@ abbrev decreases-loop : tie.decreases-loop
 decreases-loop how block scratch₀ table line₀ scratch line = 4001 - line
 
 loop-holds : tie.Need-loop-init invariant-loop decreases-loop
-loop-holds c = (zero_le, search rules)
+loop-holds c = (zero-le, search rules)
 
 array-share-prefix-scratch : tie.Need-array-share-prefix-scratch invariant-loop decreases-loop
 array-share-prefix-scratch c = (part-within c.before.next-part-by-rows.ensures).0

@@ -1,6 +1,6 @@
 -- `block_io::write_text` meets its contract. The measure is the number of bytes that are left. Assumes nothing.
 use lib.ListN.{length, length-take, length-drop}
-use Prim.Native.Nat.{◌-◌, ◌≤◌, zero_le}
+use Prim.Native.Nat.{◌-◌, ◌≤◌, zero-le}
 use native.Mathlib.Omega.{arith}
 use borrow.Author.Rules.{rules}
 use Rattle.block_io.proofs.Counted.{counts}
@@ -14,7 +14,7 @@ abbrev decreases-loop : tie.decreases-loop
 decreases-loop text done₀ done = length text - done
 
 loop-holds : tie.Need-loop-init invariant-loop decreases-loop
-loop-holds c = zero_le
+loop-holds c = zero-le
 
 add_done : tie.Need-overflow-add-done invariant-loop decreases-loop
 add_done c =

@@ -4,7 +4,7 @@ use mathlib.Core.Bool.{Bool, true, false, cond}
 use Prim.Native.Nat.{ℕ, ◌+◌}
 use lib.Dec.{T}
 use lib.Ieee.{Float, binary64, add, sub, le, lt, fits}
-use lib.Ieee.Fits.{add-fits, sub_fits}
+use lib.Ieee.Fits.{add-fits, sub-fits}
 use Rattle.julian.specs.declared.day_number.Kahan.{Kahan}
 use Rattle.julian.specs.declared.day_number.Summed.{Summed}
 use Rattle.julian.specs.declared.day_number.Carried.{Carried}
@@ -104,8 +104,8 @@ normal_step κ k = go (lt z nought)
 
     go : (b : Bool) → Unsigned (cond {A = Normalized} b (beside_borrowed 1 (carry_day (kahan_of (borrow_sum s) w) w))
         (beside_borrowed 0 (carry_day (kahan_of s z) z))).fraction
-    go true = carry_step (kahan_of (borrow_sum s) w) w borrowed (record { sum = more; correction = sub_fits binary64 w (borrow_sum s) })
-    go false = carry_step (kahan_of s z) z (add_unsigned κ.correction k.correction k.sum) (record { sum = k.sum; correction = sub_fits binary64 z s })
+    go true = carry_step (kahan_of (borrow_sum s) w) w borrowed (record { sum = more; correction = sub-fits binary64 w (borrow_sum s) })
+    go false = carry_step (kahan_of s z) z (add_unsigned κ.correction k.correction k.sum) (record { sum = k.sum; correction = sub-fits binary64 z s })
 
 pub fraction-unsigned : (x y : Float) → Unsigned (fraction_passed x y)
 unfolding fraction_passed joined_fractions

@@ -8,7 +8,7 @@ use lib.Dec.{T, ltb, ltb→lt, nltb→le, lit<}
 use lib.IntN.{pos, neg_ℤ}
 use lib.Ieee.{Float, nan, inf, fin, binary64, up, down, add, sub, lt, fits, round, to_signed}
 use lib.Ieee.Exact.{HasValue}
-use lib.Ieee.Fits.{down_pos, add-fits, sub_fits}
+use lib.Ieee.Fits.{down_pos, add-fits, sub-fits}
 use lib.Ieee.Nearest.{div_same}
 use Rattle.rounding.specs.Value.{Signed, Val, Rounds, L}
 use Rattle.rounding.proofs.Value.{L-pos, abs-has, add_rounds, sub_rounds}
@@ -177,7 +177,7 @@ whole x s X f v = go s v (lt (abs x) half) refl (lt x nought) refl
         let q = minus-round (X + H) (omega (arith, H-pos)) (sub_rounds binary64 L-pos vx half-val) in (
           found X,
           whole-of-has (to_whole upward (sub binary64 x half)) true X (found X) (numbers X r h)
-              (ceil_has (sub binary64 x half) (step (X + H)) (sub_fits binary64 x half)
+              (ceil_has (sub binary64 x half) (step (X + H)) (sub-fits binary64 x half)
               (some-step (sub binary64 x half) true X r h (has-small x true X f v) q)),
         )
     go true v false e false d =

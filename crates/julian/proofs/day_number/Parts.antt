@@ -7,7 +7,7 @@ use native.Mathlib.Omega.{arith}
 use lib.Dec.{T, lit≤, lit<}
 use lib.Pow.{pow_pos}
 use lib.Ieee.{Float, binary64, fits}
-use lib.Ieee.Fits.{sub_fits}
+use lib.Ieee.Fits.{sub-fits}
 use lib.Ieee.Exact.{HasValue}
 use Rattle.rounding.specs.Value.{Signed, Val, L}
 use Rattle.rounding.proofs.Value.{L-pos, val-scale, sub_rounds, has-unscale}
@@ -25,7 +25,7 @@ use Rattle.julian.proofs.day_number.NearestInt.{Whole}
 
 pub rest-fits : (x : Float) → T (fits binary64 (rest x))
 unfolding rest
-rest-fits x = sub_fits binary64 x (nearest_int x)
+rest-fits x = sub-fits binary64 x (nearest_int x)
 
 scale_side : (s : Bool) (A D : ℕ) → (plus-of s A * D ≡ plus-of s (A * D)) × (minus-of s A * D ≡ minus-of s (A * D))
 scale_side false A D = (refl, zero-mul D)

@@ -9,7 +9,7 @@ use lib.Dec.{T, eqb→eq, lit<}
 use lib.IntN.{ℤ, pos, negsuc, ◌+ℤ◌, ◌-ℤ◌, +ℤ_idr, +ℤ-neg_ℤ_cancel}
 use lib.Ieee.{Float, nan, inf, fin, binary64, fits, add, sub, lt, le, eq, of_bits, to_signed}
 use lib.Ieee.Exact.{HasValue}
-use lib.Ieee.Fits.{add-fits, sub_fits}
+use lib.Ieee.Fits.{add-fits, sub-fits}
 use lib.Ieee.Bits.{is_true}
 use lib.Ieee.Scale.{finite}
 use borrow.Author.Tests.{lt-leb}
@@ -161,7 +161,7 @@ module _ (x y : Float) (fx : T (fits binary64 x)) (fy : T (fits binary64 y)) (m 
 
   fg : T (fits binary64 g)
   unfolding rest
-  fg = sub_fits binary64 y (nearest_int y)
+  fg = sub-fits binary64 y (nearest_int y)
 
   ut : Unsigned t
   ut = add_unsigned g fg nought-unsigned
@@ -198,7 +198,7 @@ module _ (x y : Float) (fx : T (fits binary64 x)) (fy : T (fits binary64 y)) (m 
   unfolding rest nearest_whole
   at_none Y vy vg e h =
       same_number x y fx fy m acc (nearest_whole y) refl t
-      (quick (sub binary64 x (nearest_int x)) g (sub_fits binary64 x (nearest_int x)) fg m.before_noon
+      (quick (sub binary64 x (nearest_int x)) g (sub-fits binary64 x (nearest_int x)) fg m.before_noon
       (is_true (le nought t) (le_show L-pos nought-L (t-val vg) (omega arith)))
       (is_true (lt t one) (lt_show L-pos (t-val vg) one-L (omega arith))))
       (read 0 e)
@@ -211,7 +211,7 @@ module _ (x y : Float) (fx : T (fits binary64 x)) (fy : T (fits binary64 y)) (m 
       let z = add binary64 t one in
       let vz : Val z Y 0 L = val-move (held fy vy (omega arith) (add_rounds binary64 L-pos (t-val vg) one-L)) (omega arith) in
       next-number x y fx fy m acc (nearest_whole y) refl z
-      (quick_borrowed (sub binary64 x (nearest_int x)) g (sub_fits binary64 x (nearest_int x)) fg m.before_noon
+      (quick_borrowed (sub binary64 x (nearest_int x)) g (sub-fits binary64 x (nearest_int x)) fg m.before_noon
       (le_val L-pos nought-L (t-val vg) ∙ lt-leb (0 + L) (Y + 0) (omega arith))
       (is_true (lt minus_one t) (lt_show L-pos minus-one-L (t-val vg) (omega arith)))
       (is_true (lt z one) (lt_show L-pos vz one-L (omega arith))))

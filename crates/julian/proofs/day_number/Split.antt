@@ -4,7 +4,7 @@ use mathlib.Core.Bool.{Bool, true, false, cond}
 use Prim.Native.Nat.{ℕ, ◌+◌, ◌*◌, ◌≤◌, ◌<◌}
 use lib.Dec.{T}
 use lib.Ieee.{Float, binary64, add, le, fits}
-use lib.Ieee.Fits.{add-fits, sub_fits}
+use lib.Ieee.Fits.{add-fits, sub-fits}
 use Rattle.floats.specs.Whole.{one}
 use Rattle.rounding.specs.Value.{Val}
 use Rattle.julian.specs.declared.day_number.Kahan.{Kahan}
@@ -37,7 +37,7 @@ fit false a b h k = k
 
 pub sum_fits : (c : ℕ) (κ : Kahan) (f : Float) → T (fits binary64 (add_fraction c κ f).kahan.sum)
 unfolding add_fraction
-sum_fits c κ f = fit (le one (add binary64 κ.sum f)) _ _ (sub_fits binary64 (add binary64 κ.sum f) one) (add-fits binary64 κ.sum f)
+sum_fits c κ f = fit (le one (add binary64 κ.sum f)) _ _ (sub-fits binary64 (add binary64 κ.sum f) one) (add-fits binary64 κ.sum f)
 
 pub both_fits : (f g : Float) → T (fits binary64 (sum_fractions f g).kahan.sum)
 unfolding sum_fractions

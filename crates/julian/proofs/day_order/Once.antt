@@ -8,7 +8,7 @@ use native.Mathlib.Nat.{add-mul, one-mul, zero-mul}
 use native.Mathlib.Omega.{arith}
 use lib.Dec.{T, lit≤, lit<}
 use lib.Ieee.{Float, binary64, add, sub, lt, le, fits, of_bits}
-use lib.Ieee.Fits.{add-fits, sub_fits}
+use lib.Ieee.Fits.{add-fits, sub-fits}
 use lib.Ieee.Bits.{of_bits-fits}
 use Rattle.floats.specs.Whole.{half, nought, one, abs}
 use Rattle.rounding.specs.Value.{Val, Rounds, L}
@@ -145,7 +145,7 @@ module _ (s z : Float) (p n a b : ℕ) (fs : T (fits binary64 s)) (fz : T (fits 
       let o : Val bs L 0 L = again one-fits one-L (rounds-move one_more (omega arith)) in
       let d : Val lost 0 0 L = val-move both.err (omega (arith, both.total, val-unique o both.sum)) in
       let k : Val (add binary64 (sub binary64 z s) lost) (p + a) (n + b) L =
-      again (sub_fits binary64 z s) c (rounds-move (add_rounds binary64 L-pos c d) (omega arith)) in
+      again (sub-fits binary64 z s) c (rounds-move (add_rounds binary64 L-pos c d) (omega arith)) in
       rounds-move (add_rounds binary64 L-pos o k) (omega arith)
 
   near-one : (bp bn : ℕ) → Val bs bp bn L → p ≤ n → n < p + L → (bp + n ≤ bn + (p + L) + 2 * W) × (bn + (p + L) ≤ bp + n + 2 * W)
@@ -326,7 +326,7 @@ module _ (g : Float) (Q M c : ℕ) (fg : T (fits binary64 g)) (vg : Val g Q M L)
           record { carry = c; kahan = record { sum = temp c half g; correction = corr c half g } })) → Added c half g (c * L + (H + Q)) M
       go p n a b vt total k high v (inl (u, e)) =
           let w : L + n ≤ p + 0 = le_true L-pos one-L vt u in
-          rw e (normal (sub binary64 (temp c half g) one) (corr c half g) (c + 1) (c * L + (H + Q)) M p (n + L) a b (sub_fits binary64 (temp c half g) one)
+          rw e (normal (sub binary64 (temp c half g) one) (corr c half g) (c + 1) (c * L + (H + Q)) M p (n + L) a b (sub-fits binary64 (temp c half g) one)
           (vs w) v (simp add-mul (omega (arith, one-mul L))) (omega (arith, k.1)) (omega (arith, k.0)) (less w) (more w))
         where
           vs : L + n ≤ p + 0 → Val (sub binary64 (temp c half g) one) p (n + L) L

@@ -1,7 +1,7 @@
 -- `julian::time_in_day` meets its contract. Assumes nothing.
 use mathlib.Core.Path.{sym, ◌∙◌}
 use lib.Ieee.{of_bits}
-use borrow.Author.Tests.{lt-leb, le-leb, not_true, not_false}
+use borrow.Author.Tests.{lt-leb, le-leb, not-true, not-false}
 use borrow.Author.Rules.{rules}
 use Rattle.julian.specs.DayFraction.{time_in_day}
 use Rattle.julian.proofs.time_in_day.Statement.{statement}
@@ -20,7 +20,7 @@ unfolding time_in_day
 returns-3 c = rw (
   le-leb c.before.before.before.before.before.args.hour 23 c.before.before.before.if1.false,
   le-leb c.before.before.before.before.before.args.minute 59 c.before.before.if2.false,
-  sym c.before.is_finite.ensures ∙ not_true c.before.is_finite.result c.if3.true,
+  sym c.before.is_finite.ensures ∙ not-true c.before.is_finite.result c.if3.true,
 )
 
 returns-4 : tie.Need-returns-4
@@ -28,7 +28,7 @@ unfolding time_in_day of_bits
 returns-4 c = rw (
   le-leb c.before.before.before.before.before.before.args.hour 23 c.before.before.before.before.if1.false,
   le-leb c.before.before.before.before.before.before.args.minute 59 c.before.before.before.if2.false,
-  sym c.before.before.is_finite.ensures ∙ not_false c.before.before.is_finite.result c.before.if3.false,
+  sym c.before.before.is_finite.ensures ∙ not-false c.before.before.is_finite.result c.before.if3.false,
   c.if4.true,
   c.before.before.before.before.before.second-limit.ensures,
 )
@@ -38,7 +38,7 @@ unfolding time_in_day of_bits
 returns-5 c = rw (
   le-leb c.before.before.before.before.before.before.args.hour 23 c.before.before.before.before.if1.false,
   le-leb c.before.before.before.before.before.before.args.minute 59 c.before.before.before.if2.false,
-  sym c.before.before.is_finite.ensures ∙ not_false c.before.before.is_finite.result c.before.if3.false,
+  sym c.before.before.is_finite.ensures ∙ not-false c.before.before.is_finite.result c.before.if3.false,
   c.if4.false,
 )
 

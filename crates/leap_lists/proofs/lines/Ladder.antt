@@ -4,7 +4,7 @@ use native.Mathlib.Omega.{arith}
 use native.Mathlib.Nat.{add-zero}
 use mathlib.Core.Path.{◌≡◌, refl, sym, ap, ◌∙◌, subst}
 use mathlib.Core.List.{List, [], ◌∷◌}
-use mathlib.Core.Bool.{Bool, true, false, cond, ◌&&◌, and_false}
+use mathlib.Core.Bool.{Bool, true, false, cond, ◌&&◌, and-false}
 use lib.ListN.{length, drop, get_or, drop_of_length-le}
 use lib.Seq.{get_or-drop, drop-drop}
 use lib.Dec.{leb, ltb, eqb}
@@ -40,7 +40,7 @@ then_none d rest e = rw e
 
 then_not_ended : (d rest : List ℕ) → ended (behind_blanks true rest) ≡ false → number_then d rest ≡ L.Nothing
 unfolding number_then
-then_not_ended d rest e = rw e (simp and_false)
+then_not_ended d rest e = rw e (simp and-false)
 
 then_some : (d rest : List ℕ) → 0 < length d → ended (behind_blanks true rest) ≡ true → number_then d rest ≡ L.Number (number d)
 unfolding number_then
@@ -113,15 +113,15 @@ module _ (year places at : ℕ) (t : List ℕ) where
     unfolding month_row
     other_month h =
         let no : length (first_digits 2 (drop at t)) ≡ 2 → ⊥ = λ e. h (omega (arith, k.end)) in
-        rw (ne_eqb _ _ no) (simp and_false)
+        rw (ne_eqb _ _ no) (simp and-false)
 
     pub month-low : r.value < 1 → K.Outside ≡ month_row year places (drop at t)
     unfolding month_row
-    month-low h = let g : number (first_digits 2 (drop at t)) < 1 = omega (arith, k.value) in rw (lt-leb _ _ g) (simp and_false)
+    month-low h = let g : number (first_digits 2 (drop at t)) < 1 = omega (arith, k.value) in rw (lt-leb _ _ g) (simp and-false)
 
     pub month-high : 12 < r.value → K.Outside ≡ month_row year places (drop at t)
     unfolding month_row
-    month-high h = let g : 12 < number (first_digits 2 (drop at t)) = omega (arith, k.value) in rw (lt-leb _ _ g) (simp and_false)
+    month-high h = let g : 12 < number (first_digits 2 (drop at t)) = omega (arith, k.value) in rw (lt-leb _ _ g) (simp and-false)
 
     pub month_is : places ≡ 4 → r.end - at ≡ 2 → 1 ≤ r.value → r.value ≤ 12
         → row_with (12 * year + r.value - 1) (drop r.end t) ≡ month_row year places (drop at t)
@@ -141,7 +141,7 @@ module _ (ntp places : ℕ) (s : List ℕ) where
 
   pub no_midnight : (ntp % 86400 ≡ 0 → ⊥) → K.Outside ≡ ntp_row ntp places s
   unfolding ntp_row
-  no_midnight h = rw (ne_eqb _ _ h) (simp and_false)
+  no_midnight h = rw (ne_eqb _ _ h) (simp and-false)
 
   midnight : (places ≡ 0 → ⊥) → ntp % 86400 ≡ 0 → ntp_row ntp places s ≡ row_from (month_from (ntp / 86400)) s
   unfolding ntp_row

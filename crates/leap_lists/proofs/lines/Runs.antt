@@ -7,7 +7,7 @@ use mathlib.Core.Path.{◌≡◌, refl, sym, ap, ◌∙◌}
 use mathlib.Core.List.{List, [], ◌∷◌}
 use mathlib.Core.Bool.{Bool, true, false, cond}
 use lib.ListN.{length, drop, get_or, drop_of_length-le, get_or-eq_default}
-use lib.Seq.{drop_cons}
+use lib.Seq.{drop-cons}
 use lib.Dec.{leb, ltb}
 use borrow.Author.Tests.{ltb-true, ltb-false}
 use Rattle.numerals.specs.digits.Decimal.{value, number, is_digit, AllDigits}
@@ -17,7 +17,7 @@ use Rattle.leap_lists.specs.lines.Scan.{line_blank, behind_blanks, first_digits,
 
 -- what is left from i on, where there is a byte
 pub byte_first : (t : List ℕ) (i : ℕ) → i < length t → drop i t ≡ get_or t i 0 ∷ drop (i + 1) t
-byte_first t i h = rw (add-one i) (drop_cons t i 0 h)
+byte_first t i h = rw (add-one i) (drop-cons t i 0 h)
 
 -- a byte that is not 0 stands inside
 pub inside : (t : List ℕ) (i c : ℕ) → 0 < c → get_or t i 0 ≡ c → i < length t

@@ -8,7 +8,7 @@ use native.Mathlib.Omega.{arith}
 use native.Mathlib.Nat.{not-suc-le-zero, le_of_suc-le-suc}
 use lib.Dec.{T, eqb, leb, ltb, ltb→lt}
 use lib.ListN.{length, get_or, drop}
-use lib.Seq.{drop_cons, drop-length}
+use lib.Seq.{drop-cons, drop-length}
 use lib.Ieee.Fits.{and_l, and_r}
 use borrow.Author.Tests.{le-leb, lt-leb, leb-true, leb-false, eqb-true, eqb-false, ne_eqb}
 use Rattle.leap_table.specs.rows.Table.{reached, on_top, rising, LastBegun}
@@ -33,7 +33,7 @@ unfolding reached
 earlier a n l b e = top-none (reached l n) (leb a n) e (lt-leb a n b)
 
 not_yet : (l : List ℕ) (j n : ℕ) → j < length l → n < get_or l j 0 → reached (drop (suc j) l) n ≡ 0 → reached (drop j l) n ≡ 0
-not_yet l j n h b e = ap (λ (t : List ℕ). reached t n) (drop_cons l j 0 h) ∙ earlier (get_or l j 0) n (drop (suc j) l) b e
+not_yet l j n h b e = ap (λ (t : List ℕ). reached t n) (drop-cons l j 0 h) ∙ earlier (get_or l j 0) n (drop (suc j) l) b e
 
 next_down : (i : ℕ) → 0 < i → suc (i - 1) ≡ i
 next_down i h = omega arith

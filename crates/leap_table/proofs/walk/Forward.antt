@@ -8,7 +8,7 @@ use mathlib.Core.Bool.{true, false, cond}
 use mathlib.Core.List.{List, [], ◌∷◌}
 use lib.Dec.{T, leb}
 use lib.ListN.{length, get_or, drop, get_or-eq_default, length-map}
-use lib.Seq.{drop_cons}
+use lib.Seq.{drop-cons}
 use lib.Ieee.{Float, binary64, add, sub, mul}
 use borrow.Author.Tests.{le-leb, lt-leb}
 use Rattle.leap_table.specs.rows.Table.{Row, starts, reached, rising, most_rows}
@@ -64,7 +64,7 @@ module _ (l : List ℕ) where
         × (left (drop k l) n ≡ left (drop (suc k) l) n)
     unfolding held_against left
     passes k h g =
-        let e = drop_cons l k 0 h in
+        let e = drop-cons l k 0 h in
         let b = le-leb (get_or l k 0) n g in
         (ap (λ (m : List ℕ). held_against m n) e ∙ rw b, ap (λ (m : List ℕ). left m n) e ∙ rw b)
 
@@ -75,7 +75,7 @@ module _ (l : List ℕ) where
       where
         go : Dec (k < length l) → (left (drop k l) n ≡ drop k l) × (held_against (drop k l) n ≡ cond (leb (length l) k) 0 1)
         go (yes w) =
-            let e = drop_cons l k 0 w in
+            let e = drop-cons l k 0 w in
             let b = lt-leb (get_or l k 0) n (g w) in
             let c = lt-leb (length l) k w in
             (ap (λ (m : List ℕ). left m n) e ∙ rw b (sym e), ap (λ (m : List ℕ). held_against m n) e ∙ rw (b, c))

@@ -7,7 +7,7 @@ use mathlib.Core.Bool.{Bool, true, false, cond}
 use mathlib.Core.List.{List, [], ◌∷◌, ◌++◌, append_assoc, append-nil}
 use lib.Dec.{ltb}
 use lib.ListN.{length, get_or, take, drop, set, length-append, length-set, take-append-drop, drop_of_length-le}
-use lib.Seq.{sets, length-sets, drop_cons, take-suc, take-suc-set, get_or-take, length-take-le}
+use lib.Seq.{sets, length-sets, drop-cons, take-suc, take-suc-set, get_or-take, length-take-le}
 use borrow.Author.Tests.{eq-eqb, ne_eqb}
 use Rattle.numerals.specs.little_endian.LittleEndian.{four_bytes, u32_at, with_nth32}
 use Rattle.numerals.proofs.little_endian.Puts.{put-32-is}
@@ -149,7 +149,7 @@ module _ (ms : List ℕ) (end1 end2 : ℕ) (places : List ℕ) (many : ℕ) (out
       place-below = omega (arith, place_is, below_at (length ms) line pre.below j (omega (arith, line-long)))
 
       rest-is : drop j line ≡ p ∷ drop (suc j) line
-      rest-is = drop_cons line j 0 (omega (arith, line-long)) ∙ ap (λ (x : ℕ). x ∷ drop (suc j) line) (sym place_is)
+      rest-is = drop-cons line j 0 (omega (arith, line-long)) ∙ ap (λ (x : ℕ). x ∷ drop (suc j) line) (sym place_is)
 
       next-is : each (drop j line) ≡ (p ∷ behind ms (suc p) to) ++ each (drop (suc j) line)
       unfolding each_behind

@@ -7,7 +7,7 @@ use mathlib.Core.List.{List}
 use lib.Dec.{T, ltb}
 use lib.Ieee.{binary64}
 use lib.Ieee.Bits.{of_bits-fits}
-use borrow.Author.Tests.{ltb-true, ltb-false, lt-ltb, le-ltb, not_false}
+use borrow.Author.Tests.{ltb-true, ltb-false, lt-ltb, le-ltb, not-false}
 use Rattle.rounding.specs.Value.{L}
 use Rattle.numerals.specs.little_endian.LittleEndian.{u64_at}
 use Rattle.julian.specs.declared.JulianDate.{JulianDate}
@@ -31,7 +31,7 @@ module _ (js ks : List ℕ) where
   pub finite-at : (p : ℕ) → unordered_at js ks p ≡ false → FiniteAt p
   unfolding unordered_at stamp_of
   finite-at p e =
-      let h : T (has_place (stamp_of js ks p)) = subst T (sym (not_false (has_place (stamp_of js ks p)) e)) tt in
+      let h : T (has_place (stamp_of js ks p)) = subst T (sym (not-false (has_place (stamp_of js ks p)) e)) tt in
       record {
         first_float = of_bits-fits binary64 (u64_at js (8 * p));
         second_float = of_bits-fits binary64 (u64_at ks (8 * p));

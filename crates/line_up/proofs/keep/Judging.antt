@@ -4,7 +4,7 @@ use native.Mathlib.Omega.{arith}
 use mathlib.Core.Path.{◌≡◌, refl, sym, ap, ◌∙◌, subst}
 use mathlib.Core.List.{List, [], ◌∷◌, ◌++◌}
 use lib.ListN.{length, get_or, take, drop, set, length-set, take-append-drop}
-use lib.Seq.{slice, slice_empty, slice-cons, get_or-take, get_or-set_same, take-set-le, take-take, drop_cons, drop-set-lt}
+use lib.Seq.{slice, slice_empty, slice-cons, get_or-take, get_or-set_same, take-set-le, take-take, drop-cons, drop-set-lt}
 use Rattle.line_up.specs.keep.Piles.{wanted_before, wanted, number_by_pile, all_judged}
 use Rattle.line_up.specs.keep.Asked.{Judgeable, run_judged}
 
@@ -61,7 +61,7 @@ module _ (ns rs : List ℕ) (from to many : ℕ) (a : Judgeable ns rs from to) w
           want = goes_want r w' er ew;
           rest = take-set-le i now i m (omega arith) ∙ sym (take-take i (suc i) now (omega arith)) ∙ ap (take i) j.rest
               ∙ take-take i (suc i) ns (omega arith);
-          done = drop_cons (set now i m) i 0 k' ∙ ap (λ (x : ℕ). x ∷ drop (suc i) (set now i m)) (get_or-set_same now i m 0 k)
+          done = drop-cons (set now i m) i 0 k' ∙ ap (λ (x : ℕ). x ∷ drop (suc i) (set now i m)) (get_or-set_same now i m 0 k)
               ∙ ap (λ (l : List ℕ). m ∷ l) (drop-set-lt (suc i) now i m (omega arith)) ∙ goes_done r m er em;
         }
 

@@ -3,7 +3,7 @@ use Rattle.parsing.proofs.Judgement.{too_many_digits, date_refused, time-refused
 use Rattle.parsing.specs.Parsed.{parsed_outcome}
 use Rattle.calendar.specs.Answers.{check_outcome}
 use Rattle.calendar.specs.Refusals.{valid_date}
-use borrow.Author.Tests.{not_true, not_false}
+use borrow.Author.Tests.{not-true, not-false}
 use mir.Facts.{to_z_pos}
 use mir.Syntax.{w32}
 use native.Mathlib.Omega.{arith}
@@ -27,7 +27,7 @@ returns-2 c =
     let read = sym (c.before.before.before.before.validate-calendar-date.ensures
     ∙ (λ i. valid_date (to_z_pos w32 {n = f.year} hy i) (to_z_pos w32 {n = f.month} hm i) (to_z_pos w32 {n = f.day} hd i))) in
     time-refused f c.before.before.before.before.before.before.before.before.if1.false
-    (read ∙ ap check_outcome c.before.before.enum_told.given.1) (sym c.before.time-in.ensures ∙ not_true _ c.if2.true)
+    (read ∙ ap check_outcome c.before.before.enum_told.given.1) (sym c.before.time-in.ensures ∙ not-true _ c.if2.true)
 
 returns-3 : tie.Need-returns-3
 unfolding parsed_outcome check_outcome
@@ -51,7 +51,7 @@ returns-4 c =
     ∙ (λ i. valid_date (to_z_pos w32 {n = f.year} hy i) (to_z_pos w32 {n = f.month} hm i) (to_z_pos w32 {n = f.day} hd i))) in
     fields-given f c.before.before.before.before.before.before.before.before.before.before.if1.false _
     (read ∙ ap check_outcome c.before.before.before.before.enum_told.given.1)
-    (sym c.before.before.before.time-in.ensures ∙ not_false _ c.before.before.if2.false)
+    (sym c.before.before.before.time-in.ensures ∙ not-false _ c.before.before.if2.false)
     (λ i. record {
       year = to_z_pos w32 {n = f.year} hy i;
       month = f.month;

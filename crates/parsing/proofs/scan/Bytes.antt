@@ -4,7 +4,7 @@ use native.Mathlib.Omega.{arith}
 use native.Mathlib.Nat.{add-zero, add_assoc}
 use mathlib.Core.Path.{◌≡◌, refl, sym, ap, ◌∙◌, subst}
 use mathlib.Core.List.{List}
-use mathlib.Core.Bool.{Bool, true, false, cond, ◌&&◌, and_false}
+use mathlib.Core.Bool.{Bool, true, false, cond, ◌&&◌, and-false}
 use lib.ListN.{length, drop, get_or, length-drop, get_or-eq_default}
 use lib.Seq.{get_or-drop, drop-drop}
 use lib.Dec.{eqb}
@@ -31,7 +31,7 @@ time-at t at = simp (get_or-drop, add_assoc)
 -- ---- a text that is too short has no form
 short-time : (s : List ℕ) → length s < 19 → time_right s ≡ false
 unfolding time_right two_digits is_digit
-short-time s h = let e : get_or s 18 0 ≡ 0 = get_or-eq_default s 0 (omega arith) in rw e (simp and_false)
+short-time s h = let e : get_or s 18 0 ≡ 0 = get_or-eq_default s 0 (omega arith) in rw e (simp and-false)
 
 pub not_date : (utc : Bool) (s : List ℕ) → date_right s ≡ false → right_form utc s ≡ false
 unfolding right_form
@@ -39,14 +39,14 @@ not_date utc s e = rw e
 
 pub not_time : (utc : Bool) (s : List ℕ) → time_right s ≡ false → right_form utc s ≡ false
 unfolding right_form
-not_time utc s e = rw e (simp and_false)
+not_time utc s e = rw e (simp and-false)
 
 pub too_short : (utc : Bool) (s : List ℕ) → length s < 19 → right_form utc s ≡ false
 too_short utc s h = not_time utc s (short-time s h)
 
 pub not_end : (utc : Bool) (s : List ℕ) → end_right utc (after_fraction (drop 19 s)) ≡ false → right_form utc s ≡ false
 unfolding right_form
-not_end utc s e = rw e (simp and_false)
+not_end utc s e = rw e (simp and-false)
 
 pub whole-form : (utc : Bool) (s : List ℕ) → date_right s ≡ true → time_right s ≡ true → end_right utc (after_fraction (drop 19 s)) ≡ true → right_form utc s ≡ true
 unfolding right_form

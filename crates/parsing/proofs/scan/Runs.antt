@@ -5,9 +5,9 @@ use native.Mathlib.Nat.{add-zero, sub_self, pow-suc, pow-le-pow_right}
 use native.Mathlib.Numerals.{add-one}
 use mathlib.Core.Path.{◌≡◌, refl, sym, ap, ◌∙◌}
 use mathlib.Core.List.{List, [], ◌∷◌}
-use mathlib.Core.Bool.{Bool, true, false, cond, ◌&&◌, and_false}
+use mathlib.Core.Bool.{Bool, true, false, cond, ◌&&◌, and-false}
 use lib.ListN.{length, drop, get_or, drop_of_length-le, get_or-eq_default}
-use lib.Seq.{drop_cons, drop-drop, get_or-drop}
+use lib.Seq.{drop-cons, drop-drop, get_or-drop}
 use lib.Dec.{ltb, eqb}
 use borrow.Author.Tests.{ltb-true, ltb-false, eq-eqb, ne_eqb}
 use Rattle.numerals.specs.digits.Decimal.{is_digit}
@@ -18,7 +18,7 @@ use Rattle.parsing.specs.scan.Scan.{joined, kept_from, kept, DigitsRun, Fraction
 
 -- what is left from i on, where there is a byte
 byte_first : (t : List ℕ) (i : ℕ) → i < length t → drop i t ≡ get_or t i 0 ∷ drop (i + 1) t
-byte_first t i h = rw (add-one i) (drop_cons t i 0 h)
+byte_first t i h = rw (add-one i) (drop-cons t i 0 h)
 
 -- ---- blanks
 blank_first : (c : ℕ) (cs : List ℕ) → is_blank c ≡ true → after_blanks (c ∷ cs) ≡ after_blanks cs
@@ -193,7 +193,7 @@ module _ (utc : Bool) (at : ℕ) (t : List ℕ) where
   pub zone-none : (get_or t at 0 ≡ 90 → ⊥) → drop at t ≡ cond (zulu_first utc (drop at t)) (drop 1 (drop at t)) (drop at t)
   zone-none n =
       let e : eqb (byte_at (drop at t) 0) 90 ≡ false = ap (λ (c : ℕ). eqb c 90) (first_byte t at) ∙ ne_eqb _ _ n in
-      sym (ap (λ (b : Bool). cond (utc && b) (drop 1 (drop at t)) (drop at t)) e ∙ ap (λ (b : Bool). cond b (drop 1 (drop at t)) (drop at t)) (and_false utc))
+      sym (ap (λ (b : Bool). cond (utc && b) (drop 1 (drop at t)) (drop at t)) e ∙ ap (λ (b : Bool). cond b (drop 1 (drop at t)) (drop at t)) (and-false utc))
 
   pub zone-zulu : utc ≡ true → get_or t at 0 ≡ 90 → drop (at + 1) t ≡ cond (zulu_first utc (drop at t)) (drop 1 (drop at t)) (drop at t)
   zone-zulu u z =

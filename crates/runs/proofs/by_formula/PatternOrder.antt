@@ -9,7 +9,7 @@ use lib.Pow.{field, mod-pow-add, pow_pos, pow_mono}
 use lib.Ieee.{Float, nan, inf, fin, binary64, lt, of_bits, of_fields}
 use lib.Ieee.Exact.{HasValue}
 use lib.Ieee.Scale.{finite}
-use borrow.Author.Tests.{ltb-true, ltb-false, lt-ltb, le-ltb, eqb-false, not_true}
+use borrow.Author.Tests.{ltb-true, ltb-false, lt-ltb, le-ltb, eqb-false, not-true}
 use Rattle.floats.specs.Whole.{abs}
 use Rattle.floats.proofs.Fields.{sign, expo, digits, of_bits_is, digits_lt, normal, subnormal}
 use Rattle.rounding.specs.Value.{Val}
@@ -94,7 +94,7 @@ size-value (fin t m e) s a d h = record { sign = false; size = a; has = (refl, h
 not_ones : (b : ℕ) → expo b ≤ 2047 → finite (of_bits binary64 b) ≡ true → expo b < 2047
 not_ones b most h =
     let e : not (eqb (expo b) 2047) ≡ true = ap (λ (n : ℕ). not (eqb n 2047)) (field b 11 52) ∙ sym (finite-field b) ∙ h in
-    let q : expo b ≡ 2047 → ⊥ = eqb-false (expo b) 2047 (not_true (eqb (expo b) 2047) e) in
+    let q : expo b ≡ 2047 → ⊥ = eqb-false (expo b) 2047 (not-true (eqb (expo b) 2047) e) in
     go (ltb (expo b) 2047) refl q
   where
     go : (c : Bool) → ltb (expo b) 2047 ≡ c → (expo b ≡ 2047 → ⊥) → expo b < 2047

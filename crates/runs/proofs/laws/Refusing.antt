@@ -7,7 +7,7 @@ use mathlib.Core.List.{List}
 use lib.Dec.{T, eqb}
 use lib.Ieee.{Float, binary64, mul, fits, of_bits}
 use lib.Ieee.Bits.{of_bits-fits}
-use lib.Ieee.Fits.{add-fits, sub_fits}
+use lib.Ieee.Fits.{add-fits, sub-fits}
 use lib.Ieee.Scale.{finite}
 use borrow.Author.Tests.{eqb-true, eq-eqb}
 use Rattle.refusals.specs.Outcome.{Outcome, answer, refusal, onward}
@@ -140,11 +140,11 @@ later x = plain (plus x) (λ a b. add-fits binary64 b x)
 
 earlier : (x : Float) (d : JulianDate) → Held d → Holds Held OneSixNine (converted (minus x) d)
 unfolding minus
-earlier x = plain (minus x) (λ a b. sub_fits binary64 b x)
+earlier x = plain (minus x) (λ a b. sub-fits binary64 b x)
 
 to-tt : (d : JulianDate) → Held d → Holds Held OneSixNine (converted tcg_to_tt d)
 unfolding tcg_to_tt
-to-tt = plain tcg_to_tt (λ a b. sub_fits binary64 b (mul binary64 (since mjd_zero_point tcg_reference_epoch a b) tcg_rate_lg))
+to-tt = plain tcg_to_tt (λ a b. sub-fits binary64 b (mul binary64 (since mjd_zero_point tcg_reference_epoch a b) tcg_rate_lg))
 
 to-tcg : (d : JulianDate) → Held d → Holds Held OneSixNine (converted tt_to_tcg d)
 unfolding tt_to_tcg

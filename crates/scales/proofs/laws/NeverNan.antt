@@ -3,7 +3,7 @@
 use Rattle.std.proofs.Common.{◌≡◌, ℕ, zero, suc, ◌+◌, ◌-◌, ◌*◌, ◌^◌, Bool, true, false, cond, not, ◌&&◌, T, eqb, ltb, sym, refl, ap, ◌∙◌, subst, true≢false, arith}
 use mathlib.Core.Bool.{beq}
 use lib.Ieee.{Float, nan, inf, fin, Format, binary64, prec, low, emax, up, down, odd, units, round, fits, is_nan, sum, add, sub, mul, div, neg, unlike}
-use lib.Ieee.Fits.{round_is, add-fits, sub_fits}
+use lib.Ieee.Fits.{round_is, add-fits, sub-fits}
 use lib.Ieee.Scale.{finite}
 use Rattle.rounding.proofs.Value.{val-finite-true}
 use Rattle.constants.specs.Constants.{seconds_per_day, tcg_rate_lg, tcb_rate_lb, tcg_rate_ratio, tcb_rate_ratio, ratio}
@@ -238,7 +238,7 @@ numbers tt_tcg d u g e = plain u tt_to_tcg tt_tcg_fine d g e
 numbers tcb-tdb d u g e = plain u tcb_to_tdb tcb_tdb_fine d g e
 numbers tdb-tcb d u g e = plain u tdb_to_tcb tdb_tcb_fine d g e
 numbers tai-tcg d u g e = then_plain u (plus tt_days) tt_to_tcg (λ x y. add-fits binary64 y tt_days) tt_tcg_fine d g e
-numbers tcg-tai d u g e = then_plain u tcg_to_tt (minus tt_days) (λ x y. sub_fits binary64 y _) (minus-fine tt_days (small-number tt_small)) d g e
+numbers tcg-tai d u g e = then_plain u tcg_to_tt (minus tt_days) (λ x y. sub-fits binary64 y _) (minus-fine tt_days (small-number tt_small)) d g e
 numbers (tai-ut1 s) d u g e = given u plus plus-fine s d g e
 numbers (ut1-tai s) d u g e = given u minus minus-fine s d g e
 numbers (ut1-tt s) d u g e = given u plus plus-fine s d g e

@@ -1,6 +1,6 @@
 -- The parts, one after the other, are the whole listing, for every block, every table of rows and every scratch of at least a line's room, 33 bytes, and 64
 -- where sentences are reported: what a program writes that asks for parts until one is the last. Assumes nothing.
-use Prim.Native.Nat.{ℕ, zero, suc, ◌+◌, ◌-◌, ◌<◌, ◌≤◌, zero_le}
+use Prim.Native.Nat.{ℕ, zero, suc, ◌+◌, ◌-◌, ◌<◌, ◌≤◌, zero-le}
 use native.Mathlib.Omega.{arith}
 use native.Mathlib.Numerals.{add-one}
 use native.Mathlib.Nat.{zero-add, le_refl}
@@ -62,7 +62,7 @@ module _ (how : Reporting) (rows : List Row) (s : List ℕ) where
 
     within : (k : ℕ) → line_after how rows s room k ≤ lines_in (block_of s)
     unfolding line_after part_lines
-    within zero = zero_le
+    within zero = zero-le
     within (suc k) =
         let h = within k in
         let f = held-few how rows s (line_after how rows s room k) room (lines_in (block_of s) - line_after how rows s room k) in

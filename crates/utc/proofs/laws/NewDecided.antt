@@ -10,7 +10,7 @@ use lib.Dec.{T, ltb}
 use lib.IntN.{ℤ, pos, negsuc}
 use lib.Signed.{lt_z}
 use lib.Ieee.{Float, nan, inf, fin, binary64, fits, of_bits, of_int, add, lt}
-use lib.Ieee.Fits.{sub_fits}
+use lib.Ieee.Fits.{sub-fits}
 use lib.Ieee.Scale.{finite}
 use borrow.Author.Tests.{ltb-true, ltb-false}
 use mir.Syntax.{w64}
@@ -76,7 +76,7 @@ module _ (t : AnnouncedRows) where
 
     leap-fits : T (fits binary64 x)
     unfolding leap_of
-    leap-fits = subst (λ (z : Float). T (fits binary64 z)) (sym (leap-came rows y m d x e).2) (sub_fits binary64 _ _)
+    leap-fits = subst (λ (z : Float). T (fits binary64 z)) (sym (leap-came rows y m d x e).2) (sub-fits binary64 _ _)
 
   module _ (seconds : ℤ) (nanos : ℕ) (held : SFits w64 seconds) where
     abbrev n : ℤ

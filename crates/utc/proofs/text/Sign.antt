@@ -1,5 +1,5 @@
 -- The sign and the size of a signed number of 32 bits, as the code finds them. Assumes nothing.
-use Prim.Native.Nat.{ℕ, ◌<◌, zero_le}
+use Prim.Native.Nat.{ℕ, ◌<◌, zero-le}
 use native.Mathlib.Omega.{arith}
 use mathlib.Core.Path.{◌≡◌, refl, sym, ap, subst, ◌∙◌}
 use mathlib.Core.Bool.{true, false, not}
@@ -29,7 +29,7 @@ more-cast (pos n) f t = (tt, record { fits = omega (arith, f.sfits) })
 more-cast (negsuc k) f t = let z : ◌≡◌ {A = ℕ} 0 1 = cc in elim (let no : ⊥ = omega arith in no) [ ]
 
 below-zero : (z : ℤ) → lt_z z (pos 0) ≡ not (non_neg z)
-below-zero (pos n) = le-ltb n 0 zero_le
+below-zero (pos n) = le-ltb n 0 zero-le
 below-zero (negsuc k) = refl
 
 -- as the code has them: a signed local is its bits, read back

@@ -9,7 +9,7 @@ use native.Mathlib.Nat.{le_trans, mul-le-mul_right}
 use lib.Dec.{lit≤}
 use lib.IntN.{pos}
 use lib.Ieee.{Float, binary64}
-use lib.Ieee.Fits.{add-fits, sub_fits}
+use lib.Ieee.Fits.{add-fits, sub-fits}
 use lib.Ieee.Scale.{finite}
 use Rattle.refusals.specs.Outcome.{answer}
 use Rattle.rounding.specs.Value.{L}
@@ -58,7 +58,7 @@ from-midnight-finite : (x y : Float) → Fits x → Fits y → accepted x y ≡ 
 unfolding tai_from_midnight
 from-midnight-finite x y f g a r o z =
     added (size_small 37 (lit≤ tt) (since-midnight-size x y f g a o z)) _ (add-fits binary64 _ _)
-    (added (size_small 31 (lit≤ tt) (midnight-size (day_of x y).day r)) _ (sub_fits binary64 _ _) (taken-from zero_point_small x f (kept-finite x y f a)))
+    (added (size_small 31 (lit≤ tt) (midnight-size (day_of x y).day r)) _ (sub-fits binary64 _ _) (taken-from zero_point_small x f (kept-finite x y f a)))
 
 -- x is finite, and so is the other part in TAI
 record Both (x z : Float) : Type 0 where

@@ -7,7 +7,7 @@ use native.Mathlib.Omega.{arith}
 use lib.Dec.{T}
 use lib.IntN.{ℤ, pos}
 use lib.Ieee.{Float, binary64, sub, div, fits, le}
-use lib.Ieee.Fits.{sub_fits}
+use lib.Ieee.Fits.{sub-fits}
 use Rattle.floats.specs.Whole.{abs, one}
 use Rattle.constants.specs.Constants.{seconds_per_day}
 use Rattle.rounding.specs.Value.{Val, L}
@@ -43,7 +43,7 @@ wide p n k = omega arith
 utc-part : (u c : Float) {up un x y : ℕ} → up ≤ un + L → un ≤ up + L → x ≤ y + L → y ≤ x + L
     → (r : Less (sub binary64 u (div binary64 c seconds_per_day)) up un x y) → SecondPart (sub binary64 u (div binary64 c seconds_per_day)) r.p r.n
 utc-part u c {up} {un} {x} {y} hu lu hx hy r = record {
-  held = sub_fits binary64 _ _;
+  held = sub-fits binary64 _ _;
   val = r.val;
   over = size r.p r.n up un x y hu hy r.over;
   under = size r.n r.p un up y x lu hx r.under;

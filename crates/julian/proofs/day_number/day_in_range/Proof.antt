@@ -3,7 +3,7 @@ use Rattle.floats.proofs.Laws.{yes}
 use Rattle.julian.proofs.day_number.DayInRange.{asks, gives}
 use Rattle.julian.proofs.day_number.Midnight.{quick, quick_borrowed}
 use lib.Ieee.{binary64, of_bits, neg, sub}
-use lib.Ieee.Fits.{sub_fits}
+use lib.Ieee.Fits.{sub-fits}
 use borrow.Author.Rules.{rules}
 use Rattle.julian.proofs.day_number.day_in_range.Statement.{statement}
 use Rattle.julian.proofs.day_number.day_in_range.Tie as tie
@@ -19,8 +19,8 @@ total-day-requires c κs =
     let s = a.before in
     let x = s.args.jd1 in
     let y = s.args.jd2 in
-    let q = quick (sub binary64 x a.nearest-whole.result.value) (sub binary64 y b.nearest-whole2.result.value) (sub_fits binary64 x _)
-    (sub_fits binary64 y _) m.if1.true j.if2.true i.if3.true in
+    let q = quick (sub binary64 x a.nearest-whole.result.value) (sub binary64 y b.nearest-whole2.result.value) (sub-fits binary64 x _)
+    (sub-fits binary64 y _) m.if1.true j.if2.true i.if3.true in
     asks x y (yes s.well_formed.0.1) (yes s.well_formed.1.0.1) s.requires a.nearest-whole.result b.nearest-whole2.result a.nearest-whole.ensures
     b.nearest-whole2.ensures _ q.summed _ q.normal
 
@@ -35,8 +35,8 @@ returns c =
     let s = a.before in
     let x = s.args.jd1 in
     let y = s.args.jd2 in
-    let q = quick (sub binary64 x a.nearest-whole.result.value) (sub binary64 y b.nearest-whole2.result.value) (sub_fits binary64 x _)
-    (sub_fits binary64 y _) m.if1.true j.if2.true i.if3.true in
+    let q = quick (sub binary64 x a.nearest-whole.result.value) (sub binary64 y b.nearest-whole2.result.value) (sub-fits binary64 x _)
+    (sub-fits binary64 y _) m.if1.true j.if2.true i.if3.true in
     gives x y (yes s.well_formed.0.1) (yes s.well_formed.1.0.1) s.requires a.nearest-whole.result b.nearest-whole2.result a.nearest-whole.ensures
     b.nearest-whole2.ensures _ q.summed _ q.normal c.total-day.result c.total-day.ensures
 
@@ -52,8 +52,8 @@ total-day-requires-2 c κs =
     let s = a.before in
     let x = s.args.jd1 in
     let y = s.args.jd2 in
-    let q = quick_borrowed (sub binary64 x a.nearest-whole.result.value) (sub binary64 y b.nearest-whole2.result.value) (sub_fits binary64 x _)
-    (sub_fits binary64 y _) m.if1.true k.if2.false j.if4.true i.if5.true in
+    let q = quick_borrowed (sub binary64 x a.nearest-whole.result.value) (sub binary64 y b.nearest-whole2.result.value) (sub-fits binary64 x _)
+    (sub-fits binary64 y _) m.if1.true k.if2.false j.if4.true i.if5.true in
     asks x y (yes s.well_formed.0.1) (yes s.well_formed.1.0.1) s.requires a.nearest-whole.result b.nearest-whole2.result a.nearest-whole.ensures
     b.nearest-whole2.ensures _ q.summed _ q.normal
 
@@ -69,8 +69,8 @@ returns-2 c =
     let s = a.before in
     let x = s.args.jd1 in
     let y = s.args.jd2 in
-    let q = quick_borrowed (sub binary64 x a.nearest-whole.result.value) (sub binary64 y b.nearest-whole2.result.value) (sub_fits binary64 x _)
-    (sub_fits binary64 y _) m.if1.true k.if2.false j.if4.true i.if5.true in
+    let q = quick_borrowed (sub binary64 x a.nearest-whole.result.value) (sub binary64 y b.nearest-whole2.result.value) (sub-fits binary64 x _)
+    (sub-fits binary64 y _) m.if1.true k.if2.false j.if4.true i.if5.true in
     gives x y (yes s.well_formed.0.1) (yes s.well_formed.1.0.1) s.requires a.nearest-whole.result b.nearest-whole2.result a.nearest-whole.ensures
     b.nearest-whole2.ensures _ q.summed _ q.normal c.total-day2.result c.total-day2.ensures
 

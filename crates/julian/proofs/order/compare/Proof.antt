@@ -1,7 +1,7 @@
 -- `julian::order::compare` meets its contract. Assumes nothing.
 use mathlib.Core.Path.{sym, ◌∙◌}
 use borrow.Author.Rules.{rules}
-use borrow.Author.Tests.{not_true, not_false}
+use borrow.Author.Tests.{not-true, not-false}
 use Rattle.julian.specs.order.Order.{order_outcome}
 use Rattle.julian.proofs.order.Tests.{first-refused, second-refused, is-before, is-after, is-equal}
 use Rattle.julian.proofs.order.compare.Statement.{statement}
@@ -13,7 +13,7 @@ returns c =
     let t = c.before.before in
     let s = t.before in
     first-refused s.before.args.a s.before.args.b s.exact-sum.result t.exact-sum2.result s.exact-sum.ensures t.exact-sum2.ensures
-    (sym c.before.is_finite.ensures ∙ not_true c.before.is_finite.result c.if1.true)
+    (sym c.before.is_finite.ensures ∙ not-true c.before.is_finite.result c.if1.true)
 
 returns-2 : tie.Need-returns-2
 unfolding order_outcome
@@ -22,8 +22,8 @@ returns-2 c =
     let t = f.before.before in
     let s = t.before in
     second-refused s.before.args.a s.before.args.b s.exact-sum.result t.exact-sum2.result s.exact-sum.ensures t.exact-sum2.ensures
-    (sym f.before.is_finite.ensures ∙ not_false f.before.is_finite.result f.if1.false)
-    (sym c.before.is-finite2.ensures ∙ not_true c.before.is-finite2.result c.if2.true)
+    (sym f.before.is_finite.ensures ∙ not-false f.before.is_finite.result f.if1.false)
+    (sym c.before.is-finite2.ensures ∙ not-true c.before.is-finite2.result c.if2.true)
 
 returns-3 : tie.Need-returns-3
 unfolding order_outcome
@@ -33,8 +33,8 @@ returns-3 c =
     let t = f.before.before in
     let s = t.before in
     is-before s.before.args.a s.before.args.b s.exact-sum.result t.exact-sum2.result s.exact-sum.ensures t.exact-sum2.ensures
-    (sym f.before.is_finite.ensures ∙ not_false f.before.is_finite.result f.if1.false)
-    (sym g.before.is-finite2.ensures ∙ not_false g.before.is-finite2.result g.if2.false)
+    (sym f.before.is_finite.ensures ∙ not-false f.before.is_finite.result f.if1.false)
+    (sym g.before.is-finite2.ensures ∙ not-false g.before.is-finite2.result g.if2.false)
     (sym c.before.sooner.ensures ∙ c.if3.true)
 
 returns-4 : tie.Need-returns-4
@@ -46,8 +46,8 @@ returns-4 c =
     let t = f.before.before in
     let s = t.before in
     is-after s.before.args.a s.before.args.b s.exact-sum.result t.exact-sum2.result s.exact-sum.ensures t.exact-sum2.ensures
-    (sym f.before.is_finite.ensures ∙ not_false f.before.is_finite.result f.if1.false)
-    (sym g.before.is-finite2.ensures ∙ not_false g.before.is-finite2.result g.if2.false)
+    (sym f.before.is_finite.ensures ∙ not-false f.before.is_finite.result f.if1.false)
+    (sym g.before.is-finite2.ensures ∙ not-false g.before.is-finite2.result g.if2.false)
     (sym h.before.sooner.ensures ∙ h.if3.false)
     (sym c.before.sooner2.ensures ∙ c.if4.true)
 
@@ -60,8 +60,8 @@ returns-5 c =
     let t = f.before.before in
     let s = t.before in
     is-equal s.before.args.a s.before.args.b s.exact-sum.result t.exact-sum2.result s.exact-sum.ensures t.exact-sum2.ensures
-    (sym f.before.is_finite.ensures ∙ not_false f.before.is_finite.result f.if1.false)
-    (sym g.before.is-finite2.ensures ∙ not_false g.before.is-finite2.result g.if2.false)
+    (sym f.before.is_finite.ensures ∙ not-false f.before.is_finite.result f.if1.false)
+    (sym g.before.is-finite2.ensures ∙ not-false g.before.is-finite2.result g.if2.false)
     (sym h.before.sooner.ensures ∙ h.if3.false)
     (sym c.before.sooner2.ensures ∙ c.if4.false)
 

@@ -2,7 +2,7 @@
 use borrow.Author.Rules.{rules}
 use mathlib.Core.Path.{sym, ◌∙◌}
 use mathlib.Core.Bool.{true, false}
-use borrow.Author.Tests.{not_true, not_false}
+use borrow.Author.Tests.{not-true, not-false}
 use Rattle.leap_lists.proofs.held.Tests.{full, not_later, by-step}
 use Rattle.leap_lists.proofs.held.later_fault.Statement.{statement}
 use Rattle.leap_lists.proofs.held.later_fault.Tie as tie
@@ -18,14 +18,14 @@ returns-3 c =
     let o = c.before in
     let a = o.before.before.before.before.before.args in
     by-step a.held a.month a.seconds false o.before.before.before.if1.false o.before.if2.false
-    (sym o.one-Apart.ensures ∙ not_true _ c.if3.true)
+    (sym o.one-Apart.ensures ∙ not-true _ c.if3.true)
 
 returns-4 : tie.Need-returns-4
 returns-4 c =
     let o = c.before in
     let a = o.before.before.before.before.before.args in
     by-step a.held a.month a.seconds true o.before.before.before.if1.false o.before.if2.false
-    (sym o.one-Apart.ensures ∙ not_false _ c.if3.false)
+    (sym o.one-Apart.ensures ∙ not-false _ c.if3.false)
 
 pub later-fault-spec : {M : Type 1} → statement M
 later-fault-spec = tie.close (tie.spec returns returns-2 (λ c κs. search rules) returns-3 returns-4)

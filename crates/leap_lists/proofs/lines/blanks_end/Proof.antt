@@ -1,7 +1,7 @@
 -- `leap_lists::lines::blanks_end` meets its contract. Assumes nothing.
 use Rattle.leap_lists.proofs.lines.Runs.{blank_skipped, blanks-stop, blanks-out}
 use Rattle.leap_lists.specs.lines.Scan.{behind_blanks}
-use borrow.Author.Tests.{not_true, not_false}
+use borrow.Author.Tests.{not-true, not-false}
 use lib.ListN.{length, drop}
 use native.Mathlib.Omega.{arith}
 use borrow.Author.Rules.{rules}
@@ -24,7 +24,7 @@ returns c =
     let l = c.before.before.before.before in
     let a = l.before.before.args in
     let h : l.loop.i < length a.line.now = omega arith in
-    (blanks-stop a.returns a.line.now l.loop.i h (sym c.before.blank.ensures ∙ not_true _ c.if1.true) ∙ l.loop.invariant.1, omega arith)
+    (blanks-stop a.returns a.line.now l.loop.i h (sym c.before.blank.ensures ∙ not-true _ c.if1.true) ∙ l.loop.invariant.1, omega arith)
 
 loop-again : tie.Need-loop-preserved invariant-loop decreases-loop
 loop-again c =
@@ -32,7 +32,7 @@ loop-again c =
     let a = l.before.before.args in
     let h : l.loop.i < length a.line.now = omega arith in (
       omega arith,
-      sym (blank_skipped a.returns a.line.now l.loop.i h (sym c.before.blank.ensures ∙ not_false _ c.if1.false)) ∙ l.loop.invariant.1,
+      sym (blank_skipped a.returns a.line.now l.loop.i h (sym c.before.blank.ensures ∙ not-false _ c.if1.false)) ∙ l.loop.invariant.1,
     )
 
 returns-2 : tie.Need-returns-2 invariant-loop decreases-loop

@@ -2,7 +2,7 @@
 use borrow.Author.Rules.{rules}
 use native.Mathlib.Omega.{arith}
 use Prim.Native.Nat.{suc, ◌+◌, ◌-◌, ◌*◌, ◌≤◌, ◌<◌}
-use borrow.Author.Tests.{not_true, not_false}
+use borrow.Author.Tests.{not-true, not-false}
 use mathlib.Core.Path.{◌≡◌, refl, sym, ap, subst, ◌∙◌}
 use mathlib.Core.Bool.{true}
 use lib.ListN.{length, get_or}
@@ -27,7 +27,7 @@ returns c =
     let a = l.before.before.args in
     run_ends a.most a.at a.line.now l.loop.value l.loop.i l.loop.left
     (leading-stop a.line.now l.loop.i l.loop.left
-    (ap is_digit (sym c.before.before.byte_at.ensures) ∙ sym c.before.digit.ensures ∙ not_true _ c.if1.true))
+    (ap is_digit (sym c.before.before.byte_at.ensures) ∙ sym c.before.digit.ensures ∙ not-true _ c.if1.true))
     l.loop.invariant
 
 -- the byte is a digit, and what is read before it is below 10 ^ 12
@@ -39,7 +39,7 @@ module _ (c : tie.Else1 invariant-loop decreases-loop) where
   s = l.before.before
 
   is_digit_lem : is_digit (get_or s.args.line.now l.loop.i 0) ≡ true
-  is_digit_lem = ap is_digit (sym c.before.before.byte_at.ensures) ∙ sym c.before.digit.ensures ∙ not_false _ c.if1.false
+  is_digit_lem = ap is_digit (sym c.before.before.byte_at.ensures) ∙ sym c.before.digit.ensures ∙ not-false _ c.if1.false
 
   low : 48 ≤ c.before.before.byte_at.result
   low = omega (arith, c.before.before.byte_at.ensures, (digit_bounds _ is_digit_lem).0)

@@ -4,7 +4,7 @@ use native.Mathlib.Omega.{arith}
 use mathlib.Core.Path.{◌≡◌, sym, ap, ◌∙◌}
 use mathlib.Core.Bool.{true, false}
 use lib.ListN.{get_or}
-use borrow.Author.Tests.{not_true, not_false}
+use borrow.Author.Tests.{not-true, not-false}
 use Rattle.leap_lists.specs.lines.Scan.{line_blank}
 use Rattle.leap_lists.proofs.lines.Ladder.{last_none, last_empty, last-not-ended, last_some}
 use Rattle.leap_lists.proofs.lines.last_number.Statement.{statement}
@@ -15,12 +15,12 @@ returns c =
     let b = c.before in
     let y = b.before in
     let a = y.before.before.args in
-    last_none a.most a.at a.line.now (ap (line_blank false) (sym y.byte_at.ensures) ∙ sym b.blank.ensures ∙ not_true _ c.if1.true)
+    last_none a.most a.at a.line.now (ap (line_blank false) (sym y.byte_at.ensures) ∙ sym b.blank.ensures ∙ not-true _ c.if1.true)
 
 -- a blank is there
 module _ (c : tie.Else1) where
   blank-there : let y = c.before.before in let a = y.before.before.args in line_blank false (get_or a.line.now a.at 0) ≡ true
-  blank-there = ap (line_blank false) (sym c.before.before.byte_at.ensures) ∙ sym c.before.blank.ensures ∙ not_false _ c.if1.false
+  blank-there = ap (line_blank false) (sym c.before.before.byte_at.ensures) ∙ sym c.before.blank.ensures ∙ not-false _ c.if1.false
 
 returns-2 : tie.Need-returns-2
 returns-2 c =
@@ -36,7 +36,7 @@ returns-3 c =
     let f = d.before in
     let a = f.before.before.before.before.before.args in
     last-not-ended a.most a.at a.line.now f.blanks-end.result d.digits.result (blank-there f.before) f.blanks-end.ensures.0
-    d.digits.ensures (sym c.before.at_end.ensures ∙ not_true _ c.if3.true)
+    d.digits.ensures (sym c.before.at_end.ensures ∙ not-true _ c.if3.true)
 
 returns-4 : tie.Need-returns-4
 returns-4 c =
@@ -44,7 +44,7 @@ returns-4 c =
     let f = d.before in
     let a = f.before.before.before.before.before.args in
     last_some a.most a.at a.line.now f.blanks-end.result d.digits.result (blank-there f.before) f.blanks-end.ensures.0
-    d.digits.ensures c.before.before.if2.false (sym c.before.at_end.ensures ∙ not_false _ c.if3.false)
+    d.digits.ensures c.before.before.if2.false (sym c.before.at_end.ensures ∙ not-false _ c.if3.false)
 
 pub last-number-spec : {M : Type 1} → statement M
 last-number-spec =

@@ -4,7 +4,7 @@ use native.Mathlib.Omega.{arith}
 use mathlib.Core.Path.{◌≡◌, refl, ap, sym, ◌∙◌}
 use lib.IntN.{nat_abs}
 use lib.Ieee.{binary64, of_int, of_bits}
-use borrow.Author.Tests.{not_true, not_false}
+use borrow.Author.Tests.{not-true, not-false}
 use Rattle.refusals.specs.Outcome.{answer}
 use Rattle.calendar.specs.DayCount.{mjd_number, mjd_of}
 use Rattle.calendar.proofs.Mjd.{mjd-given, same_answer}
@@ -16,7 +16,7 @@ use Rattle.leap_table.proofs.walk.offset_in.Statement.{statement}
 use Rattle.leap_table.proofs.walk.offset_in.Tie as tie
 
 returns : tie.Need-returns
-returns c = stays c.before.before.args.terms _ _ (not_true _ c.if1.true)
+returns c = stays c.before.before.args.terms _ _ (not-true _ c.if1.true)
 
 -- where there is a day number
 module _ (c : tie.After-known-told) where
@@ -56,7 +56,7 @@ unfolding of_bits
 returns-3 c =
     let k = c.before.before.before.before in
     let s = k.before.before.before.before.before.before.before.before.before.args in
-    goes s.terms _ _ (not_false _ k.before.before.before.before.before.before.before.if1.false) _ _
+    goes s.terms _ _ (not-false _ k.before.before.before.before.before.before.before.if1.false) _ _
     (ap (of_int binary64) (read k.before.n.given.0.0 (small k) ∙ number k)) refl
 
 pub offset-in-spec : {M : Type 1} → statement M

@@ -1,13 +1,13 @@
 -- `parsing::scan::blank` meets its contract. Assumes nothing.
 use borrow.Author.Tests.{eq-eqb, ne_eqb, le-leb, lt-leb}
-use mathlib.Core.Bool.{or_true, or_false}
+use mathlib.Core.Bool.{or-true, or-false}
 use Rattle.parsing.specs.scan.Form.{is_blank}
 use Rattle.parsing.proofs.scan.blank.Statement.{statement}
 use Rattle.parsing.proofs.scan.blank.Tie as tie
 
 returns : tie.Need-returns
 unfolding is_blank
-returns c = simp (eq-eqb _ _ c.if1.true, or_true)
+returns c = simp (eq-eqb _ _ c.if1.true, or-true)
 
 returns-2 : tie.Need-returns-2
 unfolding is_blank
@@ -15,7 +15,7 @@ returns-2 c = simp (ne_eqb _ _ c.before.if1.false, lt-leb _ _ c.if2.true)
 
 returns-3 : tie.Need-returns-3
 unfolding is_blank
-returns-3 c = simp (ne_eqb _ _ c.before.if1.false, le-leb _ _ c.if2.false, or_false)
+returns-3 c = simp (ne_eqb _ _ c.before.if1.false, le-leb _ _ c.if2.false, or-false)
 
 pub blank-spec : {M : Type 1} → statement M
 blank-spec = tie.close (tie.spec returns returns-2 returns-3)

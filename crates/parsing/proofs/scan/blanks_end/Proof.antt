@@ -1,7 +1,7 @@
 -- `parsing::scan::blanks_end` meets its contract. Assumes nothing.
 use Rattle.parsing.proofs.scan.Runs.{blank_skipped, blanks-stop, blanks-out}
 use Rattle.parsing.specs.scan.Form.{after_blanks}
-use borrow.Author.Tests.{not_true, not_false}
+use borrow.Author.Tests.{not-true, not-false}
 use lib.ListN.{length, drop}
 use native.Mathlib.Omega.{arith}
 use borrow.Author.Rules.{rules}
@@ -30,7 +30,7 @@ returns c =
     let h : c.before.before.before.before.loop.i < length c.before.before.before.before.before.before.args.text.now = omega arith in (
       omega arith,
       blanks-stop c.before.before.before.before.before.before.args.text.now c.before.before.before.before.loop.i h
-          (sym c.before.blank.ensures ∙ not_true _ c.if1.true) ∙ c.before.before.before.before.loop.invariant.1,
+          (sym c.before.blank.ensures ∙ not-true _ c.if1.true) ∙ c.before.before.before.before.loop.invariant.1,
     )
 
 add-i : tie.Need-overflow-add-i invariant-loop decreases-loop
@@ -44,7 +44,7 @@ loop-again c =
     let h : c.before.before.before.before.loop.i < length c.before.before.before.before.before.before.args.text.now = omega arith in (
       omega arith,
       sym (blank_skipped c.before.before.before.before.before.before.args.text.now c.before.before.before.before.loop.i h
-          (sym c.before.blank.ensures ∙ not_false _ c.if1.false)) ∙ c.before.before.before.before.loop.invariant.1,
+          (sym c.before.blank.ensures ∙ not-false _ c.if1.false)) ∙ c.before.before.before.before.loop.invariant.1,
     )
 
 returns-2 : tie.Need-returns-2 invariant-loop decreases-loop

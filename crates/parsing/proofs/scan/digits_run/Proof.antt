@@ -2,7 +2,7 @@
 use Rattle.parsing.proofs.scan.Runs.{Small, small_start, small-more, RunsOn, run-start, run_on, run-stops, run_out}
 use native.Mathlib.Nat.{sub_self}
 use Rattle.parsing.proofs.scan.Runs.{Small, small_start, small-more, run-start, run_on, run-stops, run_out}
-use borrow.Author.Tests.{not_true, not_false}
+use borrow.Author.Tests.{not-true, not-false}
 use lib.ListN.{length}
 use native.Mathlib.Omega.{arith}
 use borrow.Author.Rules.{rules}
@@ -37,7 +37,7 @@ returns c =
     let h : l.i < length c.before.before.before.before.before.before.args.text.now = omega arith in
     run-stops c.before.before.before.before.before.before.args.second c.before.before.before.before.before.before.args.at
     c.before.before.before.before.before.before.args.text.now l.whole l.i l.invariant.0 h
-    (sym c.before.digit.ensures ∙ not_true _ c.if1.true) l.invariant.3
+    (sym c.before.digit.ensures ∙ not-true _ c.if1.true) l.invariant.3
 
 shared-slice-read-joined : tie.Need-shared-slice-read-joined invariant-loop decreases-loop
 shared-slice-read-joined c = search rules
@@ -65,7 +65,7 @@ loop-again c =
       run_on c.before.before.before.before.before.before.before.before.args.second
           c.before.before.before.before.before.before.before.before.args.at
           c.before.before.before.before.before.before.before.before.args.text.now l.whole l.i l.invariant.0 c.joined.result h
-          (sym c.before.before.before.digit.ensures ∙ not_false _ c.before.before.if1.false) c.joined.ensures l.invariant.3,
+          (sym c.before.before.before.digit.ensures ∙ not-false _ c.before.before.if1.false) c.joined.ensures l.invariant.3,
     )
 
 sub-t13 : tie.Need-overflow-sub-t13 invariant-loop decreases-loop

@@ -1,6 +1,6 @@
 -- `parsing::scan::pairs_right` meets its contract. Assumes nothing.
 use mathlib.Core.Path.{sym, ◌∙◌}
-use borrow.Author.Tests.{not_true, not_false, eq-eqb, ne_eqb}
+use borrow.Author.Tests.{not-true, not-false, eq-eqb, ne_eqb}
 use Rattle.parsing.specs.scan.Scan.{pairs_at}
 use borrow.Author.Rules.{rules}
 use Rattle.parsing.proofs.scan.pairs_right.Statement.{statement}
@@ -8,11 +8,11 @@ use Rattle.parsing.proofs.scan.pairs_right.Tie as tie
 
 returns : tie.Need-returns
 unfolding pairs_at
-returns c = rw (sym c.before.two_digits.ensures ∙ not_true _ c.if1.true)
+returns c = rw (sym c.before.two_digits.ensures ∙ not-true _ c.if1.true)
 
 returns-2 : tie.Need-returns-2
 unfolding pairs_at
-returns-2 c = let i1 = c.before.before in rw (sym i1.before.two_digits.ensures ∙ not_false _ i1.if1.false, ne_eqb _ _ c.if2.true)
+returns-2 c = let i1 = c.before.before in rw (sym i1.before.two_digits.ensures ∙ not-false _ i1.if1.false, ne_eqb _ _ c.if2.true)
 
 returns-3 : tie.Need-returns-3
 unfolding pairs_at
@@ -20,9 +20,9 @@ returns-3 c =
     let i2 = c.before.before.before.before in
     let i1 = i2.before.before in
     rw (
-      sym i1.before.two_digits.ensures ∙ not_false _ i1.if1.false,
+      sym i1.before.two_digits.ensures ∙ not-false _ i1.if1.false,
       eq-eqb _ _ i2.if2.false,
-      sym c.before.two-digits2.ensures ∙ not_true _ c.if3.true,
+      sym c.before.two-digits2.ensures ∙ not-true _ c.if3.true,
     )
 
 returns-4 : tie.Need-returns-4
@@ -32,9 +32,9 @@ returns-4 c =
     let i2 = i3.before.before.before.before in
     let i1 = i2.before.before in
     rw (
-      sym i1.before.two_digits.ensures ∙ not_false _ i1.if1.false,
+      sym i1.before.two_digits.ensures ∙ not-false _ i1.if1.false,
       eq-eqb _ _ i2.if2.false,
-      sym i3.before.two-digits2.ensures ∙ not_false _ i3.if3.false,
+      sym i3.before.two-digits2.ensures ∙ not-false _ i3.if3.false,
       ne_eqb _ _ c.if4.true,
     )
 
@@ -46,9 +46,9 @@ returns-5 c =
     let i2 = i3.before.before.before.before in
     let i1 = i2.before.before in
     rw (
-      sym i1.before.two_digits.ensures ∙ not_false _ i1.if1.false,
+      sym i1.before.two_digits.ensures ∙ not-false _ i1.if1.false,
       eq-eqb _ _ i2.if2.false,
-      sym i3.before.two-digits2.ensures ∙ not_false _ i3.if3.false,
+      sym i3.before.two-digits2.ensures ∙ not-false _ i3.if3.false,
       eq-eqb _ _ i4.if4.false,
     ) c.two-digits3.ensures
 

@@ -3,7 +3,7 @@ use lib.ListN.{drop, length-drop}
 use Rattle.parsing.proofs.scan.Bytes.{outside, within, too_short, not_date, not_time, not_end, whole-form, form-is}
 use Rattle.parsing.specs.scan.Scan.{scanned_outcome}
 use Rattle.parsing.specs.scan.Form.{after_fraction, end_right}
-use borrow.Author.Tests.{not_true, not_false}
+use borrow.Author.Tests.{not-true, not-false}
 use lib.Seq.{drop-drop}
 use lib.ListN.{length-drop}
 use native.Mathlib.Omega.{arith}
@@ -26,7 +26,7 @@ returns-2 c = outside c.before.before.before.before.before.args.utc c.before.bef
     c.before.before.before.blanks-end.ensures.1
     (not_date c.before.before.before.before.before.args.utc
     (drop c.before.before.before.blanks-end.result c.before.before.before.before.before.args.text.now)
-    (sym c.before.date-right.ensures ∙ not_true _ c.if2.true))
+    (sym c.before.date-right.ensures ∙ not-true _ c.if2.true))
 
 returns-3 : tie.Need-returns-3
 unfolding scanned_outcome
@@ -36,7 +36,7 @@ returns-3 c = outside c.before.before.before.before.before.before.before.args.ut
     c.before.before.before.before.before.blanks-end.ensures.1
     (not_time c.before.before.before.before.before.before.before.args.utc
     (drop c.before.before.before.before.before.blanks-end.result c.before.before.before.before.before.before.before.args.text.now)
-    (sym c.before.time-right.ensures ∙ not_true _ c.if3.true))
+    (sym c.before.time-right.ensures ∙ not-true _ c.if3.true))
 
 returns-4 : tie.Need-returns-4
 unfolding scanned_outcome
@@ -56,7 +56,7 @@ returns-4 c =
     (ap (end_right start.args.utc)
     (ap after_fraction (drop-drop 19 at-blanks-end.blanks-end.result
     start.args.text.now)
-    ∙ sym at-fraction.fraction.ensures.behind) ∙ sym at-end-right.end-right.ensures ∙ not_true _ c.if4.true))
+    ∙ sym at-fraction.fraction.ensures.behind) ∙ sym at-end-right.end-right.ensures ∙ not-true _ c.if4.true))
 
 returns-5 : tie.Need-returns-5
 unfolding scanned_outcome
@@ -80,14 +80,14 @@ returns-5 c =
     (drop at-blanks-end.blanks-end.result
     start.args.text.now)
     (sym at-date-right.date-right.ensures
-    ∙ not_false _ at-if2.if2.false)
+    ∙ not-false _ at-if2.if2.false)
     (sym at-time-right.time-right.ensures
-    ∙ not_false _ at-if3.if3.false)
+    ∙ not-false _ at-if3.if3.false)
     (ap (end_right start.args.utc)
     (ap after_fraction (drop-drop 19
     at-blanks-end.blanks-end.result
     start.args.text.now)
-    ∙ sym at-fraction.fraction.ensures.behind) ∙ sym at-end-right.end-right.ensures ∙ not_false _ at-if4.if4.false))
+    ∙ sym at-fraction.fraction.ensures.behind) ∙ sym at-end-right.end-right.ensures ∙ not-false _ at-if4.if4.false))
     (form-is start.args.text.now
     at-blanks-end.blanks-end.result
     at-two.two.result at-fraction.fraction.result c.form-at.result

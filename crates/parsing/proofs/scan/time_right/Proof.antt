@@ -1,6 +1,6 @@
 -- `parsing::scan::time_right` meets its contract. Assumes nothing.
 use mathlib.Core.Path.{sym, ◌∙◌}
-use borrow.Author.Tests.{not_true, not_false}
+use borrow.Author.Tests.{not-true, not-false}
 use Rattle.parsing.proofs.scan.Bytes.{time-at}
 use borrow.Author.Rules.{rules}
 use Rattle.parsing.proofs.scan.time_right.Statement.{statement}
@@ -9,13 +9,13 @@ use Rattle.parsing.proofs.scan.time_right.Tie as tie
 returns : tie.Need-returns
 returns c =
     let a = c.before.before.before.before.args in
-    rw (time-at a.text.now a.at, sym c.before.separator.ensures ∙ not_true _ c.if1.true)
+    rw (time-at a.text.now a.at, sym c.before.separator.ensures ∙ not-true _ c.if1.true)
 
 returns-2 : tie.Need-returns-2
 returns-2 c =
     let i = c.before in
     let a = i.before.before.before.before.args in
-    rw (time-at a.text.now a.at, sym i.before.separator.ensures ∙ not_false _ i.if1.false) c.pairs-right.ensures
+    rw (time-at a.text.now a.at, sym i.before.separator.ensures ∙ not-false _ i.if1.false) c.pairs-right.ensures
 
 pub time-right-spec : {M : Type 1} → statement M
 time-right-spec =

@@ -1,5 +1,5 @@
 -- `parsing::scan::two_digits` meets its contract. Assumes nothing.
-use borrow.Author.Tests.{not_true, not_false}
+use borrow.Author.Tests.{not-true, not-false}
 use mathlib.Core.Path.{sym, ◌∙◌}
 use Rattle.parsing.specs.scan.Form.{two_digits}
 use borrow.Author.Rules.{rules}
@@ -8,11 +8,11 @@ use Rattle.parsing.proofs.scan.two_digits.Tie as tie
 
 returns : tie.Need-returns
 unfolding two_digits
-returns c = rw (sym c.before.digit.ensures ∙ not_true _ c.if1.true)
+returns c = rw (sym c.before.digit.ensures ∙ not-true _ c.if1.true)
 
 returns-2 : tie.Need-returns-2
 unfolding two_digits
-returns-2 c = rw (sym c.before.before.digit.ensures ∙ not_false _ c.before.if1.false) c.digit2.ensures
+returns-2 c = rw (sym c.before.before.digit.ensures ∙ not-false _ c.before.if1.false) c.digit2.ensures
 
 pub two-digits-spec : {M : Type 1} → statement M
 two-digits-spec = tie.close (tie.spec (λ c κs. search rules) returns (λ c κs. search rules) returns-2)

@@ -2,7 +2,7 @@
 use native.Mathlib.Numerals.{add-one-le}
 use lib.Dec.{lit<}
 use Rattle.parsing.proofs.scan.Runs.{zone-plain, zone-none, zone-zulu, byte_inside}
-use borrow.Author.Tests.{not_true, not_false}
+use borrow.Author.Tests.{not-true, not-false}
 use mathlib.Core.Path.{sym, ◌∙◌}
 use borrow.Author.Rules.{rules}
 use Rattle.parsing.proofs.scan.zone_end.Statement.{statement}
@@ -12,7 +12,7 @@ returns : tie.Need-returns
 returns c = (
   search rules,
   zone-plain c.before.before.args.utc c.before.before.args.at c.before.before.args.text.now
-      (not_true _ c.if1.true),
+      (not-true _ c.if1.true),
 )
 
 returns-2 : tie.Need-returns-2
@@ -27,7 +27,7 @@ returns-3 c =
     let e = sym c.before.byte_at.ensures ∙ c.if2.false in (
       add-one-le (byte_inside c.before.before.before.before.args.text.now c.before.before.before.before.args.at 90 (lit< tt) e),
       zone-zulu c.before.before.before.before.args.utc c.before.before.before.before.args.at
-          c.before.before.before.before.args.text.now (not_false _ c.before.before.if1.false) e,
+          c.before.before.before.before.args.text.now (not-false _ c.before.before.if1.false) e,
     )
 
 pub zone-end-spec : {M : Type 1} → statement M

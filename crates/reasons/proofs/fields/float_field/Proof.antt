@@ -2,7 +2,7 @@
 use mathlib.Core.Path.{sym, ◌∙◌}
 use mathlib.Core.Logic.{⊎_elim}
 use lib.Ieee.{of_bits}
-use borrow.Author.Tests.{not_true, not_false}
+use borrow.Author.Tests.{not-true, not-false}
 use Rattle.reasons.proofs.FieldTests.{fraction-passes, fraction-low, fraction-high, offset-bad, offset-passes, float-none}
 use borrow.Author.Rules.{rules}
 use Rattle.reasons.proofs.fields.float_field.Statement.{statement}
@@ -18,10 +18,10 @@ returns-2 c = ⊎_elim (λ w. fraction-high _ _ c.before.if1.true w.0.taken w.1.
     c.if2.branch
 
 returns-3 : tie.Need-returns-3
-returns-3 c = let i = c.before in offset-bad _ _ i.before.if4.true (sym i.is_finite.ensures ∙ not_true _ c.if5.true)
+returns-3 c = let i = c.before in offset-bad _ _ i.before.if4.true (sym i.is_finite.ensures ∙ not-true _ c.if5.true)
 
 returns-4 : tie.Need-returns-4
-returns-4 c = let i = c.before in offset-passes _ _ i.before.if4.true (sym i.is_finite.ensures ∙ not_false _ c.if5.false)
+returns-4 c = let i = c.before in offset-passes _ _ i.before.if4.true (sym i.is_finite.ensures ∙ not-false _ c.if5.false)
 
 pub float-field-spec : {M : Type 1} → statement M
 float-field-spec =

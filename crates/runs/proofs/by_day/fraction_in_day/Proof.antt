@@ -1,7 +1,7 @@
 -- `runs::by_day::fraction_in_day` meets its contract: the short way of `julian::day_number`. Assumes nothing.
 use mathlib.Core.Path.{ap}
 use lib.Ieee.{binary64, of_bits, neg, sub}
-use lib.Ieee.Fits.{sub_fits}
+use lib.Ieee.Fits.{sub-fits}
 use mir.Syntax.{w64}
 use mir.Val.{to_z}
 use Rattle.floats.specs.Whole.{nearest_int}
@@ -21,7 +21,7 @@ returns c x fx m acc =
     let w = i.before.before in
     let s = w.before in
     let y = s.args.small in
-    let q = quick (sub binary64 x (nearest_int x)) (sub binary64 y w.nearest-whole.result.value) (sub_fits binary64 x _) (sub_fits binary64 y _)
+    let q = quick (sub binary64 x (nearest_int x)) (sub binary64 y w.nearest-whole.result.value) (sub-fits binary64 x _) (sub-fits binary64 y _)
     m.before_noon i.if1.true j.if2.true in
     same_number x y fx (yes s.well_formed.0.1) m acc w.nearest-whole.result w.nearest-whole.ensures _ q (ap (to_z w64) c.if3.true)
 
@@ -34,7 +34,7 @@ returns-2 c x fx m acc =
     let w = i.before.before in
     let s = w.before in
     let y = s.args.small in
-    let q = quick_borrowed (sub binary64 x (nearest_int x)) (sub binary64 y w.nearest-whole.result.value) (sub_fits binary64 x _) (sub_fits binary64 y _)
+    let q = quick_borrowed (sub binary64 x (nearest_int x)) (sub binary64 y w.nearest-whole.result.value) (sub-fits binary64 x _) (sub-fits binary64 y _)
     m.before_noon i.if1.false j.if4.true k.if5.true in
     next-number x y fx (yes s.well_formed.0.1) m acc w.nearest-whole.result w.nearest-whole.ensures _ q (ap (to_z w64) c.if6.true)
 

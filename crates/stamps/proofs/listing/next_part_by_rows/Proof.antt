@@ -2,7 +2,7 @@
 -- those that the rest of the scratch will take. The measure is the number of lines that are left. Assumes nothing.
 use lib.ListN.{length}
 use mathlib.Core.Path.{◌≡◌, refl, sym, ap, subst, ◌∙◌}
-use Prim.Native.Nat.{ℕ, ◌+◌, ◌-◌, ◌≤◌, zero_le}
+use Prim.Native.Nat.{ℕ, ◌+◌, ◌-◌, ◌≤◌, zero-le}
 use borrow.Author.Rules.{rules}
 use native.Mathlib.Omega.{arith}
 use Rattle.leap_table.specs.rows.Announced.{rows_of}
@@ -43,7 +43,7 @@ line-room-requires c κs = search rules
 
 loop-holds : tie.Need-loop-init invariant-loop decreases-loop
 unfolding lines_from
-loop-holds c = (zero_le, nothing _, zero_le, refl, start _ _ _ _ _ _)
+loop-holds c = (zero-le, nothing _, zero-le, refl, start _ _ _ _ _ _)
 
 sub-if1 : tie.Need-overflow-sub-if1 invariant-loop decreases-loop
 sub-if1 c = search rules

@@ -1,7 +1,7 @@
 -- `listing::refused_stamps` meets its contract. The invariant: the first i stamps are counted. The measure is the number of stamps that are left. Assumes
 -- nothing.
 use mathlib.Core.Path.{◌≡◌, refl, ap, ◌∙◌}
-use Prim.Native.Nat.{◌-◌, ◌≤◌, zero_le}
+use Prim.Native.Nat.{◌-◌, ◌≤◌, zero-le}
 use mathlib.Core.List.{List}
 use Rattle.leap_table.specs.rows.Table.{Row}
 use borrow.Author.Rules.{rules}
@@ -19,7 +19,7 @@ decreases-loop block stamps refused₀ i₀ refused i = stamps - i
 
 loop-holds : tie.Need-loop-init invariant-loop decreases-loop
 unfolding refused_in
-loop-holds c = (zero_le, (λ rows. refl), zero_le)
+loop-holds c = (zero-le, (λ rows. refl), zero-le)
 
 stamp-at-requires : tie.Need-stamp-at-requires invariant-loop decreases-loop
 stamp-at-requires c κs = search rules

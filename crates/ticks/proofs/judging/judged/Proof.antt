@@ -2,7 +2,7 @@
 use native.Mathlib.Omega.{arith}
 use mathlib.Core.Path.{sym, ◌∙◌}
 use mathlib.Core.Bool.{true, false}
-use borrow.Author.Tests.{not_true, not_false}
+use borrow.Author.Tests.{not-true, not-false}
 use Rattle.ticks.specs.judging.Refusing.{number_at}
 use Rattle.ticks.proofs.judging.ByLast.{by_tests, last-tick-large, last-milli-large, nothing-wrong}
 use borrow.Author.Rules.{rules}
@@ -13,13 +13,13 @@ returns : tie.Need-returns
 returns c =
     let a = c.before.before.before.before.before.before.args in
     by_tests a.n (number_at a.passes.now) (number_at a.millis.now) true false (sym c.before.both_small.ensures ∙ c.if2.true)
-    (sym c.before.before.before.both-rising.ensures ∙ not_true _ c.before.before.if1.true)
+    (sym c.before.before.before.both-rising.ensures ∙ not-true _ c.before.before.if1.true)
 
 returns-2 : tie.Need-returns-2
 returns-2 c =
     let a = c.before.before.before.before.before.before.args in
     by_tests a.n (number_at a.passes.now) (number_at a.millis.now) false false (sym c.before.both_small.ensures ∙ c.if2.false)
-    (sym c.before.before.before.both-rising.ensures ∙ not_true _ c.before.before.if1.true)
+    (sym c.before.before.before.both-rising.ensures ∙ not-true _ c.before.before.if1.true)
 
 returns-3 : tie.Need-returns-3
 returns-3 c =
@@ -37,7 +37,7 @@ returns-5 : tie.Need-returns-5
 returns-5 c =
     let s = c.before.before.before.before.before.before.before.before in
     nothing-wrong s.args.n (number_at s.args.passes.now) (number_at s.args.millis.now) s.requires.0
-    (sym c.before.before.before.before.before.both-rising.ensures ∙ not_false _ c.before.before.before.before.if1.false)
+    (sym c.before.before.before.before.before.both-rising.ensures ∙ not-false _ c.before.before.before.before.if1.false)
     (omega (arith, c.before.before.before.number-at.ensures, c.before.before.if3.false))
     (omega (arith, c.before.number-at2.ensures, c.if4.false))
 

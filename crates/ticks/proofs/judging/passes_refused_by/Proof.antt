@@ -1,7 +1,7 @@
 -- `ticks::judging::passes_refused_by` meets its contract. Assumes nothing.
 use native.Mathlib.Omega.{arith}
 use mathlib.Core.Path.{sym, ◌∙◌}
-use borrow.Author.Tests.{not_true, not_false}
+use borrow.Author.Tests.{not-true, not-false}
 use Rattle.ticks.proofs.judging.Ladder.{counted_is, miscounted, by-numbers}
 use borrow.Author.Rules.{rules}
 use Rattle.ticks.proofs.judging.passes_refused_by.Statement.{statement}
@@ -10,19 +10,19 @@ use Rattle.ticks.proofs.judging.passes_refused_by.Tie as tie
 returns : tie.Need-returns
 returns c =
     let a = c.before.before.before.before.args in
-    miscounted a.passes.now a.millis.now (sym c.before.well-counted.ensures ∙ not_true _ c.if1.true)
+    miscounted a.passes.now a.millis.now (sym c.before.well-counted.ensures ∙ not-true _ c.if1.true)
 
 judged-requires : tie.Need-judged-requires
 judged-requires c κs =
     let a = c.before.before.before.before.args in
-    let u = counted_is a.passes.now a.millis.now (sym c.before.well-counted.ensures ∙ not_false _ c.if1.false) in
+    let u = counted_is a.passes.now a.millis.now (sym c.before.well-counted.ensures ∙ not-false _ c.if1.false) in
     (omega (arith, u.two), u.most, omega arith, omega (arith, u.equal))
 
 returns-2 : tie.Need-returns-2
 returns-2 c =
     let q = c.before in
     let a = q.before.before.before.before.args in
-    c.judged.ensures ∙ by-numbers a.passes.now a.millis.now (sym q.before.well-counted.ensures ∙ not_false _ q.if1.false)
+    c.judged.ensures ∙ by-numbers a.passes.now a.millis.now (sym q.before.well-counted.ensures ∙ not-false _ q.if1.false)
 
 pub passes-refused-by-spec : {M : Type 1} → statement M
 passes-refused-by-spec = tie.close (tie.spec (λ c κs. search rules) returns judged-requires returns-2)

@@ -3,7 +3,7 @@ use Prim.Native.Nat.{◌≤◌}
 use native.Mathlib.Omega.{arith}
 use mathlib.Core.Path.{◌≡◌, sym, ◌∙◌}
 use mathlib.Core.Bool.{true, false, ◌&&◌}
-use borrow.Author.Tests.{not_true, not_false}
+use borrow.Author.Tests.{not-true, not-false}
 use Rattle.ticks.specs.judging.Refusing.{numbers_in, whole_numbers, passes_refusal}
 use Rattle.ticks.proofs.judging.Ladder.{not_whole, no_room, by-passes, by-ticks, passes-right, usable-is, inside_is}
 use borrow.Author.Rules.{rules}
@@ -13,12 +13,12 @@ use Rattle.ticks.proofs.judging.refused_by.Tie as tie
 returns : tie.Need-returns
 returns c =
     let a = c.before.before.before.before.before.args in
-    not_whole a.passes.now a.millis.now a.ticks.now a.room (sym c.before.whole-lists.ensures ∙ not_true _ c.if1.true)
+    not_whole a.passes.now a.millis.now a.ticks.now a.room (sym c.before.whole-lists.ensures ∙ not-true _ c.if1.true)
 
 -- what the test of the lengths has shown
 wholes : (c : tie.Else1) → let a =
     c.before.before.before.before.before.args in whole_numbers a.passes.now && (whole_numbers a.millis.now && whole_numbers a.ticks.now) ≡ true
-wholes c = sym c.before.whole-lists.ensures ∙ not_false _ c.if1.false
+wholes c = sym c.before.whole-lists.ensures ∙ not-false _ c.if1.false
 
 returns-2 : tie.Need-returns-2
 returns-2 c =
@@ -60,7 +60,7 @@ returns-4 c =
     let a = e.before.before.before.before.before.before.args in
     by-ticks a.passes.now a.millis.now a.ticks.now a.room (wholes e.before) e.if2.false false (right q)
     (inside_is a.passes.now a.ticks.now _ _ false n.number-at.ensures c.before.before.number-at2.ensures
-    (sym (not_true _ c.if4.true) ∙ c.before.all-inside.ensures))
+    (sym (not-true _ c.if4.true) ∙ c.before.all-inside.ensures))
 
 returns-5 : tie.Need-returns-5
 returns-5 c =
@@ -70,7 +70,7 @@ returns-5 c =
     let a = e.before.before.before.before.before.before.args in
     by-ticks a.passes.now a.millis.now a.ticks.now a.room (wholes e.before) e.if2.false true (right q)
     (inside_is a.passes.now a.ticks.now _ _ true n.number-at.ensures c.before.before.number-at2.ensures
-    (sym (not_false _ c.if4.false) ∙ c.before.all-inside.ensures))
+    (sym (not-false _ c.if4.false) ∙ c.before.all-inside.ensures))
 
 pub refused-by-spec : {M : Type 1} → statement M
 refused-by-spec =

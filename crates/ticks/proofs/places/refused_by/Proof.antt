@@ -1,7 +1,7 @@
 -- `ticks::places::refused_by` meets its contract. Assumes nothing.
 use mathlib.Core.Path.{◌≡◌, sym, ◌∙◌}
 use mathlib.Core.Bool.{true, ◌&&◌}
-use borrow.Author.Tests.{not_true, not_false}
+use borrow.Author.Tests.{not-true, not-false}
 use Rattle.ticks.specs.judging.Refusing.{whole_numbers}
 use Rattle.ticks.proofs.places.Ladder.{not_whole, other_count, no_room, by-passes}
 use borrow.Author.Rules.{rules}
@@ -11,12 +11,12 @@ use Rattle.ticks.proofs.places.refused_by.Tie as tie
 returns : tie.Need-returns
 returns c =
     let a = c.before.before.before.before.before.args in
-    not_whole a.passes.now a.places.now a.millis.now a.count a.room (sym c.before.whole-lists.ensures ∙ not_true _ c.if1.true)
+    not_whole a.passes.now a.places.now a.millis.now a.count a.room (sym c.before.whole-lists.ensures ∙ not-true _ c.if1.true)
 
 -- what the test of the lengths has shown
 wholes : (c : tie.Else1) → let a =
     c.before.before.before.before.before.args in whole_numbers a.passes.now && (whole_numbers a.places.now && whole_numbers a.millis.now) ≡ true
-wholes c = sym c.before.whole-lists.ensures ∙ not_false _ c.if1.false
+wholes c = sym c.before.whole-lists.ensures ∙ not-false _ c.if1.false
 
 returns-2 : tie.Need-returns-2
 returns-2 c =

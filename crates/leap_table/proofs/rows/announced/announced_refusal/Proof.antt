@@ -2,7 +2,7 @@
 use mathlib.Core.Path.{◌≡◌, ap, sym, ◌∙◌}
 use mathlib.Core.List.{[]}
 use borrow.Author.Rules.{rules}
-use borrow.Author.Tests.{not_true, not_false}
+use borrow.Author.Tests.{not-true, not-false}
 use Rattle.leap_table.specs.declared.rows.AnnouncedRows.{AnnouncedRows}
 use Rattle.leap_table.specs.rows.Table.{starts, rising}
 use Rattle.leap_table.specs.rows.Announced.{rows_to, announced_table, by_seconds}
@@ -35,7 +35,7 @@ returns-3 : tie.Need-returns-3
 returns-3 c =
     let two = c.before.before in
     let one = two.before in
-    not_rising (judged one.before) one.if1.false two.if2.false (sym (not_true _ c.if3.true) ∙ order c.before)
+    not_rising (judged one.before) one.if1.false two.if2.false (sym (not-true _ c.if3.true) ∙ order c.before)
 
 returns-4 : tie.Need-returns-4
 returns-4 c =
@@ -43,8 +43,8 @@ returns-4 c =
     let two = three.before.before in
     let one = two.before in
     not_by_seconds (judged one.before) one.if1.false two.if2.false
-    (sym (not_false _ three.if3.false) ∙ order three.before)
-    (sym (not_true _ c.if4.true) ∙ by_ones c.before)
+    (sym (not-false _ three.if3.false) ∙ order three.before)
+    (sym (not-true _ c.if4.true) ∙ by_ones c.before)
 
 returns-5 : tie.Need-returns-5
 returns-5 c =
@@ -52,8 +52,8 @@ returns-5 c =
     let two = three.before.before in
     let one = two.before in
     all_right (judged one.before) one.if1.false two.if2.false
-    (sym (not_false _ three.if3.false) ∙ order three.before)
-    (sym (not_false _ c.if4.false) ∙ by_ones c.before)
+    (sym (not-false _ three.if3.false) ∙ order three.before)
+    (sym (not-false _ c.if4.false) ∙ by_ones c.before)
 
 pub announced-refusal-spec : {M : Type 1} → statement M
 announced-refusal-spec =

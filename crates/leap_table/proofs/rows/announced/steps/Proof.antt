@@ -9,7 +9,7 @@ use native.Mathlib.Omega.{arith}
 use lib.IntN.{ℤ, pos}
 use lib.ListN.{get_or}
 use borrow.Author.Rules.{rules}
-use borrow.Author.Tests.{not_true, not_false}
+use borrow.Author.Tests.{not-true, not-false}
 use Rattle.leap_table.specs.declared.rows.AnnouncedRows.{AnnouncedRows}
 use Rattle.leap_table.specs.rows.Announced.{seconds_at, rows_to, announced_table, one_apart, by_seconds}
 use Rattle.leap_table.proofs.rows.Naturals.{read-natural}
@@ -63,7 +63,7 @@ returns c =
     let l = w.before.before.before in
     let s = l.before in
     wrong_step (announced s.args.seconds.now) l.loop.i s.args.size w.before.before.loop-test.true
-    (apart _ _ _ _ (sym l.loop.invariant.2) (sym (seconds-read w)) ∙ sym c.before.one-Apart.ensures ∙ not_true _ c.if1.true)
+    (apart _ _ _ _ (sym l.loop.invariant.2) (sym (seconds-read w)) ∙ sym c.before.one-Apart.ensures ∙ not-true _ c.if1.true)
 
 add-i : tie.Need-overflow-add-i invariant-loop decreases-loop
 add-i c = search rules
@@ -78,7 +78,7 @@ loop-again c =
     let s = l.before in
     let m = seconds-read w in
     let (a, b) = right-step (announced s.args.seconds.now) l.loop.i l.loop.invariant.3
-    (apart _ _ _ _ (sym l.loop.invariant.2) (sym m) ∙ sym c.before.one-Apart.ensures ∙ not_false _ c.if1.false) in
+    (apart _ _ _ _ (sym l.loop.invariant.2) (sym m) ∙ sym c.before.one-Apart.ensures ∙ not-false _ c.if1.false) in
     (omega arith, w.natural.ensures.1, m ∙ a, b)
 
 returns-2 : tie.Need-returns-2 invariant-loop decreases-loop

@@ -2,7 +2,7 @@
 -- Assumes nothing.
 use mathlib.Core.Path.{refl, sym, ap, ◌∙◌}
 use lib.Ieee.{binary64, toBits}
-use borrow.Author.Tests.{not_true, not_false}
+use borrow.Author.Tests.{not-true, not-false}
 use Rattle.runs.specs.by_formula.Asked.{change_of}
 use Rattle.runs.proofs.by_formula.Puts.{put_refused, put-patterns}
 use Rattle.runs.proofs.by_formula.PatternOrder.{larger-pattern}
@@ -21,15 +21,15 @@ returns c =
     put_refused _ 9 a.i _ a.out1.now a.out2.now
     (not_finite_first (change_of a.kind a.days) a.jd1s.now a.jd2s.now a.i _ _
     at-pattern-at.pattern-at.ensures at-pattern-at2.pattern-at2.ensures
-    (sym c.before.is_number.ensures ∙ not_true _ c.if2.true)) refl
+    (sym c.before.is_number.ensures ∙ not-true _ c.if2.true)) refl
 
 float-from-bits-x : tie.Need-float-from-bits-x
-float-from-bits-x c = no_nan _ (sym c.before.is_number.ensures ∙ not_false _ c.if2.false)
+float-from-bits-x c = no_nan _ (sym c.before.is_number.ensures ∙ not-false _ c.if2.false)
 
 float-from-bits-y : tie.Need-float-from-bits-y
 float-from-bits-y c = no_nan _ (smaller-second c.before.before.before.before.before.pattern-at.result
     c.before.before.before.before.pattern-at2.result (sym c.before.before.before.is-larger.ensures ∙ c.before.before.if1.true)
-    (sym c.before.is_number.ensures ∙ not_false _ c.if2.false))
+    (sym c.before.is_number.ensures ∙ not-false _ c.if2.false))
 
 returns-2 : tie.Need-returns-2
 returns-2 c =
@@ -45,7 +45,7 @@ returns-2 c =
     let start = at-pattern-at.before.before.before.before.before in
     let a = start.args in
     let fa = sym at-is-number.is_number.ensures
-    ∙ not_false _ at-if2.if2.false in
+    ∙ not-false _ at-if2.if2.false in
     let fb = smaller-second at-pattern-at.pattern-at.result at-pattern-at2.pattern-at2.result (sym at-is-larger.is-larger.ensures
     ∙ at-if1.if1.true) fa in
     put-patterns _ _ a.i a.out1.now a.out2.now _ _ _ _
@@ -69,15 +69,15 @@ returns-3 c =
     put_refused _ 9 a.i _ a.out1.now a.out2.now
     (not_finite_either (change_of a.kind a.days) a.jd1s.now a.jd2s.now a.i _ _
     at-pattern-at.pattern-at.ensures at-pattern-at2.pattern-at2.ensures
-    (sym c.before.is-number2.ensures ∙ not_true _ c.if3.true)) refl
+    (sym c.before.is-number2.ensures ∙ not-true _ c.if3.true)) refl
 
 float-from-bits-x-2 : tie.Need-float-from-bits-x-2
 float-from-bits-x-2 c = no_nan _
     (smaller-first c.before.before.before.before.before.pattern-at.result c.before.before.before.before.pattern-at2.result
-    (sym c.before.before.before.is-larger.ensures ∙ c.before.before.if1.false) (sym c.before.is-number2.ensures ∙ not_false _ c.if3.false))
+    (sym c.before.before.before.is-larger.ensures ∙ c.before.before.if1.false) (sym c.before.is-number2.ensures ∙ not-false _ c.if3.false))
 
 float-from-bits-y-2 : tie.Need-float-from-bits-y-2
-float-from-bits-y-2 c = no_nan _ (sym c.before.is-number2.ensures ∙ not_false _ c.if3.false)
+float-from-bits-y-2 c = no_nan _ (sym c.before.is-number2.ensures ∙ not-false _ c.if3.false)
 
 returns-4 : tie.Need-returns-4
 returns-4 c =
@@ -93,7 +93,7 @@ returns-4 c =
     let start = at-pattern-at.before.before.before.before.before in
     let a = start.args in
     let fb = sym at-is-number2.is-number2.ensures
-    ∙ not_false _ at-if3.if3.false in
+    ∙ not-false _ at-if3.if3.false in
     let fa = smaller-first at-pattern-at.pattern-at.result at-pattern-at2.pattern-at2.result (sym at-is-larger.is-larger.ensures
     ∙ at-if1.if1.false) fb in
     put-patterns _ _ a.i a.out1.now a.out2.now _ _ _ _

@@ -3,7 +3,7 @@ use Prim.Native.Nat.{ℕ}
 use mathlib.Core.Path.{sym, ap, ◌∙◌}
 use lib.Ieee.{binary64, of_bits}
 use lib.Ieee.Scale.{finite}
-use borrow.Author.Tests.{not_true, not_false}
+use borrow.Author.Tests.{not-true, not-false}
 use Rattle.runs.specs.by_formula.Asked.{number_of_not_finite_at}
 use borrow.Author.Rules.{rules}
 use Rattle.runs.proofs.by_formula.offsets.not_finite_number.Statement.{statement}
@@ -12,24 +12,24 @@ use Rattle.runs.proofs.by_formula.offsets.not_finite_number.Tie as tie
 returns : tie.Need-returns
 unfolding number_of_not_finite_at
 returns c = rw (ap (λ (b : ℕ). finite (of_bits binary64 b)) (sym c.before.before.pattern-at.ensures) ∙ sym c.before.is_number.ensures
-    ∙ not_true _ c.if1.true)
+    ∙ not-true _ c.if1.true)
 
 returns-2 : tie.Need-returns-2
 unfolding number_of_not_finite_at
 returns-2 c = rw (
   ap (λ (b : ℕ). finite (of_bits binary64 b)) (sym c.before.before.before.before.before.pattern-at.ensures)
-      ∙ sym c.before.before.before.before.is_number.ensures ∙ not_false _ c.before.before.before.if1.false,
+      ∙ sym c.before.before.before.before.is_number.ensures ∙ not-false _ c.before.before.before.if1.false,
   ap (λ (b : ℕ). finite (of_bits binary64 b)) (sym c.before.before.pattern-at2.ensures) ∙ sym c.before.is-number2.ensures
-      ∙ not_true _ c.if2.true,
+      ∙ not-true _ c.if2.true,
 )
 
 returns-3 : tie.Need-returns-3
 unfolding number_of_not_finite_at
 returns-3 c = rw (
   ap (λ (b : ℕ). finite (of_bits binary64 b)) (sym c.before.before.before.before.before.pattern-at.ensures)
-      ∙ sym c.before.before.before.before.is_number.ensures ∙ not_false _ c.before.before.before.if1.false,
+      ∙ sym c.before.before.before.before.is_number.ensures ∙ not-false _ c.before.before.before.if1.false,
   ap (λ (b : ℕ). finite (of_bits binary64 b)) (sym c.before.before.pattern-at2.ensures) ∙ sym c.before.is-number2.ensures
-      ∙ not_false _ c.if2.false,
+      ∙ not-false _ c.if2.false,
 )
 
 pub not-finite-number-spec : {M : Type 1} → statement M

@@ -3,7 +3,7 @@
 use mathlib.Core.Path.{sym, ap, ◌∙◌}
 use mathlib.Core.Bool.{cond}
 use lib.Ieee.{Float, binary64, of_bits, neg, div}
-use borrow.Author.Tests.{not_true, not_false}
+use borrow.Author.Tests.{not-true, not-false}
 use Rattle.constants.proofs.Bits.{seconds-per-day}
 use Rattle.julian.specs.shifts.Shifts.{days_of}
 use Rattle.runs.proofs.by_formula.Puts.{put_refused, put_same}
@@ -17,11 +17,11 @@ returns c =
     let a = c.before.before.before.before.before.before.before.before.before.args in
     put_refused _ _ a.i _ a.out1.now a.out2.now
     (offset-not-finite a.earlier a.jd1s.now a.jd2s.now a.offsets.now a.i _ c.before.before.before.pattern-at.ensures
-    (sym c.before.before.is_number.ensures ∙ not_true _ c.before.if1.true))
+    (sym c.before.before.is_number.ensures ∙ not-true _ c.before.if1.true))
     (c.not-finite-number.ensures ∙ not_finite_small a.earlier a.jd1s.now a.jd2s.now a.offsets.now a.i)
 
 float-from-bits-days : tie.Need-float-from-bits-days
-float-from-bits-days c = no_nan _ (sym c.before.is_number.ensures ∙ not_false _ c.if1.false)
+float-from-bits-days c = no_nan _ (sym c.before.is_number.ensures ∙ not-false _ c.if1.false)
 
 returns-2 : tie.Need-returns-2
 unfolding days_of
@@ -36,7 +36,7 @@ returns-2 c =
     put_same (offset-moves a.earlier a.jd1s.now a.jd2s.now a.offsets.now a.i _ _
     at-pattern-at.pattern-at.ensures
     (sym at-is-number.is_number.ensures
-    ∙ not_false _ at-if1.if1.false)
+    ∙ not-false _ at-if1.if1.false)
     (at-turned.turned.ensures
     ∙ ap (λ (z : Float). cond a.earlier
     (neg (div binary64 (of_bits binary64 at-pattern-at.pattern-at.result) z))
