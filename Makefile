@@ -5,10 +5,11 @@
 #   make install [PREFIX=/usr/local] [DESTDIR=]    these and the headers; with DESTDIR into a folder that is packed and unpacked at /
 #   make uninstall [PREFIX=..] [DESTDIR=..]    takes them away again, and nothing else
 #   make check                                 the tests that need no new proof, over the archive that is there
-#   make dist                                  target/dist/celestial_time-VERSION-x86_64-linux.tar.gz, all of it and the Python package, for a machine without rt
-#   make clean                                 what make built; the archive of `rt staticlib capi` stays
+#   make dist                                  target/dist/celestial_time-VERSION-x86_64-linux.tar.gz, all of it, the programs in Rattle and the Python package, for a
+#                                              machine without rt
+#   make clean                                 what make built; the archive of `tools/staticlib capi` stays
 #
-# The archive is that of `rt staticlib capi`, which proves what is not proved yet, under its own name. The shared library holds the same object; it exports the
+# The archive is that of `tools/staticlib capi`, which proves what is not proved yet, under its own name. The shared library holds the same object; it exports the
 # calls of the header and no other name. Do not link with -ffast-math or -Ofast: the header says why.
 include include/celestial_time.mk
 
@@ -28,6 +29,8 @@ SHARED := libcelestial_time.so.$(VERSION)
 SONAME := libcelestial_time.so.$(MAJOR)
 PROGRAM := target/programs/line_up
 PAGES := target/man/line_up.1 target/man/celestial_time.3
+# Programs in Rattle, which make dist packs beside line_up.
+LISTINGS := utc_listing reason_listing utc_reading
 # Files for pkg-config and CMake, from those of the same name and .in; the second find the headers from where they lie themselves.
 FOUND_BY := celestial_time.pc celestial_time-config.cmake celestial_time-config-version.cmake
 CMAKEDIR = $(LIBDIR)/cmake/celestial_time
@@ -47,9 +50,10 @@ $(OUT)/$(SHARED): $(ARCHIVE) include/celestial_time.h
 	$(CC) $(LDFLAGS) -shared -o $@ -Wl,-soname,$(SONAME) -Wl,--version-script=$(OUT)/exports -Wl,-z,defs,-z,text,-z,relro,-z,now -Wl,--whole-archive $(ARCHIVE) \
 	  -Wl,--no-whole-archive
 
+# Second names of the file, and no links, of which `rt ci` wants none below the top.
 $(OUT)/libcelestial_time.so: $(OUT)/$(SHARED)
-	ln -sf $(SHARED) $(OUT)/$(SONAME)
-	ln -sf $(SONAME) $@
+	ln -f $< $(OUT)/$(SONAME)
+	ln -f $< $@
 
 # Written again each time, since PREFIX may be another.
 $(addprefix $(OUT)/,$(FOUND_BY)): $(OUT)/%: include/%.in FORCE
@@ -67,6 +71,13 @@ target/man/line_up.1: programs/line_up.c tools/man include/celestial_time.h
 target/man/celestial_time.3: include/celestial_time.h tools/man
 	@mkdir -p $(@D)
 	tools/man $< 3 $(VERSION) > $@
+
+target/bin/%: crates/%/src/main.rt
+	tools/program $*
+
+$(LISTINGS:%=target/man/%.1): target/man/%.1: crates/%/src/main.rt tools/man include/celestial_time.h
+	@mkdir -p $(@D)
+	tools/man $< 1 $(VERSION) > $@
 
 install: all
 	$(INSTALL) -d '$(DESTDIR)$(BINDIR)' '$(DESTDIR)$(LIBDIR)/pkgconfig' '$(DESTDIR)$(CMAKEDIR)' '$(DESTDIR)$(INCLUDEDIR)' \
@@ -92,8 +103,8 @@ uninstall:
 check:
 	tests/check
 
-dist: all
-	tools/dist $(VERSION)
+dist: all $(LISTINGS:%=target/bin/%) $(LISTINGS:%=target/man/%.1)
+	tools/dist $(VERSION) $(LISTINGS)
 
 clean:
 	rm -rf $(OUT) target/programs target/man target/dist

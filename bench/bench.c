@@ -31,6 +31,7 @@ static void prepare(const row *r)
     make_ticks();
     make_table();
     make_texts();
+    lay_out_texts();
 }
 
 /* Where a call of the port tells a rule, which the other libraries do not; 0 for a call that tells none. */

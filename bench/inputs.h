@@ -4,10 +4,10 @@
 
 enum { INPUTS = 4000 };
 
-/* Which days the stamps lie on. */
-typedef enum { LEAP_SECOND_YEARS, DRIFT_YEARS, MONTH_ENDS } set;
+/* Which days the stamps lie on: by chance, or rising through one day, or through the last 100 seconds of a month with a leap second. */
+typedef enum { LEAP_SECOND_YEARS, DRIFT_YEARS, MONTH_ENDS, ONE_DAY, LAST_SECONDS } set;
 
-static const char *const set_name[] = {"1972-2030", "1960-1971", "month ends"};
+static const char *const set_name[] = {"1972-2030", "1960-1971", "month ends", "2017-06-15", "2016-12-31, 23:58:21"};
 
 /* A date in two parts, its fields and times of day, an offset in seconds, days and seconds to add, the date's Julian
    year, another date, and a GPS week with its millisecond and date. */
@@ -41,6 +41,8 @@ static int day_of(set which)
     switch (which) {
     case LEAP_SECOND_YEARS: return 41317 + below(62502 - 41317);
     case DRIFT_YEARS: return 36934 + below(41317 - 36934);
+    case ONE_DAY: return 57919;
+    case LAST_SECONDS: return 57753;
     case MONTH_ENDS: break;
     }
     /* The day before the first of one of the months from February 1972 to January 2030. */
@@ -49,10 +51,12 @@ static int day_of(set which)
     return (int)djm - 1;
 }
 
-/* A quarter of the month ends lie in the last two seconds of the day, where a leap second is. */
-static double fraction_of(set which)
+/* A quarter of the month ends lie in the last two seconds of the day, where a leap second is. The stamps of a set of one day rise. */
+static double fraction_of(set which, int i)
 {
     double fraction = unit();
+    if (which == ONE_DAY) return (i + fraction) / INPUTS;
+    if (which == LAST_SECONDS) return 1.0 - 100.0 / 86401.0 * (INPUTS - i - fraction) / INPUTS;
     return which == MONTH_ENDS && below(4) == 0 ? 1.0 - fraction * 2.0 / 86401.0 : fraction;
 }
 
@@ -63,7 +67,7 @@ static void draw_dates(set which, input *in)
         int day = day_of(which);
         /* Midnight and the time of day: the parts that utc_from_calendar makes. */
         in->jd1 = 2400000.5 + day;
-        in->jd2 = fraction_of(which);
+        in->jd2 = fraction_of(which, i);
         eraJd2cal(in->jd1, 0.0, &in->year, &in->month, &in->day, &rest);
         in->hour = below(24);
         in->minute = below(60);

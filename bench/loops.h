@@ -370,18 +370,45 @@ static void random_readings_loop(any *f) { (void)f, place_readings(random_ticks)
 static double run_out[2][INPUTS];
 static uint8_t run_numbers[INPUTS];
 
-static void run_loop(uint32_t from, uint32_t to)
+static void run_by_table(uint32_t from, uint32_t to, const uint8_t *table)
 {
-    int64_t refused = ct_convert_run(from, to, block + 8, 8 * INPUTS, block + 8 + 8 * INPUTS, 8 * INPUTS, ct_no_rows, CT_TABLE_BYTES, (uint8_t *)run_out[0], 8 * INPUTS,
+    int64_t refused = ct_convert_run(from, to, block + 8, 8 * INPUTS, block + 8 + 8 * INPUTS, 8 * INPUTS, table, CT_TABLE_BYTES, (uint8_t *)run_out[0], 8 * INPUTS,
                                      (uint8_t *)run_out[1], 8 * INPUTS, run_numbers, INPUTS);
     shown = (const uint8_t *)run_out;
     shown_length = refused == 0 ? sizeof run_out : 0;
 }
 
+static void run_loop(uint32_t from, uint32_t to) { run_by_table(from, to, ct_no_rows); }
+
 static void gps_tai_run_loop(any *f) { (void)f, run_loop(CT_GPS, CT_TAI); }
 static void tai_tt_run_loop(any *f) { (void)f, run_loop(CT_TAI, CT_TT); }
 static void utc_tai_run_loop(any *f) { (void)f, run_loop(CT_UTC, CT_TAI); }
 static void tai_utc_run_loop(any *f) { (void)f, run_loop(CT_TAI, CT_UTC); }
+static void utc_gps_run_loop(any *f) { (void)f, run_loop(CT_UTC, CT_GPS); }
+static void gps_utc_run_loop(any *f) { (void)f, run_loop(CT_GPS, CT_UTC); }
+static void utc_tt_run_loop(any *f) { (void)f, run_loop(CT_UTC, CT_TT); }
+static void tt_utc_run_loop(any *f) { (void)f, run_loop(CT_TT, CT_UTC); }
+static void utc_tcg_run_loop(any *f) { (void)f, run_loop(CT_UTC, CT_TCG); }
+static void tcg_utc_run_loop(any *f) { (void)f, run_loop(CT_TCG, CT_UTC); }
+static void tt_gps_run_loop(any *f) { (void)f, run_loop(CT_TT, CT_GPS); }
+static void sixteen_utc_tai_run_loop(any *f) { (void)f, run_by_table(CT_UTC, CT_TAI, sixteen_rows); }
+static void sixteen_tai_utc_run_loop(any *f) { (void)f, run_by_table(CT_TAI, CT_UTC, sixteen_rows); }
+static void sixteen_utc_gps_run_loop(any *f) { (void)f, run_by_table(CT_UTC, CT_GPS, sixteen_rows); }
+
+static uint8_t run_texts[27 * INPUTS], run_lengths[INPUTS];
+
+static void texts_by_form(uint32_t form, const uint8_t *table)
+{
+    int64_t refused = ct_texts_of_run(form, block + 8, 8 * INPUTS, block + 8 + 8 * INPUTS, 8 * INPUTS, table, CT_TABLE_BYTES, run_texts, sizeof run_texts,
+                                      run_lengths, INPUTS, run_numbers, INPUTS);
+    shown = run_texts;
+    shown_length = refused == 0 ? sizeof run_texts : 0;
+}
+
+static void text_run_loop(any *f) { (void)f, texts_by_form(CT_TEXT, ct_no_rows); }
+static void even_text_run_loop(any *f) { (void)f, texts_by_form(CT_TEXT_HALF_EVEN, ct_no_rows); }
+static void expanded_text_run_loop(any *f) { (void)f, texts_by_form(CT_TEXT_EXPANDED, ct_no_rows); }
+static void sixteen_text_run_loop(any *f) { (void)f, texts_by_form(CT_TEXT, sixteen_rows); }
 
 static void tt_tcg_run_loop(any *f) { (void)f, run_loop(CT_TT, CT_TCG); }
 
@@ -497,6 +524,32 @@ static void rust_read_utc_loop(any *f)
     int64_t told = 0;
     EACH told |= call((const uint8_t *)utc_texts[i], TEXT_BYTES, wide[i] + FIELD_BYTES, 16);
     show_wide(told);
+}
+
+/* The same texts in one call, at distances of 27 bytes: they are laid out before anything is measured. A day is kept in the set of one day alone. */
+static uint8_t laid_texts[INPUTS][27], laid_lengths[INPUTS];
+
+static void lay_out_texts(void)
+{
+    EACH memcpy(laid_texts[i], utc_texts[i], TEXT_BYTES), laid_lengths[i] = TEXT_BYTES;
+}
+
+static void dates_run_loop(any *f)
+{
+    (void)f;
+    int64_t refused = ct_dates_of_texts((const uint8_t *)laid_texts, sizeof laid_texts, laid_lengths, INPUTS, ct_no_rows, CT_TABLE_BYTES, (uint8_t *)run_out[0],
+                                        8 * INPUTS, (uint8_t *)run_out[1], 8 * INPUTS, run_numbers, INPUTS);
+    shown = (const uint8_t *)run_out;
+    shown_length = refused == 0 ? sizeof run_out : 0;
+}
+
+static void rust_dates_loop(any *f)
+{
+    read_call *call = (read_call *)f;
+    double date[2];
+    EACH call((const uint8_t *)utc_texts[i], TEXT_BYTES, (uint8_t *)date, sizeof date), run_out[0][i] = date[0], run_out[1][i] = date[1];
+    shown = (const uint8_t *)run_out;
+    shown_length = sizeof run_out;
 }
 
 /* ---- sentences: of numbers 1 to 28 with no value, and of each call a number whose sentence names a field */

@@ -2,7 +2,7 @@
    blocks, for C.
    `make install` installs it with an archive, a shared library and a file for pkg-config,
    all named celestial_time. In the repository the archive is target/staticlib/libcapi.a,
-   made by `rt staticlib capi`. The header is written for C99 and later, and for C++.
+   made by `tools/staticlib capi`. The header is written for C99 and later, and for C++.
    celestial_time_structs.h beside it has the same calls with structs in the place of bytes.
 
    Answers. A call returns 64 bits signed: zero or more is its value, or the
@@ -81,9 +81,9 @@
 /* The version. A call that is taken away, or that answers otherwise or takes other arguments, raises
    MAJOR, which is in the name of the shared library; a new call raises MINOR. */
 #define CT_VERSION_MAJOR 2
-#define CT_VERSION_MINOR 1
+#define CT_VERSION_MINOR 2
 #define CT_VERSION_PATCH 0
-#define CT_VERSION "2.1.0"
+#define CT_VERSION "2.2.0"
 
 /* The refusals by name, as the list at the head has them. A call returns minus the number:
    n == -CT_REFUSED_NO_ROOM. */
@@ -121,6 +121,11 @@ enum {
 #ifdef __cplusplus
 extern "C" {
 #endif
+
+/* ---- The library */
+
+/* Its version, MAJOR * 1000000 + MINOR * 1000 + PATCH. CT_VERSION is the header's: a shared library can be of another. */
+int64_t ct_version(void);
 
 /* ---- Calendar: the proleptic Gregorian one, years as in ISO 8601 (0 is 1 BC) */
 
@@ -230,6 +235,88 @@ int64_t ct_lines_in_order(const uint8_t *jd1, size_t jd1_len, const uint8_t *jd2
                           uint8_t *order, size_t order_len, uint8_t *work1, size_t work1_len, uint8_t *work2,
                           size_t work2_len);
 
+/* How large a recorder's run is: stamp blocks one after the other, as document 01 has them, ended by the first
+   that ct_block_stamps refuses; how long a block is, its first size says. Returns how many bytes the blocks
+   take. out gets four numbers of 8 bytes, the lowest first: how many stamps, how many blocks, the number of the
+   refusal that ends the run, 0 where none does, and 1. No bytes are a run of no block. Refuses 11 for fewer
+   than 32 bytes in out. Of a block of one stamp and three bytes more it is 24, and out has 1, 1, 14 and 1; with
+   31 bytes of out it is 11. */
+#define CT_RUN_SIZE_BYTES 32
+int64_t ct_run_size(const uint8_t *run, size_t run_len, uint8_t *out, size_t out_len);
+
+/* The TAI of the stamps of such a run that was recorded in a scale, as recorded where a stamp has none: the
+   parts of stamp i of the run in the places i of jd1 and jd2, 8 bytes each, and in numbers 0 or the number of
+   its refusal, as ct_convert_run from that scale to CT_TAI has them. Returns how many stamps are refused. What
+   lies behind the last stamp's places stays. The block that ends the run is no refusal here: ct_run_size tells
+   its number.
+
+   Refuses, in this order and before a byte is written, 14, 20, 21 and 22 for the table as ct_convert_run; 18
+   for another scale than UTC, TAI, TT, GPS and TCG; 11 for fewer than 8 bytes a stamp in jd1 or jd2, or fewer
+   than one in numbers. Of two stamps in two blocks of scale CT_UT1 with 15 bytes of jd1 it is 18; of scale
+   CT_GPS it is 11, and with 16 it is 0 where both are finite. */
+int64_t ct_take_run(uint32_t scale, const uint8_t *run, size_t run_len, const uint8_t *table, size_t table_len,
+                    uint8_t *jd1, size_t jd1_len, uint8_t *jd2, size_t jd2_len, uint8_t *numbers,
+                    size_t numbers_len);
+
+/* The listing of three recorders in one line, in parts: the next part into the start of out, from the
+   cursor on, and the cursor brought forward. It is that of the program line_up but for the lines of the
+   runs, `gps 9000000 not finite 212 refused 0 left out 3`: `not finite` counts the stamps that are not
+   ordered and not left out, and one of whose parts is not finite by its bits, `refused` the others of these.
+   Returns the bytes that are written, 0 when all is. runs has three records of CT_RUN_SIZE_BYTES, GPS, TAI and UTC, as ct_run_size
+   writes them; of the third number the lower four bytes are read. A run is named where its fourth number is
+   1, and 32 zero bytes are one that is not: it has no line of its own in the head, and its stamps are listed
+   all the same. jd1 and jd2 are the parts of the runs' stamps in TAI, one run after the other, as
+   ct_lines_in_order took them; numbers and order what it left, order 4 bytes for each line, of which a rest
+   of 1 to 3 bytes is not read. cursor is CT_CURSOR_BYTES bytes, all zero at the start: the next line, 0 for
+   the head, and how many ordered stamps had no text so far. With reasons 1 the sentence of a number follows
+   it, with 0 none. A part is the head, or whole lines, each given 43 bytes, or 84 with sentences, and at most
+   256, or the last line; the parts joined are the same bytes whatever the buffers. The last line counts the
+   numbers 0 as lined up.
+
+   Refuses 14, 20, 21 and 22 for the table; 18 for reasons above 1; 14 for runs of another length than
+   CT_RUNS_BYTES or a cursor of another than CT_CURSOR_BYTES; 12 for other than 8 bytes of jd1, 8 of jd2 and
+   1 of numbers for each stamp of the runs; 18 for a line of the part that names a place past the stamps; 11
+   for an out of less than CT_LINE_LISTING_BYTES. A refused call writes nothing, and the cursor stays. Of no
+   run and no stamp the parts are "line up 0 runs\n" and "lined up 0 without text 0\n", then 0; into 549
+   bytes it is 11. */
+#define CT_RUNS_BYTES 96
+#define CT_CURSOR_BYTES 16
+#define CT_LINE_LISTING_BYTES 550
+int64_t ct_line_listing_part(uint32_t reasons, const uint8_t *runs, size_t runs_len, const uint8_t *jd1,
+                             size_t jd1_len, const uint8_t *jd2, size_t jd2_len, const uint8_t *numbers,
+                             size_t numbers_len, const uint8_t *order, size_t order_len, const uint8_t *table,
+                             size_t table_len, uint8_t *cursor, size_t cursor_len, uint8_t *out, size_t out_len);
+
+/* What an analyst must see of three recorders' runs that were lined up. runs, jd1 and jd2 are those of
+   ct_line_listing_part, numbers what ct_lines_in_order left. known is the day of ct_read_table, 0 where its
+   text told none. table has CT_TABLE_BYTES. A named run has the line `gps first 2017-01-01T00:00:00.000
+   last 2017-01-01T00:00:03.500 span 3.500 s`, the UTC of its first and its last ordered stamp, or `no
+   text`, and the time between them by the rule of ct_milliseconds, or `span unknown`; or `gps no stamp is
+   ordered`; and where stamps are left out `gps left out 3 first 17`, how many and the index in the run of
+   the first. Then come a line of the table, `table 42 rows last 2017-01 37 lent 0 known until 2026-06-28`,
+   and one for each bit of ct_line_look. Without known the day is the last of the sixth month from that of
+   the last announced row, its own counted as the first, or, where there is none, that until which the library's
+   own rows were checked. The answer is how many bytes are written. Refusals in order: 14, 20, 21, 22 the
+   table, 14 other than 96 bytes of runs, 12 lists that do not agree with each other or with the stamps of
+   the runs, 11 the buffer; CT_SUMMARY_BYTES are enough. */
+#define CT_SUMMARY_BYTES 832
+int64_t ct_line_summary(const uint8_t *runs, size_t runs_len, const uint8_t *jd1, size_t jd1_len,
+                        const uint8_t *jd2, size_t jd2_len, const uint8_t *numbers, size_t numbers_len,
+                        const uint8_t *table, size_t table_len, uint32_t known, uint8_t *out, size_t out_len);
+
+/* What an analyst must look at, a number of these bits: a stamp is left out; a named run has no stamp; the
+   UTC day of a run's last ordered stamp is later than the day until which the table is known; two runs begin and end apart,
+   within half a second at both ends, by what two scales differ by, 18, 19 or 37 s, or TAI-UTC on the earlier
+   first stamp's day or its difference from 19 s, or by twice one of these: their names may be exchanged.
+   Arguments and refusals are those of ct_line_summary but the last. */
+#define CT_LOOK_LEFT_OUT 1
+#define CT_LOOK_NO_STAMP 2
+#define CT_LOOK_AFTER_KNOWN 4
+#define CT_LOOK_NAMES 8
+int64_t ct_line_look(const uint8_t *runs, size_t runs_len, const uint8_t *jd1, size_t jd1_len,
+                     const uint8_t *jd2, size_t jd2_len, const uint8_t *numbers, size_t numbers_len,
+                     const uint8_t *table, size_t table_len, uint32_t known);
+
 /* The days from the other date to this, rounded. With parts under 2^52 in size never of the wrong sign,
    but 0.0 also for some dates that differ, the further apart the larger their parts: (2457754.5, 0.0) and
    (2^-32, 2457754.5) are 20 microseconds apart, (2^51, 2457754.5 - 2^51) and (0.1, 2457754.5) 8,640 s. So
@@ -258,7 +345,7 @@ int64_t ct_check_table(const uint8_t *table, size_t table_len);
 
 /* The table of a text's rows, CT_TABLE_BYTES bytes into table, and the day until which it is known, 4 bytes
    into known: the Modified Julian Date of the text's expiry, of several the last, 0 where it tells none. The
-   number of rows that are lent, 0 to 16; ct_check_table takes every such table.
+   number of announced rows, 0 to 16; ct_check_table takes every such table.
    A line of the text is one of four. Empty, or a comment, which a # begins. A month and TAI-UTC from its
    first day on, as `2027-01 38`: 4 digits, a hyphen, 2 digits, spaces or tabs, 1 to 9 digits. The same as the
    IERS's file leap-seconds.list has it: the NTP seconds (since 1900-01-01, 86,400 a day, 1 to 12 digits) of
@@ -280,7 +367,7 @@ int64_t ct_table_fault(const uint8_t *text, size_t text_len);
 /* ---- TAI-UTC: "the table" in front of the refusals is 14; 20; 21; 22, as above. A rule says which row
    of the table an offset was read from: its kind in 4 bytes, CT_RULE_ABSENT before 1960, CT_RULE_DRIFTING
    or CT_RULE_WHOLE, and its row in 4, counted from 0, of an absent rule -1. The rows 0 to 13 drift, 41 is
-   that of 2017, and 42 the first lent one. */
+   that of 2017, and 42 the first announced one. */
 #define CT_RULE_BYTES 8
 #define CT_RULE_ABSENT 0
 #define CT_RULE_DRIFTING 1
@@ -477,6 +564,18 @@ int64_t ct_parse_iso8601(const uint8_t *text, size_t text_len, uint8_t *out, siz
    the same table, of a shown year 1972 to 9999, reads back as its fields, and its date has that text. */
 int64_t ct_utc_from_iso8601(const uint8_t *text, size_t text_len, const uint8_t *table, size_t table_len,
                             uint8_t *out, size_t out_len);
+
+/* The dates of a run of UTC texts in one call. Text i is as many bytes from byte 27 * i of texts on as byte i
+   of lengths says, as ct_texts_of_run writes it; of more than 27 it is 15. The parts of its date, which is
+   that of ct_utc_from_iso8601, go into bytes 8 * i to 8 * i + 7 of out1 and of out2, and into byte i of numbers
+   0, or the number of its refusal, 15, 16, 2, 3 or 4. A refused text's places stay as they were, and what lies
+   behind the last text's places. Returns how many texts are refused. Refuses the table; 14 for a length of
+   texts that is no multiple of 27; 12 for another number of lengths than of texts; 11 for fewer bytes in out1
+   or out2 than 8 a text, or fewer in numbers than texts. A refused call writes nothing. With 26 bytes of texts
+   and no length it is 14, with 27 12. The buffers overlap no other. */
+int64_t ct_dates_of_texts(const uint8_t *texts, size_t texts_len, const uint8_t *lengths, size_t lengths_len,
+                          const uint8_t *table, size_t table_len, uint8_t *out1, size_t out1_len,
+                          uint8_t *out2, size_t out2_len, uint8_t *numbers, size_t numbers_len);
 
 /* ---- Stamp block: two sizes of 4 bytes, all jd1, then all jd2, the lowest byte first */
 

@@ -15,7 +15,7 @@ CT_CFLAGS := -I$(CT_ROOT)/include
 CT_LIBS := $(CT_ROOT)/target/staticlib/libcapi.a
 
 $(CT_LIBS): $(wildcard $(CT_ROOT)/crates/*/src/*.rt $(CT_ROOT)/crates/*/src/*/*.rt)
-	cd $(CT_ROOT) && rt staticlib capi
+	$(CT_ROOT)/tools/staticlib capi
 	touch $@
 
 # The library is not what a Makefile that includes this one makes by default.

@@ -2,16 +2,21 @@
 
     python/python3 python/bench.py [-n STAMPS] [-r TURNS] [-w] [ROW ..]     -w puts the table into docs/generated/speed.md; ROW: only rows that begin so
 
-Needs Debian's python3-erfa and python3-astropy. The stamps are those of three recorders, a third each, a millisecond apart about the leap second of 2016-12-31. Before
-a row is measured, the answers are compared: conversions bit for bit with ERFA's, texts byte for byte with astropy's, orders place by place. The time is the
-processor's, of the process and of the system for it, all in one thread: the least of the turns, in which the libraries alternate. Each turn makes its arrays anew, as
-a program does that keeps its answers.
+Needs Debian's python3-erfa and python3-astropy. The stamps are a recorder's, in time order, a millisecond apart about the leap second of 2016-12-31, and where
+they are put in order three recorders', a third each. Before a row is measured, the answers are compared: conversions bit for bit with ERFA's, texts byte for
+byte with astropy's, orders place by place. The time is the processor's, of the process and of the system for it, all in one thread: the least of the turns, in
+which the libraries alternate. Each turn makes its arrays anew, as a program does that keeps its answers. The last row is the command `place` as a process of
+its own, from three recorders' CSV files to one.
 """
 from __future__ import annotations
 
 import argparse
+import os
 import pathlib
+import resource
+import subprocess
 import sys
+import tempfile
 import time
 import warnings
 from typing import Any, Callable
@@ -22,6 +27,7 @@ import numpy as np
 from astropy.time import Time
 
 import celestial_time as ct
+from celestial_time.csv_files import csv_of, digits_of
 
 SPEED = pathlib.Path(__file__).resolve().parents[1] / "docs" / "generated" / "speed.md"
 DUT1 = -0.41
@@ -30,11 +36,17 @@ BEGIN, END = "<!-- python: begin -->", "<!-- python: end -->"
 Row = tuple[str, Callable[[], Any], "Callable[[], Any] | None", "Callable[[], Any] | None"]
 
 
+def spent() -> float:
+    """The processor time so far, of this process and of those that it waited for."""
+    ended = resource.getrusage(resource.RUSAGE_CHILDREN)
+    return time.process_time() + ended.ru_utime + ended.ru_stime
+
+
 def seconds(call: Callable[[], Any]) -> float:
     """The processor time of one call, without that of dropping its answer."""
-    start = time.process_time()
+    start = spent()
     answer = call()
-    end = time.process_time()
+    end = spent()
     del answer
     return end - start
 
@@ -49,15 +61,17 @@ def least(calls: list[Callable[[], Any] | None], turns: int) -> list[float | Non
     return [min(times) if times else None for times in taken]
 
 
+def recorded(scale: str, count: int, ahead: float, phase: float) -> ct.Run:
+    """A recorder's stamps in time order, a millisecond apart about the leap second: midnight and the part of the day, as a recorder writes them."""
+    millis = np.arange(count) - count // 2 + phase + ahead
+    before = millis < 0
+    length = np.where(before & (scale == "utc"), 86401000.0, 86400000.0)
+    return ct.Run(scale, 2457754.5 - before, (millis + before * length) / length)
+
+
 def runs(count: int) -> list[ct.Run]:
-    """Three recorders, each with a third of the stamps, about the leap second: midnight and the part of the day, as a recorder writes them."""
-    made = []
-    for scale, ahead, phase in (("gps", 18000.0, 0.0), ("tai", 37000.0, 0.3), ("utc", 0.0, 0.6)):
-        millis = np.arange(count // 3) - count // 6 + phase + ahead
-        before = millis < 0
-        length = np.where(before & (scale == "utc"), 86401000.0, 86400000.0)
-        made.append(ct.Run(scale, 2457754.5 - before, (millis + before * length) / length))
-    return made
+    """Three recorders, each with a third of the stamps."""
+    return [recorded(scale, count // 3, ahead, phase) for scale, ahead, phase in (("gps", 18000.0, 0.0), ("tai", 37000.0, 0.3), ("utc", 0.0, 0.6))]
 
 
 def same(ours: Any, theirs: Any, what: str) -> None:
@@ -75,9 +89,8 @@ def fields_of(utc1: Any, utc2: Any) -> list[Any]:
     return [days.year, days.month, days.day, *((millis // part % size).astype("<i4") for part, size in ((3600000, 24), (60000, 60))), millis % 60000 / 1000.0]
 
 
-def compared(count: int, recorders: list[ct.Run], line: ct.Line, utc1: Any, utc2: Any, fields: list[Any]) -> None:
+def compared(count: int, recorders: list[ct.Run], line: ct.Line, tai1: Any, tai2: Any, utc1: Any, utc2: Any, fields: list[Any]) -> None:
     """Stop where an answer differs from ERFA's, or from astropy's."""
-    tai1, tai2 = line.jd1, line.jd2
     some = slice(0, count, max(1, count // 100000))
     for name, ours, theirs in (
         ("UTC to TAI", ct.utctai(utc1, utc2), erfa.utctai(utc1, utc2)),
@@ -86,7 +99,7 @@ def compared(count: int, recorders: list[ct.Run], line: ct.Line, utc1: Any, utc2
         ("TT to TCG", ct.tttcg(tai1, tai2), erfa.tttcg(tai1, tai2)),
         ("TCB to TDB", ct.tcbtdb(tai1, tai2), erfa.tcbtdb(tai1, tai2)),
         ("TT to TDB", ct.tttdb(tai1, tai2, DTR), erfa.tttdb(tai1, tai2, DTR)),
-        ("UT1 to TAI", ct.ut1tai(tai1, tai2, line.jd2), erfa.ut1tai(tai1, tai2, line.jd2)),
+        ("UT1 to TAI", ct.ut1tai(tai1, tai2, tai2), erfa.ut1tai(tai1, tai2, tai2)),
         ("UTC to UT1", ct.utcut1(utc1, utc2, DUT1), erfa.utcut1(utc1, utc2, DUT1)),
         ("UT1 to UTC", ct.ut1utc(utc1, utc2, DUT1), erfa.ut1utc(utc1, utc2, DUT1)),
         ("calendar date", ct.jd2cal(utc1, utc2), erfa.jd2cal(utc1, utc2)),
@@ -98,14 +111,32 @@ def compared(count: int, recorders: list[ct.Run], line: ct.Line, utc1: Any, utc2
     same([line.places], [astropy_order(recorders)], "order, astropy")
 
 
-def rows(count: int) -> list[Row]:
+def write_files(folder: str, count: int) -> list[str]:
+    """Files of three recorders in the forms of examples/pipe, so many readings each, one in twenty milliseconds, and of 200 passes; the words of the command."""
+    millis = np.arange(count) * 20
+    texts = ct.to_iso8601(2457755.5, millis / 86400000.0).text
+    walls = digits_of(7000 + np.random.default_rng(6).integers(0, 1000, count), 3)
+    files = {"gps": ("week,millisecond", [np.full(count, b"1930"), 86400000 + millis]), "tai": ("time", [texts]), "utc": ("time", [texts])}
+    for name, (head, columns) in files.items():
+        pathlib.Path(folder, name).write_bytes(f"{head},wall_mm\n".encode() + csv_of([*columns, walls]))
+    marks = ct.to_iso8601(2457755.5, np.linspace(0.0, millis[-1] / 86400000.0, 200)).text
+    pathlib.Path(folder, "passes").write_bytes(b"time,metres\n" + csv_of([marks, np.arange(200) * 250]))
+    return [f"{name}={folder}/{name}" for name in (*files, "passes")]
+
+
+def placed(folder: str, words: list[str]) -> None:
+    """The command `place`, to a file."""
+    here = {**os.environ, "PYTHONPATH": str(pathlib.Path(__file__).resolve().parent)}
+    subprocess.run([sys.executable, "-m", "celestial_time", "place", *words, "-o", f"{folder}/out"], check=True, stderr=subprocess.DEVNULL, env=here)
+
+
+def rows(count: int, folder: str) -> list[Row]:
     """What is measured: the package, pyerfa, astropy."""
     recorders = runs(count)
     line = ct.line_up_recorders(*recorders)
-    tai1, tai2 = line.jd1, line.jd2
-    utc1, utc2 = (np.tile(part, 3) for part in recorders[2][1:])
+    (tai1, tai2), (utc1, utc2) = recorded("tai", count, 37000.0, 0.3)[1:], recorded("utc", count, 0.0, 0.6)[1:]
     fields = fields_of(utc1, utc2)
-    compared(count, recorders, line, utc1, utc2, fields)
+    compared(count, recorders, line, tai1, tai2, utc1, utc2, fields)
     texts = ct.to_iso8601(utc1, utc2).text
     counts = line.counts[:2]
     chance = np.random.default_rng(2016).permutation(count)
@@ -115,6 +146,8 @@ def rows(count: int) -> list[Row]:
     millis = ct.milliseconds(launch, (tai1, tai2), scale="tai").millis
     same([millis], [erfa_millis(launch, tai1, tai2)], "milliseconds")
     marks = np.linspace(0, 8 * 86400000, 200).astype(int), np.arange(200) * 250.0
+    each = count * 2 // 15
+    words = write_files(folder, each)
     utc = lambda: Time(utc1, utc2, format="jd", scale="utc")
     tai = lambda scale="tai": Time(tai1, tai2, format="jd", scale=scale)
     return [
@@ -124,7 +157,7 @@ def rows(count: int) -> list[Row]:
         ("TT to TCG", lambda: ct.tttcg(tai1, tai2), lambda: erfa.tttcg(tai1, tai2), lambda: tai("tt").tcg.jd2),
         ("TCB to TDB", lambda: ct.tcbtdb(tai1, tai2), lambda: erfa.tcbtdb(tai1, tai2), lambda: tai("tcb").tdb.jd2),
         ("TT to TDB, one offset", lambda: ct.tttdb(tai1, tai2, DTR), lambda: erfa.tttdb(tai1, tai2, DTR), None),
-        ("UT1 to TAI, an offset each", lambda: ct.ut1tai(tai1, tai2, line.jd2), lambda: erfa.ut1tai(tai1, tai2, line.jd2), None),
+        ("UT1 to TAI, an offset each", lambda: ct.ut1tai(tai1, tai2, tai2), lambda: erfa.ut1tai(tai1, tai2, tai2), None),
         ("UTC to UT1", lambda: ct.utcut1(utc1, utc2, DUT1), lambda: erfa.utcut1(utc1, utc2, DUT1), lambda: given_dut1(utc()).ut1.jd2),
         ("UT1 to UTC", lambda: ct.ut1utc(utc1, utc2, DUT1), lambda: erfa.ut1utc(utc1, utc2, DUT1), lambda: given_dut1(tai("ut1")).utc.jd2),
         ("calendar date", lambda: ct.jd2cal(utc1, utc2), lambda: erfa.jd2cal(utc1, utc2), lambda: utc().ymdhms),
@@ -132,11 +165,12 @@ def rows(count: int) -> list[Row]:
         ("UTC text, written", lambda: ct.to_iso8601(utc1, utc2), lambda: erfa_texts(utc1, utc2), lambda: utc().isot),
         ("UTC to TAI, in random order", lambda: ct.utctai(any1, any2), lambda: erfa.utctai(any1, any2), None),
         ("UTC text, in random order", lambda: ct.to_iso8601(any1, any2), lambda: erfa_texts(any1, any2), None),
-        ("UTC text, read", lambda: ct.from_iso8601(texts), None, lambda: Time(texts, format="isot", scale="utc").jd2),
+        ("UTC text, read", lambda: ct.dates_of_texts(texts), None, lambda: Time(texts, format="isot", scale="utc").jd2),
         ("milliseconds since a launch", lambda: ct.milliseconds(launch, (tai1, tai2), scale="tai"), lambda: erfa_millis(launch, tai1, tai2), lambda: (tai() - begun).sec),
         ("places between 200 passes", lambda: ct.place(millis, marks), lambda: np.interp(millis, *marks), None),
-        ("three runs put in order", lambda: ct.line_up(tai1, tai2, counts), None, lambda: tai().argsort()),
+        ("three runs put in order", lambda: ct.line_up(line.jd1, line.jd2, counts), None, lambda: Time(line.jd1, line.jd2, format="jd", scale="tai").argsort()),
         ("three recorders, to TAI and in order", lambda: ct.line_up_recorders(*recorders), lambda: erfa_order(recorders), lambda: astropy_order(recorders)),
+        (f"`place`, 3 x {each:,} readings, CSV to CSV", lambda: placed(folder, words), None, None),
     ]
 
 
@@ -189,16 +223,19 @@ def main() -> int:
     said = [f"| {count:,} stamps | package, s | pyerfa, s | astropy, s |", "|---|--:|--:|--:|"]
     print(*said, sep="\n")
     behind = []
-    for name, *calls in rows(count):
-        if asked.row and not name.startswith(tuple(asked.row)):
-            continue
-        times = least(calls, asked.r)
-        said.append(f"| {name} | " + " | ".join("-" if one is None else f"{one:.3f}" for one in times) + " |")
-        print(said[-1], flush=True)
-        others = [one for one in times[1:] if one is not None]
-        if times[0] is not None and times[0] > min(others):
-            behind.append(f"{name}: {times[0] / min(others):.2f} times the faster of the others")
-    said += ["", f"Python {sys.version.split()[0]}, numpy {np.__version__}, pyerfa {erfa.__version__}, astropy {astropy.__version__}."]
+    with tempfile.TemporaryDirectory() as folder:
+        for name, *calls in rows(count, folder):
+            if asked.row and not name.startswith(tuple(asked.row)):
+                continue
+            times = least(calls, asked.r)
+            said.append(f"| {name} | " + " | ".join("-" if one is None else f"{one:.3f}" for one in times) + " |")
+            print(said[-1], flush=True)
+            others = [one for one in times[1:] if one is not None]
+            if others and times[0] is not None and times[0] > min(others):
+                behind.append(f"{name}: {times[0] / min(others):.2f} times the faster of the others")
+    commit = subprocess.run(["git", "-C", os.path.dirname(os.path.abspath(__file__)), "log", "-1", "--format=%h"], capture_output=True, text=True).stdout.strip()
+    versions = f"Python {sys.version.split()[0]}, numpy {np.__version__}, pyerfa {erfa.__version__}, astropy {astropy.__version__}"
+    said += ["", f"{versions}, of commit {commit or 'none'}."]
     said += ["The package is ahead in each row." if not behind else "Behind in: " + "; ".join(behind) + "."]
     print(*said[-3:], sep="\n")
     if asked.w:

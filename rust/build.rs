@@ -1,5 +1,5 @@
 //! Finds the proved archive and has it linked: the file that CELESTIAL_TIME_ARCHIVE names, else the one that
-//! `rt staticlib capi` makes, else the one that `make` makes.
+//! `tools/staticlib capi` makes, else the one that `make` makes.
 
 use std::path::{Path, PathBuf};
 use std::{env, process};
@@ -9,7 +9,7 @@ const MADE: [&str; 2] = ["../target/staticlib/libcapi.a", "../target/lib/libcele
 
 fn stop(why: &str) -> ! {
     eprintln!("{why}");
-    eprintln!("In the repository `rt staticlib capi` makes target/staticlib/libcapi.a.");
+    eprintln!("In the repository `tools/staticlib capi` makes target/staticlib/libcapi.a.");
     eprintln!("An archive that lies elsewhere is named by {VARIABLE}=/FOLDER/libNAME.a");
     process::exit(1)
 }

@@ -6,7 +6,7 @@
   form   nothing but names, shapes, a call's premise, or a bound of the prover's own: refused for how its proof is written
   NOT    the crate is still proved, or the edit never reached the prover
 
-The patterns are those of the messages of rattle-kit-5b-plain. An error of no known kind is told as form, with its text.
+The patterns are those of the messages of the kit that README.md names. An error of no known kind is told as form, with its text.
 """
 import glob
 import os
@@ -15,30 +15,35 @@ import re
 import tree
 
 ERROR = re.compile(r"^(?P<where>\S+?:\d+:\d+): error(?:\[[^\]]*\])?: (?:`(?P<decl>[^`]*)`: )?(?P<text>.*)$")
-MADE = re.compile(r"^note: (?P<where>\S+?:\d+:\d+): it is not proved that (?P<text>.*) \(`(?P<decl>[^`]*)`\)$")
+MADE = re.compile(r"^note: (?P<where>\S+?:\d+:\d+): it is not proved that (?P<text>.*) \(`(?P<decl>[^`]*)`\)(?P<more>;.*)?$")
+GOAL = re.compile(r"^note: `(?P<decl>[^`]*)` of \S+ must prove: (?P<goal>.*)$")  # what was not proved, of a declaration of the line before
 MISSING = re.compile(r"^fn (?P<decl>\S+): no proof: expected `[^`]*` in (?P<where>\S+?)(?P<rest>;.*)?$")
-FOLLOWS = re.compile(r"was not admitted")  # an error that only follows from another
+FOLLOWS = re.compile(r"was not admitted|which was rejected, w(?:as|ere) not checked")  # an error that only follows from another
 PREMISE = re.compile(r"-requires(-\d+)?$")  # a declaration that is the premise of a call
 ONE, OTHER = r"`([^`]*)`\s*\((?:expected|left)\)", r"`([^`]*)`\s*\((?:found|right)\)"
 APART = r"the two (?:types|sides|values) (?:differ only|first differ) where one has " + ONE + r".*?the other has " + OTHER
 COMPUTED = re.compile(r"computed as far as they go, " + APART, re.S)
 WHOLE = re.compile(r"computed as far as they go, the two (?:types|sides|values) are " + ONE + " and " + OTHER, re.S)
 PRINTED = re.compile(r"(?:as printed|compared part by part), " + APART, re.S)
+EXPECTED = re.compile(r"expected type `([^`]*)`, but this has type `([^`]*)`")
 BEGUN = re.compile(r"but this has type `([^`]*)`.*?the expected one begins `([^`]*)`", re.S)
-KINDS = re.compile(r"^\(?(?:mathlib\.Core\.Path\.|Prim\.Native\.Nat\.)?(?:_≡_|_≤_|_<_|_×_|_⊎_|Path|Σ)(?![\w·.-])")
-CLOSED = re.compile(r"^(?:[\d\s(){}=;,∷]|\[\]|\b(?:pos|negsuc|suc|true|false|nan|inf|fin|refusal|answer|ofBits|binary64|record)\b"
+KINDS = re.compile(r"^\(?(?:mathlib\.Core\.Path\.|Prim\.Native\.Nat\.)?(?:◌≡◌|◌≤◌|◌<◌|◌×◌|◌⊎◌|Path|Σ)(?![\w·.-])")
+INFIX = ("→", "⊎", "×", "≡", "≤", "<")  # the operators between two terms, the loosest first
+CLOSED = re.compile(r"^(?:[\d\s(){}=;,∷]|\[\]|\b(?:pos|negsuc|suc|true|false|nan|inf|fin|refusal|answer|of_bits|binary64|record)\b"
                     r"|(?:[\w·«»-]+\.)+(?=[^\s.])|[A-Z]\w*)+$")
-FIELD = re.compile(r"^\.(?!(?:before|given|result|lifetimes)\b)[\w«»-]+(?: \.(?!(?:before|given|result|lifetimes)\b)[\w«»-]+)*$")
+FIELD = re.compile(r"^\(?\w+\.args\.[\w«».-]+\)?$")  # a parameter, or a field of one
+MORE = re.compile(r"^\(?(?:[\w.]*\.)?(?:◌\+◌ (?P<sum>\S+) [1-9]\d*|suc (?P<next>[^\s()]+))\)?$")  # a number and one above it
 SHOWN = r"does not follow from what it read|the (?:goal|part) fails, at"
 BY_FORM = [  # what to call it, and what the error says
     ("a need that is not there any more", r"has no `Need-[^`]*` that can be named|expected a type, but `[^`]*Need-"),
-    ("a step of the code that is not there any more", r"record `[^`]*\.Lts\.[^`]*` has no field"),
+    ("a step of the code that is not there any more", r"record `[^`]*\.Lts\.[^`]*` has no field|module `[^`]*\.Tie` has no `"),
     ("a name that is missing", r"that can be named from here|not in scope|does not define it|has no field|unknown|unbound"),
     ("a bound of the prover's own", r"stopped at a bound|met a bound of its own|ran out of|out of steps|gave up"),
     ("a rewriting step that does not apply", r"no occurrence of the path's|no equation of the list has an instance"),
     ("arguments that do not fit", r"too many arguments|too few arguments|is not a function|expected a type"),
     ("a term left undetermined", r"could not determine|cannot be determined|unsolved"),
 ]
+NUMERAL = re.compile(r"(?<![\w.])\d+(?![\w.])")
 LEFT = re.compile(r"must be a path whose two ends are equal, and `([^`]*)`\s+is none", re.S)
 
 
@@ -55,10 +60,82 @@ def errors(log):
             last = [error["where"], error["decl"] or "", error["text"], "error"]
             found.append(last)
         elif made:
-            found.append([made["where"], made["decl"], made["text"], "made"])
+            found.append([made["where"], made["decl"], made["text"] + (made["more"] or ""), "made"])
+        elif GOAL.match(line):
+            found += [[one[0], one[1], "the goal is " + GOAL.match(line)["goal"], "made"] for one in found if one[3] == "made" and one[1] == GOAL.match(line)["decl"]][-1:]
         elif missing and "does not close" not in (missing["rest"] or ""):
             found.append([missing["where"], missing["decl"], "there is no proof", "missing"])
     return [one for one in found if not FOLLOWS.search(one[2].split("\n")[0])]
+
+
+# A name that rattle made of a condition of the code, which the edit took away, and those that are there.
+NEED = re.compile(r"has no `(?P<first>Need-\S*?-(?:then|else)-)(?P<old>\S+)` that can be named from here (?P<rest>.*)")
+BRANCH = re.compile(r"has no field `(?P<first>if-)(?P<old>\S+)` \(nearest: (?P<rest>.*)")
+
+
+def renamed(log, text):
+    """The names of conditions that are gone where the file `text` has them, each with what stands there in the edited code: {old: new}. That is the one that the file
+    does not know; others are of other conditions."""
+    found = {}
+    has = lambda name: re.search(r"-%s(?![\w-])" % re.escape(name), text)
+    for line in log.split("\n"):
+        gone = NEED.search(line) or BRANCH.search(line)
+        if gone and has(gone["old"]):
+            there = set(re.findall(r"(?<=[.`])" + re.escape(gone["first"]) + r"([^\s,`)]+)", gone["rest"]))
+            brought = [name for name in there if not has(name)]
+            if len(brought) == 1:
+                found[gone["old"]] = brought[0]
+    return found
+
+
+def with_names(log, texts, folder):
+    """The proof files of the errors in a crate's folder, by name, with the names of the edited conditions in the place of those that are gone; nothing where there are
+    none. `texts` has those that are changed already."""
+    changed = {}
+    for path in sorted({one[0].split(":")[0].removeprefix("./") for one in errors(log)}):
+        if path.startswith("proofs/") and os.path.isfile(os.path.join(folder, path)):
+            new = text = texts[path] if path in texts else tree.read(os.path.join(folder, path))
+            for old, name in renamed(log, text).items():
+                new = re.sub(r"-%s(?![\w-])" % re.escape(old), lambda _, name=name: "-" + name, new)
+            if new != text:
+                changed[path] = new
+    return changed
+
+
+def by_place(old, new):
+    """The names that rattle makes of a function's goals, places and steps that an edit changed, from its lists for the crate as it is and as it is edited:
+    {path of the function's proofs: {old: new}}. Those of one place are the same, whatever they are called; a function of another shape is left out."""
+    found = {}
+    for key, was in old.items():
+        now = new.get(key)
+        if "needs" not in was or now is None or any(len(was[part]) != len(now[part]) for part in ("needs", "places")):
+            continue
+        pairs = [("Need-" + one[1], "Need-" + other[1]) for one, other in zip(was["needs"], now["needs"])]
+        pairs += [("goal." + one[1], "goal." + other[1]) for one, other in zip(was["needs"], now["needs"])]
+        pairs += [("tie." + one, "tie." + other) for one, other in zip(was["places_by_name"], now["places_by_name"])]
+        pairs += [("." + one[2][1], "." + other[2][1]) for one, other in zip(was["places"], now["places"]) if one[2][1]]
+        names = {one: other for one, other in pairs}
+        if any(one != other for one, other in names.items()):
+            found[key.split("-proofs.", 1)[1].removesuffix(".Lts").replace(".", "/")] = names
+    return found
+
+
+def with_places(names, texts, folder):
+    """The proof files of the functions in `names`, with these in the place of the old ones; nothing where there are none."""
+    changed = {}
+    for function, pairs in names.items():
+        word = re.compile("(?:%s)(?![\\w-])" % "|".join(re.escape(one) for one in sorted(pairs, key=len, reverse=True)))
+        for file in ("Proof", "Answers", "Invariants"):
+            path = "proofs/%s/%s.antt" % (function, file)
+            if os.path.isfile(os.path.join(folder, path)):
+                text = texts[path] if path in texts else tree.read(os.path.join(folder, path))
+                new = word.sub(lambda m: pairs[m[0]], text)
+                if file != "Proof":  # an answer has its goal's name
+                    goals = {one[5:]: other[5:] for one, other in pairs.items() if one.startswith("goal.")}
+                    new = re.sub(r"(?m)^(pub |abbrev pub )?([\w+-]+)(?= :| [^=\n]*=)", lambda m: (m[1] or "") + goals.get(m[2], m[2]), new)
+                if new != text:
+                    changed[path] = new
+    return changed
 
 
 def constructors():
@@ -84,15 +161,28 @@ def short(text):
     return text if len(text) <= 60 else text[:59] + "…"
 
 
+def one_above(one, other):
+    """Whether a term is a number more than the other, by what is written."""
+    found = MORE.match(one)
+    return bool(found) and (found["sum"] or found["next"]) == other
+
+
 def unlike(one, other):
     """Whether two computed terms have different values, whatever their variables are: closed ones, other constructors of one type, other parameters."""
+    if FIELD.match(one) and FIELD.match(other) and one.strip("()") != other.strip("()") or one_above(one, other) or one_above(other, one):
+        return True
     one, other = plain(one), plain(other)
     if one == other or not one or not other:
         return False
-    if CLOSED.match(one) and CLOSED.match(other) or FIELD.match(one) and FIELD.match(other):
+    if CLOSED.match(one) and CLOSED.match(other):
         return True
     heads = {one.split()[0], other.split()[0]}
     return len(heads) == 2 and any(heads <= kind for kind in KINDS_OF_VALUES)
+
+
+def fields_of_one(one, other):
+    """Whether the two are different fields of one value."""
+    return one.strip().rpartition(".")[0] == other.strip().rpartition(".")[0] != "" and one.strip() != other.strip()
 
 
 def parts(term):
@@ -111,7 +201,7 @@ def parts(term):
 def ends(term):
     """The two ends of a path, or nothing: `Path T a b`, `_≡_ a b` or `a ≡ b`, unless a piece of it is not printed."""
     found = parts(term) if " bytes]…" not in term else []
-    if found and plain(found[0]) in ("Path", "_≡_") and len(found) >= 3:
+    if found and plain(found[0]) in ("Path", "◌≡◌") and len(found) >= 3:
         return found[-2:]
     return [" ".join(found[:found.index("≡")]), " ".join(found[found.index("≡") + 1:])] if "≡" in found else None
 
@@ -123,6 +213,11 @@ def same(one, other):
     return length > 0 and one[:length] == other[:length]
 
 
+def numerals_differ(one, other):
+    """Whether the two are the same but for numerals, as two bounds of one order are."""
+    return one != other and "…" not in one + other and NUMERAL.sub("0", one) == NUMERAL.sub("0", other)
+
+
 def paths_differ(one, other):
     """Whether a path that is expected has unlike ends, or has one end that is unlike that of the path which is proved, the other end being the same."""
     due, proved = ends(one), ends(other)
@@ -132,7 +227,10 @@ def paths_differ(one, other):
 
 
 def head(term):
-    return "→" if " → " in term else re.sub(r"^.*\.(?=[^.])", "", term.split()[0]).replace("_≡_", "Path")
+    """What a statement says first: an operator between two terms, or its first word; an equation is a path."""
+    found = parts(term)
+    word = next((sign for sign in INFIX if sign in found), re.sub(r"^.*\.(?=[^.])", "", term.split()[0]).strip("◌"))
+    return "Path" if word == "≡" else word
 
 
 def another_kind(how, one, other):
@@ -166,12 +264,15 @@ def compare(decl, how, one, other):
 def grade_error(where, decl, text, kind):
     """The grade of one error, and what to call it. A step of a function's proof that is given another value shows nothing: branches may have changed places."""
     verdict, name = grade_text(decl, text, kind)
-    step = "/Proof.antt:" in where and not decl.startswith("returns")
+    step = ("/Proof.antt:" in where or kind == "made") and not decl.startswith("returns")
     return ("open" if verdict == "shown" and step and "omega" not in name else verdict), name
 
 
 def grade_text(decl, text, kind):
     if kind == "made":
+        goal = ends(text.removeprefix("the goal is ")) if text.startswith("the goal is ") else None
+        if goal and (unlike(*goal) or fields_of_one(*goal)) or "allow values at which this goal is false" in text:
+            return "shown", text
         return "open", "`search` does not close it: " + text
     if kind == "missing":
         return "form", "a proof that is missing"
@@ -198,6 +299,11 @@ def grade_text(decl, text, kind):
         return "shown", "`%s` expected, `%s` found" % (short(begun[2]), short(begun[1]))
     if re.search(r"≟ .*does not hold", text, re.S):
         return "open", "two terms that are not the same"
+    whole = EXPECTED.search(text)
+    if whole and not PREMISE.search(decl) and paths_differ(whole[1], whole[2]):
+        return "shown", "`%s` expected, `%s` found" % (short(whole[1]), short(whole[2]))
+    if whole and PREMISE.search(decl) and numerals_differ(whole[1], whole[2]):
+        return "shown", "`%s` expected, `%s` found" % (short(whole[1]), short(whole[2]))
     if "expected type `" in text or "the two types" in text:
         return ("form", "a call's premise is given for another value") if PREMISE.search(decl) else ("open", "another statement is proved")
     return "form", "another error: " + text.split("\n")[0][:100]

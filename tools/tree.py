@@ -28,7 +28,7 @@ def crates():
             group = line[1:].strip()
         elif ":" in line:
             name, below = line.split(":", 1)
-            listed.append((group, name.strip(), below.split()))
+            listed.append((group, name.split()[0], below.split()))
     return listed
 
 
@@ -85,13 +85,16 @@ def module_of(path, root):
 
 
 def functions():
-    """Every public function of the crates by the name that a caller writes: CRATE::MODULE::TYPE::FUNCTION, and CRATE::FUNCTION for C, which knows no module."""
+    """Every public function of the crates by the name that a caller writes: CRATE::MODULE::TYPE::FUNCTION, and CRATE::FUNCTION for C, which knows no module. Those of
+    capi_c are capi's: tools/exports writes them."""
     found = []
     sources = sorted(os.path.relpath(path, ROOT) for path in glob.glob(os.path.join(ROOT, "crates/*/src/**/*.rt"), recursive=True))
+    sources = [path for path in sources if not path.startswith("crates/capi_c/")]
     again = {}  # what a module hands on of a module inside it
     for path in sources:
-        for inner in re.findall(r"^pub use ([a-z0-9_:]+);", read(path), re.M):
-            again["::".join(module_of(path, "src") + [inner])] = "::".join(module_of(path, "src") + [inner.split("::")[-1]])
+        for start, group, one in re.findall(r"^pub use ([a-z0-9_:]*?)(?:\{([^}]*)\}|(\w+));", read(path), re.M):
+            for inner in [start + name.strip() for name in (group or one).split(",") if name.strip()]:
+                again["::".join(module_of(path, "src") + [inner])] = "::".join(module_of(path, "src") + [inner.split("::")[-1]])
     for path in sources:
         kind = ""
         for line in read(path).split("\n"):

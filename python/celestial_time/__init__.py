@@ -31,18 +31,18 @@ from .scales import (
 )
 from .standby import standby_bill
 from .tables import Table
-from .texts import FORMS, from_iso8601, parse_iso8601, to_iso8601, utc_texts
+from .texts import FORMS, dates_of_texts, from_iso8601, parse_iso8601, to_iso8601, utc_texts
 from .ticks import place_ticks
 from .weeks import gps_from_week, gps_full_week, gps_to_week
 
 __all__ = [
     "ABSENT", "add_days", "add_seconds", "argsort", "Bill", "block_of", "BlockRefused", "cal2jd", "CalendarDates", "compare", "convert", "dat", "Dates",
-    "DatesByRule", "default_float_mode", "difference", "DRIFTING", "dtf2d", "equal", "Fields", "FloatModeError", "FORMS", "from_datetime", "from_iso8601",
-    "from_unix", "FullWeeks", "gps_from_week", "gps_full_week", "gps_to_week", "gpstai", "jd2cal", "leap_at_end_of_day", "Leaps", "LibraryError", "Line",
-    "line_up", "line_up_recorders", "listed_places", "listing", "listings", "Milliseconds", "milliseconds", "NO_INT", "NO_LONG", "Offsets",
-    "offsets_at_0h", "Order", "parse_iso8601", "Passes", "place", "place_files", "place_ticks", "Placed", "Places", "read_blocks", "read_passes",
+    "dates_of_texts", "DatesByRule", "default_float_mode", "difference", "DRIFTING", "dtf2d", "equal", "Fields", "FloatModeError", "FORMS", "from_datetime",
+    "from_iso8601", "from_unix", "FullWeeks", "gps_from_week", "gps_full_week", "gps_to_week", "gpstai", "jd2cal", "leap_at_end_of_day", "Leaps",
+    "LibraryError", "Line", "line_up", "line_up_recorders", "listed_places", "listing", "listings", "Milliseconds", "milliseconds", "NO_INT", "NO_LONG",
+    "Offsets", "offsets_at_0h", "Order", "parse_iso8601", "Passes", "place", "place_files", "place_ticks", "Placed", "Places", "read_blocks", "read_passes",
     "read_readings", "Readings", "reason", "reason_listing", "Refused", "Run", "same_stamp", "SCALES", "Seconds", "seconds_between", "Sorted", "Stamps",
-    "standby_bill", "Table", "taigps", "taitcg", "taitt", "taiut1", "taiutc", "tcbtdb", "tcgtai", "tcgtt", "tdbtcb", "tdbtt", "Texts", "TextsByRule",
-    "Ticks", "Times", "to_iso8601", "tttai", "tttcg", "tttdb", "ttut1", "ut1tai", "ut1tt", "ut1utc", "utc_datetime64", "utc_texts", "UtcFields", "utctai",
-    "utcut1", "Walked", "Weeks", "WHOLE", "write_blocks",
+    "standby_bill", "Table", "taigps", "taitcg", "taitt", "taiut1", "taiutc", "tcbtdb", "tcgtai", "tcgtt", "tdbtcb", "tdbtt", "Texts", "TextsByRule", "Ticks",
+    "Times", "to_iso8601", "tttai", "tttcg", "tttdb", "ttut1", "ut1tai", "ut1tt", "ut1utc", "utc_datetime64", "utc_texts", "UtcFields", "utctai", "utcut1",
+    "Walked", "Weeks", "WHOLE", "write_blocks",
 ]

@@ -55,7 +55,7 @@ def read_blocks(source: Source) -> Stamps:
     >>> read_blocks(block_of([2451545.0, float('nan')], [0.0, 0.25]))
     Stamps(jd1=array([2451545.,      nan]), jd2=array([0.  , 0.25]), sizes=array([2]))
     """
-    held = _bytes_of(source)
+    held = bytes_of(source)
     parts: list[tuple[NDArray[Any], NDArray[Any]]] = []
     sizes: list[int] = []
     at = 0
@@ -155,7 +155,7 @@ def listing(block: Source, *, table: Table | None = None) -> bytes:
     0 2000-01-01T12:00:00.000
     1 refused 6
     """
-    held, rows = _bytes_of(block), lent_table(table)
+    held, rows = bytes_of(block), lent_table(table)
     check_float_mode()
     return b"".join(_parts_of(held, rows))
 
@@ -168,7 +168,7 @@ def reason_listing(block: Source, *, table: Table | None = None) -> bytes:
     0 2000-01-01T12:00:00.000
     1 date is outside the calendar: sum 7ff8000000000000
     """
-    held = _bytes_of(block)
+    held = bytes_of(block)
     return b"".join(_parts_of(held, lent_table(table), "ct_reason_listing_part", held.nbytes))
 
 
@@ -179,7 +179,7 @@ def listings(source: Source, *, table: Table | None = None) -> Iterator[bytes]:
     >>> [one.splitlines()[0] for one in listings(two)]
     [b'utc listing 1 refused 0', b'utc listing 0 refused 0']
     """
-    held = _bytes_of(source)
+    held = bytes_of(source)
     at = 0
     while True:
         block = _first_block(held[at:])
@@ -204,13 +204,54 @@ def _parts_of(block: NDArray[np.uint8], table: Table, call: str = "ct_listing_pa
         line += int(np.count_nonzero(part[:code] == 10))
 
 
-def _bytes_of(source: Source) -> NDArray[np.uint8]:
+class RunSize(NamedTuple):
+    """How large a run is up to the first block that is refused: the library's record of it, its stamps, blocks and bytes, and the number of that refusal, or 0.
+
+    >>> run_size(bytes_of(block_of([2451545.0], [0.0]) + b'half'))[1:]
+    (1, 1, 24, 14)
+    """
+
+    record: bytes
+    stamps: int
+    blocks: int
+    bytes: int
+    refused: int
+
+
+def run_size(held: NDArray[np.uint8]) -> RunSize:
+    """How large the run is whose bytes these are.
+
+    >>> run_size(bytes_of(b'')).stamps
+    0
+    """
+    record = np.empty(32, "u1")
+    size = function("ct_run_size")(address_of(held), held.nbytes, address_of(record), record.nbytes)
+    stamps, blocks, refused, _ = map(int, record.view("<u8"))
+    return RunSize(record.tobytes(), stamps, blocks, size, refused)
+
+
+def block_refused(held: NDArray[np.uint8], size: RunSize, before: Stamps) -> BlockRefused:
+    """The block that ended a run of this size, behind these stamps.
+
+    >>> held = bytes_of(block_of([2451545.0], [0.0]) + b'half')
+    >>> str(block_refused(held, run_size(held), read_blocks(b'')))
+    'block 1 at byte 24: refused 14: the number of bytes is wrong: length 4 (length=4, size=1718378856, second_size=0)'
+    """
+    return BlockRefused(size.refused, _sizes_of(held[size.bytes :]), size.blocks, size.bytes, before)
+
+
+def bytes_of(source: Source) -> NDArray[np.uint8]:
+    """The bytes of a file, which is mapped where it can be, or of what else has bytes.
+
+    >>> bytes_of(b'abc')
+    array([97, 98, 99], dtype=uint8)
+    """
     if isinstance(source, (str, os.PathLike)):
         # A pipe can't be mapped, nor a file without a byte.
         if os.path.isfile(source) and os.path.getsize(source):
             return np.asarray(np.memmap(source, "u1", "r"))
         with open(source, "rb") as file:
-            return _bytes_of(file.read())
+            return bytes_of(file.read())
     held: Any = source
     try:
         size = memoryview(held).nbytes
@@ -220,7 +261,7 @@ def _bytes_of(source: Source) -> NDArray[np.uint8]:
         read = held.read()
         if not isinstance(read, bytes):
             raise TypeError(f"the file reads a {type(read).__name__} and no bytes: open it with 'rb'") from None
-        return _bytes_of(read)
+        return bytes_of(read)
     return np.frombuffer(held, "u1") if size else np.empty(0, "u1")
 
 

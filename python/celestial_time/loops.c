@@ -10,6 +10,7 @@
 
 #include <fenv.h>
 #include <math.h>
+#include <stdio.h>
 
 typedef int64_t shift_call(double, double, double, uint8_t *, size_t);
 typedef int64_t table_call(double, double, const uint8_t *, size_t, uint8_t *, size_t);
@@ -234,8 +235,24 @@ static size_t text_length(const uint8_t *text, size_t width)
     return width;
 }
 
+/* How long texts are, and each in a place of 27 bytes, as ct_dates_of_texts takes them; where they lie so already, `places` is `texts`. What lies behind a
+   text in its place means nothing. Returns whether one is longer than a place: then they are not all laid. */
+int64_t ct_each_laid(size_t width, size_t n, const uint8_t *texts, uint8_t *places, uint8_t *lengths)
+{
+    for (size_t i = 0; i < n; i++) {
+        const uint8_t *text = texts + width * i;
+        size_t length = text_length(text, width);
+        if (length > TEXT_PLACE) return 1;
+        lengths[i] = (uint8_t)length;
+        if (places != texts) memcpy(places + TEXT_PLACE * i, text, length);
+    }
+    return 0;
+}
+
+/* Where the date alone is asked for, `second` is null. */
 static void put_fields(int64_t code, const uint8_t *bytes, int32_t *const fields[5], double *second, size_t i)
 {
+    if (second == NULL) return;
     for (int k = 0; k < 5; k++) fields[k][i] = code < 0 ? INT32_MIN : int_of(bytes + 4 * k);
     second[i] = code < 0 ? NAN : float_of(bytes + 20);
 }
@@ -411,6 +428,58 @@ int64_t ct_each_same_stamp(uint32_t scale, uint32_t other_scale, size_t n, const
 {
     for (size_t i = 0; i < n; i++) same[i] = (uint8_t)ct_same_stamp(scale, jd1[i], jd2[i], other_scale, other1[i], other2[i]);
     return 0;
+}
+
+/* ---- Texts side by side */
+
+/* The bytes that are not 0, moved to the front. Returns how many they are. Written without a branch: which bytes are 0 is not to be foreseen. */
+int64_t ct_each_byte(size_t n, uint8_t *bytes)
+{
+    size_t kept = 0;
+    for (size_t i = 0; i < n; i++) {
+        uint8_t byte = bytes[i];
+        bytes[kept] = byte;
+        kept += byte != 0;
+    }
+    return (int64_t)kept;
+}
+
+/* ---- The listing of a line, as many parts at once as `out` has room for, each by a call: the head alone, then stamps' lines, then the last line alone.
+   Returns how many bytes they are, or what the first is refused by. */
+enum { LISTING_PART = 1 << 15 };
+
+int64_t ct_each_listing_part(size_t reasons, const uint8_t *runs, size_t runs_len, const uint8_t *jd1, size_t jd1_len, const uint8_t *jd2, size_t jd2_len,
+                             const uint8_t *numbers, size_t numbers_len, const uint8_t *order, size_t order_len, const uint8_t *table, size_t table_len,
+                             uint8_t *cursor, size_t cursor_len, uint8_t *out, size_t out_len)
+{
+    size_t filled = 0;
+    while (out_len - filled >= LISTING_PART) {
+        uint64_t line = ct_pattern_at(cursor, 8);
+        if (filled > 0 && line > order_len / 4) break;
+        int64_t n = ct_line_listing_part((uint32_t)reasons, runs, runs_len, jd1, jd1_len, jd2, jd2_len, numbers, numbers_len, order, order_len, table,
+                                         table_len, cursor, cursor_len, out + filled, out_len - filled);
+        if (n < 0 && filled == 0) return n;
+        if (n <= 0) break;
+        filled += (size_t)n;
+        if (line == 0) break;
+    }
+    return (int64_t)filled;
+}
+
+/* ---- Rows of a table: recorder, index, UTC, number and TAI. Of n lines of the listing, `places` those of their stamps. A row has at most 97 bytes.
+   Returns how many are written. */
+int64_t ct_each_row(size_t n, const char *lines, const uint32_t *places, const double *jd1, const double *jd2, const uint8_t *numbers, char *rows)
+{
+    char *at = rows;
+    for (size_t i = 0; i < n; i++) {
+        int number = numbers[places[i]], index = (int)strcspn(lines + 4, " "), told = (int)strcspn(lines + 5 + index, "\n");
+        const char *utc = lines + 5 + index;
+        at += sprintf(at, "%.3s,%.*s,%.*s,%d,", lines, index, lines + 4, number || *utc == 'n' ? 0 : told, utc, number);
+        if (number && number != CT_REFUSED_ORDER) at += sprintf(at, ",\n");
+        else at += sprintf(at, "%.17g,%.17g\n", jd1[places[i]], jd2[places[i]]);
+        lines = utc + told + 1;
+    }
+    return at - rows;
 }
 
 /* ---- The version of the library, that of the header: the package loads no other than its own */

@@ -13,6 +13,7 @@ from .csv_files import (
     FORMS, SCALE, TIMES, Cells, Columns, File, Readings, csv_head, csv_of, dates_of, digits_of, form_of, name_of, numbers_of, quoted, read_columns,
     read_readings, scales_of, values_of,
 )
+from .known import is_after_known, known_until
 from .placing import millimetres_of, milliseconds, place
 from .refusals import OUTSIDE, Refused, reason
 from .scales import convert, taiutc
@@ -130,7 +131,6 @@ class Placed(NamedTuple):
                 ]
                 yield csv_of([*columns, *(column[page] for column in others)])
 
-
     def notes(self) -> list[str]:
         """What a reader of the table should know before: of each file how many readings have no place, where there are any, and that the announced leap rows
         are known until a day before the last reading.
@@ -140,6 +140,16 @@ class Placed(NamedTuple):
         >>> place_files({'utc': io.StringIO('time\\nlate\\n2017-01-01T00:00:11\\n2017-01-01T00:00:04\\n')}, passes).notes()
         ['a file: 2 of 3 readings have no place: 1 refused, 1 outside the passes']
         """
+        return [*self.without_place(), *self._expired()]
+
+    def without_place(self) -> list[str]:
+        """Of each file how many readings have no place, where there are any.
+
+        >>> import io
+        >>> passes = io.StringIO('time,metres\\n2017-01-01T00:00:00Z,0\\n2017-01-01T00:00:10Z,31.5\\n')
+        >>> place_files({'utc': io.StringIO('time\\nlate\\n2017-01-01T00:00:11\\n2017-01-01T00:00:04\\n')}, passes).without_place()
+        ['a file: 2 of 3 readings have no place: 1 refused, 1 outside the passes']
+        """
         said = []
         for recorder, places in zip(self.recorders, self.places):
             every, without = len(places.numbers), int(np.count_nonzero(places.numbers))
@@ -147,7 +157,7 @@ class Placed(NamedTuple):
             kinds = [f"{count} {kind}" for count, kind in ((without - outside, "refused"), (outside, "outside the passes")) if count]
             if without:
                 said.append(f"{recorder.file}: {without} of {every} readings have no place: {', '.join(kinds)}")
-        return [*said, *self._expired()]
+        return said
 
     def _expired(self) -> Iterator[str]:
         """A sentence where the leap rows were lent with an expiry, and a reading is later."""
@@ -163,6 +173,31 @@ class Placed(NamedTuple):
             day, text = jd2cal(_MJD, float(known)), utc_texts("utc", utc.jd1, utc.jd2, form="expanded", table=self.rows, as_str=True).text[0]
             until = f"{day.year:04d}-{day.month:02d}-{day.day:02d}"
             yield f"the table is known until {until}, and the last reading is of {text}: a leap second between is not known"
+
+    def looks(self) -> list[str]:
+        """What to look at: that the last reading, or the last pass, lies after the day until which the leap rows are known, where it does.
+
+        >>> import io
+        >>> passes = io.StringIO('time,metres\\n2126-07-01T00:00:00Z,0\\n2126-07-01T00:00:10Z,31.5\\n')
+        >>> place_files({'utc': io.StringIO('time\\n2126-07-01T00:00:04\\n')}, passes).looks()
+        ['the table is known until 2026-06-28, and the last pass is of 2126-07-01T00:00:10.000: a leap second between is not known']
+        """
+        what, jd1, jd2 = self._last()
+        if not is_after_known(jd1, jd2, self.rows):
+            return []
+        text = utc_texts("tai", [jd1], [jd2], form="expanded", table=self.rows, as_str=True).text[0]
+        return [f"the table is known until {known_until(self.rows)}, and the last {what} is of {text}: a leap second between is not known"]
+
+    def _last(self) -> tuple[str, float, float]:
+        """The last of the readings that are placed or outside the passes, or the last pass: which, and its TAI."""
+        launch, millis = self.passes.launch, self.passes.millis
+        dates = [("pass", float(launch.jd1), float(launch.jd2) + int(millis[-1]) / 86400000.0)]
+        for tai, places in zip(self.tai, self.places):
+            dated = (places.numbers == 0) | (places.numbers == OUTSIDE)
+            if dated.any():
+                at = int(np.argmax(np.where(dated, (tai.jd1 - _MJD) + tai.jd2, -np.inf)))
+                dates.append(("reading", float(tai.jd1[at]), float(tai.jd2[at])))
+        return max(dates, key=lambda one: ((one[1] - _MJD) + one[2], one[0]))
 
 
 def _sentences() -> Cells:

@@ -105,11 +105,13 @@ def place(
     held = milliseconds(launch, _as_dated(readings), scale=scale) if launch is not None else readings
     millis, told = _counted(held, numbers)
     lists = _passes(passes, unit)
-    mm, judged = np.full(millis.shape, NO_LONG), np.array(told, "u1", ndmin=1).ravel()
-    given = millis.astype("<u8").ravel()
+    mm, judged = np.empty(millis.shape, LONG), told.reshape(-1)
+    given = np.ascontiguousarray(millis, LONG)  # one below zero has the bits of one that no pass reaches
     code = function("ct_place_readings")(*(part for array in (*lists, given, mm, judged) for part in (address_of(array), array.nbytes)))
     if code < 0:
         raise Refused(-code, "place")
+    if judged.any():
+        mm[judged.reshape(mm.shape) != 0] = NO_LONG
     if not millis.shape:
         if judged[0]:
             raise Refused(int(judged[0]), "place")
@@ -155,6 +157,8 @@ def _uniform(name: str, scale: str | None) -> str:
 def _told(name: str, numbers: Any) -> NDArray[np.uint8]:
     """The numbers that stamps or readings have already, which a byte must hold."""
     array = np.asarray(numbers)
+    if array.dtype == np.uint8:
+        return array
     if array.dtype.kind not in "iu":
         raise ValueError(f"numbers of {name} are of type {array.dtype}: whole numbers are due, as the functions answer them")
     wrong = (array < 0) | (array > 255)
@@ -167,13 +171,13 @@ def _told(name: str, numbers: Any) -> NDArray[np.uint8]:
 def _counted(held: Any, numbers: Any) -> tuple[NDArray[Any], NDArray[np.uint8]]:
     """Milliseconds as an array and the number of each, those of an answer and those beside it."""
     millis = counts("readings", held.millis if isinstance(held, Milliseconds) else held)
-    told = np.zeros(millis.shape, "u1")
+    told: NDArray[np.uint8] = np.zeros(millis.shape, "u1")
     for one in (held.numbers if isinstance(held, Milliseconds) else None, numbers):
         if one is not None:
             array = _told("readings", one)
             if array.shape != millis.shape:
                 raise ValueError(f"numbers of shape {array.shape} beside readings of {millis.shape}: one for each reading is due, as the functions answer it")
-            told = np.where(told, told, array)
+            np.copyto(told, array, where=told == 0)
     return millis, told
 
 

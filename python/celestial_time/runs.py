@@ -160,23 +160,24 @@ def listed_places(line: Line) -> NDArray[np.int64]:
     >>> listed_places(line_up([2451545.0, float('nan'), 2451546.0, 2451545.0], [0.0, 0.0, 0.0, 0.5], (3,)))
     array([0, 1, 3, 2])
     """
-    behind = np.full(len(line.numbers), -1, np.int64)
-    behind[line.places] = np.arange(len(line.places))
-    start = 0
-    for count in line.counts:
-        # The places in the line of a run's ordered stamps rise.
-        run = behind[start : start + count]
-        np.maximum.accumulate(run, out=run)
-        start += count
-    return np.argsort(behind, kind="stable")
+    check_float_mode()
+    jd1, jd2, numbers = np.ascontiguousarray(line.jd1, FLOAT), np.ascontiguousarray(line.jd2, FLOAT), np.array(line.numbers, "u1")
+    order, *work = (np.empty(len(numbers), "<u4") for _ in range(3))
+    code = function("ct_lines_in_order")(*_slices(jd1, jd2, numbers), *[*line.counts, 0, 0][:2], *_slices(order, *work))
+    if code < 0:
+        raise Refused(-code, "listed_places")
+    return order.astype(np.int64)
+
+
+def _slices(*arrays: NDArray[Any]) -> list[int]:
+    return [part for array in arrays for part in (address_of(array), array.nbytes)]
 
 
 def _ordered(name: str, jd1: NDArray[Any], jd2: NDArray[Any], numbers: NDArray[Any], counts: Sequence[int]) -> Line:
     check_float_mode()
     places, *work = (np.empty(len(numbers), "<u4") for _ in range(3))
     lengths = [*counts, *[len(numbers) - sum(counts), 0][: 2 - len(counts)]]
-    given, written = ([part for array in arrays for part in (address_of(array), array.nbytes)] for arrays in ((jd1, jd2, numbers), (places, *work)))
-    code = function("ct_line_up")(*given, *lengths, *written)
+    code = function("ct_line_up")(*_slices(jd1, jd2, numbers), *lengths, *_slices(places, *work))
     if code < 0:
         raise Refused(-code, name)
     places = places[:code]

@@ -7,7 +7,7 @@ from typing import Any, Callable, Literal, overload
 import numpy as np
 from numpy.typing import ArrayLike, NDArray
 
-from ._answers import Fields, Texts, TextsByRule, UtcFields
+from ._answers import Dates, Fields, Texts, TextsByRule, UtcFields
 from ._arrays import FLOAT, INT, NUMBER, Field, address_of, as_array, each, floats, is_missing
 from ._library import TABLE_BYTES, address, function
 from .scales import RUN_SCALES, SCALES, Out, convert
@@ -145,6 +145,47 @@ def from_iso8601(texts: ArrayLike, *, scale: str = "utc", table: Table | None = 
     loop, width = function("ct_each_read_utc" if scale == "utc" else "ct_each_read_time"), given.dtype.itemsize
     by = (rows.address, width) if scale == "utc" else (width,)
     return UtcFields(*each("from_iso8601", lambda n, *a: loop(*by, n, *a), [("texts", given)], _DATED, [given.dtype.str], out))
+
+
+def dates_of_texts(texts: ArrayLike, *, scale: str = "utc", table: Table | None = None, out: Out = None) -> Dates:
+    """The dates of texts as `from_iso8601` has them, without their fields; those of UTC by one call for a run.
+
+    >>> dates_of_texts(['2016-12-31T23:59:60.5Z', 'dead'])
+    Dates(jd1=array([2457753.5,       nan]), jd2=array([0.99999421,        nan]), numbers=array([ 0, 15], dtype=uint8))
+    """
+    if scale not in SCALES:
+        raise ValueError(f"no scale: {scale!r}; the scales are {', '.join(SCALES)}")
+    given, rows = _byte_strings(texts), lent_table(table)
+    loop, width = function("ct_each_read_time"), given.dtype.itemsize
+    told = _dates_of_run(width, rows) if scale == "utc" else lambda n, held, *a: loop(width, n, held, *[0] * 6, *a)
+    return Dates(*each("dates_of_texts", told, [("texts", given)], _DATED[6:], [given.dtype.str], out))
+
+
+def _dates_of_run(width: int, rows: Table) -> Callable[..., int]:
+    """ct_dates_of_texts for `each`, a page of texts at a time. It takes texts of 27 bytes at the most, in places of 27: others are laid into such. Where a page
+    has a longer text, as with blanks or nine digits, all of it is read by the call for one."""
+    call, laid, single, blank = map(function, ("ct_dates_of_texts", "ct_each_laid", "ct_each_read_utc", "ct_each_nan"))
+
+    def told(n: int, texts: int, jd1: int, jd2: int, numbers: int) -> int:
+        places, lengths = np.empty(WIDTH * min(n, _PAGE), "u1"), np.empty(min(n, _PAGE), "u1")
+        refused = 0
+        for first in range(0, n, _PAGE):
+            count, text = min(_PAGE, n - first), texts + width * first
+            out1, out2, into = jd1 + 8 * first, jd2 + 8 * first, numbers + first
+            at = text if width == WIDTH else address_of(places)
+            if laid(width, count, text, at, address_of(lengths)):
+                code = single(rows.address, width, count, text, *[0] * 6, out1, out2, into)
+            else:
+                lent = at, WIDTH * count, address_of(lengths), count, rows.address, TABLE_BYTES
+                code = call(*lent, out1, 8 * count, out2, 8 * count, into, count)
+                if code > 0:
+                    blank(count, into, out1, out2)
+            if code < 0:
+                return code
+            refused += code
+        return refused
+
+    return told
 
 
 def _byte_strings(texts: ArrayLike) -> NDArray[Any]:

@@ -8,6 +8,9 @@ macro_rules! calls {
 
 /// One call: the function's arguments, those of the declaration for C, and what is passed, taken one by one.
 macro_rules! call {
+    ($name:ident [] [] [] (,) $answer:ident) => {
+        call! { $name [] [] [] () $answer }
+    };
     ($name:ident [$($taken:tt)*] [$($declared:tt)*] [$($passed:tt)*] ($arg:ident: &mut [u8], $($rest:tt)*) $answer:ident) => {
         call! { $name [$($taken)* $arg: &mut [u8],] [$($declared)* $arg: *mut u8, _: usize,]
         [$($passed)* $arg.as_mut_ptr(), $arg.len(),] ($($rest)*) $answer }
@@ -33,6 +36,8 @@ macro_rules! call {
 }
 
 calls! {
+    fn ct_version() -> i64;
+
     fn ct_is_leap_year(year: i32) -> i64;
     fn ct_days_in_month(year: i32, month: i32) -> i64;
     fn ct_validate_calendar_date(year: i32, month: i32, day: i32) -> i64;
@@ -58,6 +63,20 @@ calls! {
     fn ct_lines_in_order(
         jd1: &[u8], jd2: &[u8], numbers: &mut [u8], first_count: u64, second_count: u64, order: &mut [u8],
         work1: &mut [u8], work2: &mut [u8]
+    ) -> i64;
+    fn ct_run_size(run: &[u8], out: &mut [u8]) -> i64;
+    fn ct_take_run(
+        scale: u32, run: &[u8], table: &[u8], jd1: &mut [u8], jd2: &mut [u8], numbers: &mut [u8]
+    ) -> i64;
+    fn ct_line_listing_part(
+        reasons: u32, runs: &[u8], jd1: &[u8], jd2: &[u8], numbers: &[u8], order: &[u8], table: &[u8],
+        cursor: &mut [u8], out: &mut [u8]
+    ) -> i64;
+    fn ct_line_summary(
+        runs: &[u8], jd1: &[u8], jd2: &[u8], numbers: &[u8], table: &[u8], known: u32, out: &mut [u8]
+    ) -> i64;
+    fn ct_line_look(
+        runs: &[u8], jd1: &[u8], jd2: &[u8], numbers: &[u8], table: &[u8], known: u32
     ) -> i64;
 
     fn ct_check_table(table: &[u8]) -> i64;
@@ -116,6 +135,9 @@ calls! {
 
     fn ct_parse_iso8601(text: &[u8], out: &mut [u8]) -> i64;
     fn ct_utc_from_iso8601(text: &[u8], table: &[u8], out: &mut [u8]) -> i64;
+    fn ct_dates_of_texts(
+        texts: &[u8], lengths: &[u8], table: &[u8], out1: &mut [u8], out2: &mut [u8], numbers: &mut [u8]
+    ) -> i64;
 
     fn ct_block_stamps(block: &[u8]) -> i64;
     fn ct_listing_part(block: &[u8], line: u32, table: &[u8], out: &mut [u8]) -> i64;

@@ -27,6 +27,7 @@ pub mod constants;
 mod ffi;
 pub mod float_mode;
 pub mod julian;
+pub mod listing;
 pub mod parsing;
 pub mod refusal;
 pub mod runs;
@@ -39,3 +40,8 @@ pub mod ticks;
 pub use julian::JulianDate;
 pub use refusal::{Refusal, TimeError, TimeResult};
 pub use table::{Row, Rule, Table};
+
+/// The version of the library that is linked, as major * 1,000,000 + minor * 1,000 + patch. The crate has the same.
+pub fn version() -> i64 {
+    ffi::ct_version()
+}

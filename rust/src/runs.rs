@@ -164,6 +164,32 @@ pub fn texts_of_run(
     ))
 }
 
+/// The dates of a run of UTC texts: text i is `lengths[i]` bytes from `texts[27 * i]` on, as [`texts_of_run`] writes it,
+/// with the bits that the single call gives. A text is refused by 15, as is one of more than 27 bytes, 16, 2, 3 or 4.
+///
+/// Answers how many texts are refused. Refuses 14 for a length of `texts` that is no multiple of 27; 12 for another number
+/// of lengths than of texts; 11 for fewer places than texts. A refused call writes nothing.
+///
+/// ```
+/// use celestial_time_proved::runs::{dates_of_texts, Dates};
+/// use celestial_time_proved::{scales::utc::UTC, Table};
+/// let texts = b"2017-01-01T12:00:00.000    2017-01-01T12:00:60.000    ";
+/// let (mut jd1, mut jd2, mut numbers) = ([0.0; 2], [0.0; 2], [0; 2]);
+/// let mut dates = Dates::<UTC>::new(&mut jd1, &mut jd2, &mut numbers);
+/// assert_eq!(dates_of_texts(texts, &[23, 23], &Table::NONE, &mut dates), Ok(1));
+/// assert_eq!((jd1[0], jd2[0], numbers), (2457754.5, 0.5, [0, 4]));
+/// ```
+pub fn dates_of_texts(texts: &[u8], lengths: &[u8], table: &Table, dates: &mut Dates<UTC>) -> TimeResult<u64> {
+    judged(ffi::ct_dates_of_texts(
+        texts,
+        lengths,
+        table.as_bytes(),
+        bytes_mut(dates.jd1),
+        bytes_mut(dates.jd2),
+        dates.numbers,
+    ))
+}
+
 /// The stamps of up to three recorders in one order, by their exact sums, all in TAI. The runs stand one after
 /// the other: `first_count` stamps, then `second_count`, then what is left. A stamp whose number is not 0 was refused
 /// before, and has no place. Into `numbers` is written 9 for a stamp that came with 0 and that [`JulianDate::compare`]

@@ -3,19 +3,28 @@
    bytes it says 11, after every other refusal, and no byte changes that it does not answer with. At the end the functions of the
    header that read numbers from bytes.
    The answers are document 01's, whole numbers of seconds, or ERFA's. */
-#include "lent.h"
+#include "buffer.h"
 #include "scale_calls.h"
-#include "sheet_calls.h"
+#include "text_form_calls.h"
 #include "table_calls.h"
 #include "line_up_calls.h"
+#include "run_bytes_calls.h"
+#include "summary_calls.h"
+#include "line_listing_calls.h"
 #include "run_calls.h"
 #include "formula_run_calls.h"
 #include "text_run_calls.h"
+#include "date_run_calls.h"
 #include "standby_calls.h"
 #include "reason_calls.h"
 #include "since_launch_calls.h"
 #include "tick_calls.h"
 #include "walk_calls.h"
+
+static void version(void)
+{
+    IS(CT_VERSION_MAJOR * 1000000 + CT_VERSION_MINOR * 1000 + CT_VERSION_PATCH, ct_version());
+}
 
 static void month_lengths(void)
 {
@@ -470,6 +479,7 @@ static void read_answers(void)
 
 int main(void)
 {
+    version();
     calendar_calls();
     calendar_of_dates();
     date_calls();
@@ -482,7 +492,7 @@ int main(void)
     utc_and_tai();
     utc_and_ut1();
     utc_texts();
-    sheet_calls();
+    text_form_calls();
     texts_read();
     utc_texts_read();
     each_byte();
@@ -497,9 +507,13 @@ int main(void)
     table_calls();
     standby_calls();
     line_up_calls();
+    run_bytes_calls();
+    summary_calls();
+    line_listing_calls();
     run_calls();
     formula_run_calls();
     text_run_calls();
+    date_run_calls();
     walk_calls();
     return summary("calls");
 }

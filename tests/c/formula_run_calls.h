@@ -1,4 +1,4 @@
-/* ct_formula_run: stamps by each of its fourteen conversions, dead parts and dead offsets among them, against the single calls; every other pair of scales; the refusals of the
+/* ct_formula_run: stamps by each of its fourteen conversions, parts and offsets that are not finite among them, against the single calls; every other pair of scales; the refusals of the
    whole call in their order, each with all that come after it; and what stays, the bytes around all six buffers among it. Everything is compared by its bits. */
 enum {
     FORMULA_STAMPS = 21,
@@ -49,7 +49,7 @@ static void formula_fresh(formula_lent *lent)
     const uint64_t stamps[FORMULA_STAMPS][3] = {
         {ct_bits_of(2457754.5), ct_bits_of(0.25), ct_bits_of(-36.6)},
         {ct_bits_of(0.75), ct_bits_of(2457753.5), ct_bits_of(69.184)},
-        /* dead parts, dead offsets, and both */
+        /* parts, offsets, and both that are not finite */
         {INFINITE | QUIET, half, half},
         {day, SIGN | INFINITE, half},
         {day, half, SIGN | INFINITE | QUIET | 77},

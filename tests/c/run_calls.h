@@ -1,4 +1,4 @@
-/* ct_convert_run: stamps between each two of the five scales, dead and refused ones among them; the refusals of the whole call in their order, and what stays around it. */
+/* ct_convert_run: stamps between each two of the five scales, not finite and refused ones among them; the refusals of the whole call in their order, and what stays around it. */
 enum { RUN_STAMPS = 6, RUN_ROOM = 8 * RUN_STAMPS + 3, RUN_GUARD = 16 };
 
 typedef struct {

@@ -105,6 +105,14 @@ def cut(count, single):
     return one
 
 
+def rest(count, single):
+    """A single call whose first values the function does not give."""
+    def one(*arguments):
+        code, values = single(*arguments)
+        return code, None if values is None else values[count:]
+    return one
+
+
 def field(x):
     """A field for 8 bits: the package hands 255 over for what does not fit."""
     return U8(x if 0 <= x <= 255 else 255)
@@ -208,8 +216,13 @@ def cases(rng, count):
             if hasattr(LIB, called):
                 yield Case(utc(ct.to_iso8601, form=form, **lent), cut(1, text(called, table)), dates(rng, count), f"to_iso8601 {form}" + said)
                 yield Case(utc(ct.to_iso8601, form=form, return_rule=True, **lent), text(called, table), dates(rng, count), f"to_iso8601 {form}, rule" + said)
-        yield Case(utc(ct.from_iso8601, **lent), lambda s, t=table: answered("ct_utc_from_iso8601", (s, ctypes.c_size_t(len(s)), *table_of(t)), "5i3d"), texts(rng, count), "from_iso8601" + said)
+        read_utc = lambda s, t=table: answered("ct_utc_from_iso8601", (s, ctypes.c_size_t(len(s)), *table_of(t)), "5i3d")
+        yield Case(utc(ct.from_iso8601, **lent), read_utc, texts(rng, count), "from_iso8601" + said)
+        for width in (27, 40):
+            given = [part.astype(f"S{width}") for part in texts(rng, count)]
+            yield Case(utc(ct.dates_of_texts, **lent), rest(6, read_utc), given, f"dates_of_texts {width}" + said)
     yield Case(lambda *a, **k: ct.from_iso8601(*a, scale="gps", **k), read_time, texts(rng, count), "from_iso8601 gps")
+    yield Case(lambda *a, **k: ct.dates_of_texts(*a, scale="gps", **k), rest(6, read_time), texts(rng, count), "dates_of_texts gps")
     for source, target in (("tcb", "tdb"), ("tdb", "tcb")):
         yield Case(utc(lambda *a, s=source, t=target, **k: ct.convert(s, t, *a, **k)), plain(f"ct_{source}_to_{target}"), dates(rng, count), f"convert {source} {target}")
     yield Case(ct.parse_iso8601, lambda s: answered("ct_parse_iso8601", (s, ctypes.c_size_t(len(s))), "5id"), texts(rng, count), "parse_iso8601")

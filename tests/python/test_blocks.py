@@ -1,8 +1,10 @@
 """Blocks read and written, listings, and the commands for the shell."""
 import io
+import itertools
 import os
 import pathlib
 import pickle
+import re
 import signal
 import struct
 import subprocess
@@ -15,6 +17,7 @@ import numpy as np
 
 import celestial_time as ct
 import singles
+from celestial_time import lineup
 from celestial_time.lineup import listed_places, read_recorder
 
 ROOT = pathlib.Path(__file__).resolve().parents[2]
@@ -168,9 +171,10 @@ class Blocks(unittest.TestCase):
             else:
                 self.assertEqual(line, f"{i} {texts.text[i].decode()}")
         program = ROOT / "target" / "bin" / "utc_listing"
-        if program.exists():
-            for given in (block, block[:-1], b"", bytes(8), SAMPLE.read_bytes()):
-                self.assertEqual(ct.listing(given), subprocess.run([program], input=given, capture_output=True).stdout)
+        if not program.exists():
+            self.skipTest("no target/bin/utc_listing here: the listing is not held against it")
+        for given in (block, block[:-1], b"", bytes(8), SAMPLE.read_bytes()):
+            self.assertEqual(ct.listing(given), subprocess.run([program], input=given, capture_output=True).stdout)
 
     def test_reason_listing(self):
         """As the second listing program lists, where it is built; and by the single sentences."""
@@ -179,9 +183,10 @@ class Blocks(unittest.TestCase):
         self.assertEqual(told[:2], ct.listing(block).decode().splitlines()[:2])
         self.assertEqual(told[2:], [f"1 {ct.reason(6, jd1=float('inf'), jd2=float('-inf'))}", f"2 {ct.reason(1, year=-4800, month=1, day=1)}"])
         program = ROOT / "target" / "bin" / "reason_listing"
-        if program.exists():
-            for given in (block, block[:-1], b"", bytes(8), bytes(100000), SAMPLE.read_bytes()):
-                self.assertEqual(ct.reason_listing(given), subprocess.run([program], input=given, capture_output=True).stdout)
+        if not program.exists():
+            self.skipTest("no target/bin/reason_listing here: the listing in sentences is not held against it")
+        for given in (block, block[:-1], b"", bytes(8), bytes(100000), SAMPLE.read_bytes()):
+            self.assertEqual(ct.reason_listing(given), subprocess.run([program], input=given, capture_output=True).stdout)
 
     def test_command_listing(self):
         done = run("listing", SAMPLE)
@@ -222,8 +227,8 @@ class Blocks(unittest.TestCase):
         jd1, jd2 = (2461000.5 + np.arange(5000) / 10, np.zeros(5000))
         ct.write_blocks(self.at / "late", jd1, jd2)
         program = ROOT / "target" / "programs" / "line_up"
-        tries = [(["gps=short", "utc=utc"], 1), (["gps=wild", "tai=wild", "utc=wild"], 0), (["utc=late", "table=rows", "tai=late"], 0), (["utc=late", "table=bad_rows"], 1),
-                 (["utc=late", "table=no_rows"], 1), (["gps=empty", "utc=utc"], 0), (["tai=wild"], 0), (["utc=empty"], 0)]
+        tries = [(["gps=short", "utc=utc"], 1), (["gps=wild", "tai=wild", "utc=wild"], 0), (["utc=late", "table=rows", "tai=late"], 0), (["utc=late", "table=rows"], 0), (["utc=late"], 0),
+                 (["utc=late", "table=bad_rows"], 1), (["utc=late", "table=no_rows"], 1), (["gps=empty", "utc=utc"], 0), (["tai=wild"], 0), (["utc=empty"], 0), (["gps=gps"], 0)]
         for words, status in tries:
             given = [word.replace("=", f"={self.at}/") for word in words]
             done = run("lineup", *given)
@@ -231,6 +236,42 @@ class Blocks(unittest.TestCase):
             if program.exists():
                 due = subprocess.run([program, *given], capture_output=True)
                 self.assertTrue((done.returncode, done.stdout) == (due.returncode, due.stdout), (words, done.returncode, done.stdout[:300], due.returncode, due.stdout[:300]))
+        if not program.exists():
+            self.skipTest("no target/programs/line_up here: the command is not held against it")
+
+    def test_lined_up(self):
+        """A line of recorders is listed as their files are; in another order those that are equal, or have none before them, go by it. Two of one scale are not."""
+        held = {scale: ct.block_of(*(part[self.rng.random(40).argsort()] for part in singles.dates(self.rng, 40))) + b"end"[:k] for k, scale in enumerate(("gps", "tai", "utc"))}
+        due = lineup.line_up_runs(held)
+        for order in itertools.permutations(held):
+            recorders = tuple(read_recorder(scale, held[scale]) for scale in order)
+            line = lineup.lined_up(lineup.line_up_files(*recorders), recorders)
+            listed, wanted = b"".join(line.listing()), b"".join(due.listing())
+            self.assertEqual((sorted(listed.split(b"\n")), line.summary(), line.look()), (sorted(wanted.split(b"\n")), due.summary(), due.look()))
+            self.assertTrue(listed == wanted or order != lineup.RECORDERS)
+        twice = (read_recorder("gps", held["gps"]),) * 2
+        with self.assertRaises(ValueError):
+            lineup.lined_up(lineup.line_up_files(*twice), twice)
+        for files in ({}, {"tt": b""}):
+            with self.assertRaises(ValueError):
+                lineup.line_up_runs(files)
+
+    def test_lined_up_ways(self):
+        """The library's listing has the lines of the command's but for the head, where it counts the stamps that are not finite apart; the rows and the refused are those lines."""
+        held = {scale: ct.block_of(*(part[self.rng.random(40).argsort()] for part in singles.dates(self.rng, 40))) for scale in lineup.RECORDERS}
+        line, recorders = lineup.line_up_runs(held), tuple(read_recorder(*one) for one in held.items())
+        due = b"".join(lineup.listing_of(lineup.line_up_files(*recorders), recorders)).decode().splitlines()
+        ways = {way: b"".join(line.listing(way)).decode().splitlines() for way in ("", *lineup.WAYS)}
+        counts = [re.fullmatch(r"(\w+ \d+) not finite (\d+) refused (\d+) left out (\d+)", said).groups() for said in ways[""][1:4]]
+        self.assertEqual([f"{run} refused {int(dead) + int(refused)} left out {left}" for run, dead, refused, left in counts], due[1:4])
+        self.assertEqual((ways[""][0], ways[""][4:]), (due[0], due[4:]))
+        self.assertEqual(ways["--refused"], [one for one in due[4:] if " refused " in one])
+        self.assertEqual(ways["--summary"], [*ways[""][:4], *line.summary().decode().splitlines(), due[-1]])
+        told = [one.split() for one in due[4:-1]]
+        rows = [[name, index, "" if len(what) > 1 else what[0], what[-1] if what[0] == "refused" else "0"] for name, index, *what in told]
+        self.assertEqual([row.split(",")[:4] for row in ways["--csv"]], [["recorder", "index", "utc", "number"], *rows])
+        tai = [["", ""] if line.numbers[at] not in (0, 17) else [line.jd1[at], line.jd2[at]] for at in line.order]
+        self.assertEqual([[part and float(part) for part in row.split(",")[4:]] for row in ways["--csv"][1:]], tai)
 
     def test_listed_places(self):
         """Against a walk stamp by stamp."""

@@ -117,6 +117,20 @@ class Campaign(unittest.TestCase):
             self.assertTrue(np.array_equal(file["metres"][...], due["metres"], equal_nan=True))
             self.assertEqual(file["utc"][...].astype(str).tolist(), due["utc"].tolist())
 
+    def test_announced_rows(self):
+        """With -t a leap second that the rows announce is read by; without it the run is placed too."""
+        run, rows = self.runs / "late", self.at / "rows"
+        run.mkdir(parents=True)
+        (run / "utc.csv").write_text("time\n2026-12-31T23:59:60.500Z\n2027-01-01T00:00:00.000Z\n")
+        (run / "passes.csv").write_text("time,metres\n2026-12-31T23:59:59Z,0\n2027-01-01T00:00:01Z,3\n")
+        rows.write_text("2027-01 38\n")
+        for words, metres in (([], [",4", "1.500,0"]), (["-t", rows], ["1.500,0", "2.000,0"])):
+            done = subprocess.run([sys.executable, PROGRAM, self.runs, self.out, "-w", "1", *words], capture_output=True, text=True, env=HERE, cwd=self.at, timeout=200)
+            self.assertEqual(done.returncode, 0, done.stderr)
+            self.assertEqual([",".join(row.split(",")[3:5]) for row in (self.out / "late.csv").read_text().splitlines()[1:]], metres)
+            told = list(csv.DictReader(io.StringIO((self.out / "summary.csv").read_text())))
+            self.assertEqual([(row["status"], row["message"]) for row in told], [("placed", "")])
+
 
 if __name__ == "__main__":
     unittest.main()

@@ -273,10 +273,17 @@ class Command(unittest.TestCase):
 
     @unittest.skipUnless(BROWSER, "no chromium here: the page in metres is not opened in a browser")
     def test_browser(self):
+        """A real browser shows the figures and the picture."""
         run(*RUNS, PASSES, "-r", self.at / "p.html")
         words = ["--headless", "--no-sandbox", "--disable-gpu", f"--user-data-dir={self.at}/profile", "--dump-dom", f"file://{self.at}/p.html"]
         done = subprocess.run([BROWSER, *words], capture_output=True, text=True, timeout=120)
         self.assertIn("1039 of 1100 readings of 3 recorders placed", done.stdout)
+        shown = Page(done.stdout)
+        self.assertEqual(shown.headings[0], "1039 of 1100 readings of 3 recorders placed, 0.029 m to 60.055 m")
+        self.assertEqual([row[:1] + row[2:6] for row in shown.tables["runs"][1:]], [["gps", "500", "473", "2", "25"], ["tai", "400", "378", "2", "20"], ["utc", "200", "188", "2", "10"]])
+        self.assertIn("5 marker passes, 0.000 m to 60.125 m.", shown.paragraphs)
+        self.assertIn(f"Reading 31 of the recorder gps has no place, by 18: {ct.reason(18)}.", shown.items)
+        self.assertIn("svg", shown.tags)
 
     def test_odd_pictures(self):
         """Nothing placed, one reading, a column without numbers, no column: each has a picture that is well formed."""
@@ -333,6 +340,28 @@ class Command(unittest.TestCase):
             self.assertEqual((done.returncode, "known until" in done.stderr.decode()), (0, bool(said)), (mjd, readings))
             if said is not None:
                 self.assertEqual(done.stderr.decode(), f"celestial_time: {said}\n" if said else "")
+
+    def test_looks(self):
+        """A last reading or pass after the day until which the table is known, the library's own and one that is lent, is something to look at; on that day nothing is."""
+        utc, passes, rows = (self.at / name for name in ("utc.csv", "passes.csv", "rows"))
+        for lent, day, readings, marks, late in (
+            (None, "2026-06-28", ["2026-06-28T23:59:59"], ["2026-06-28T00:00:00", "2026-06-28T23:59:59.5"], None),
+            (None, "2026-06-28", ["2026-06-28T23:59:59"], ["2026-06-28T00:00:00", "2026-06-29T00:00:00"], "pass is of 2026-06-29T00:00:00.000"),
+            (None, "2026-06-28", ["2026-06-29T00:00:00"], ["2026-06-28T00:00:00", "2026-06-28T12:00:00"], "reading is of 2026-06-29T00:00:00.000"),
+            (None, "2026-06-28", ["dead", "2027-01-01T00:00:04"], ["2027-01-01T00:00:00", "2027-01-01T00:00:10"], "pass is of 2027-01-01T00:00:10.000"),
+            (None, "2026-06-28", ["2027-01-01T00:00:12", "2027-01-01T00:00:04"], ["2027-01-01T00:00:00", "2027-01-01T00:00:10"], "reading is of 2027-01-01T00:00:12.000"),
+            ("2027-01 38\n", "2027-06-30", ["2027-06-30T23:59:59"], ["2027-01-01T00:00:00", "2027-06-30T23:59:59"], None),
+            ("2027-01 38\n", "2027-06-30", ["2027-07-01T00:00:00"], ["2027-01-01T00:00:00", "2027-06-30T23:59:59"], "reading is of 2027-07-01T00:00:00.000"),
+            (f"#@ {(61406 - 15020) * 86400}\n2017-01 37\n", "2027-01-01", ["2027-01-01T00:00:04"], ["2027-01-01T00:00:00", "2027-01-01T23:00:00"], None),
+            (f"#@ {(61405 - 15020) * 86400}\n2017-01 37\n", "2026-12-31", [], ["2026-12-31T00:00:00", "2027-01-01T00:00:00.001"], "pass is of 2027-01-01T00:00:00.001"),
+        ):
+            utc.write_text("".join(f"{line}\n" for line in ("time", *readings)))
+            passes.write_text("".join(f"{line}\n" for line in ("time,metres", *(f"{one}Z,{100 * place}" for place, one in enumerate(marks)))))
+            rows.write_text(lent or "")
+            got = ct.place_files({"utc": utc}, passes, table=ct.Table.read(rows) if lent else None)
+            due = f"the table is known until {day}, and the last {late}: a leap second between is not known"
+            with self.subTest(due):
+                self.assertEqual(got.looks(), [due] if late else [])
 
     def test_help_and_rows(self):
         """--help names the columns, and announced leap rows are read by."""

@@ -97,9 +97,43 @@ def stamp(rng):
     return tuple(map(pattern, divided(rng, float(rng.randrange(2441317, 2470000)) + 0.5, rng.random())))
 
 
-def lists_of(rng, count):
-    """The bytes of so many stamps, and the bytes lent for their answers: as many as are due, or some more."""
-    stamps = [stamp(rng) for _ in range(count)]
+# Where a recorder's run may lie beside the starts of leap rows, with TAI-UTC: after a leap day and after the last of a February without one, at a month's and a year's end, on
+# days of the drift and before it, far off, and where the calendar ends.
+PLACES = [(day_of(2016, 3), 36), (day_of(2000, 3), 32), (day_of(2100, 3), 37), (day_of(2015, 5), 35), (day_of(2020, 1), 37), (day_of(1966, 1), 4), (day_of(1971, 3), 9), (day_of(1959, 6), 0), (5373484, 37), (-31739, 0), (999999998, 37)]
+
+
+def recorded(rng, count, rows):
+    """The patterns of a run as a recorder writes it: a midnight in jd1 and the fraction of the day in jd2, in even steps within a day or over a midnight of UTC, the day carried
+    into jd1 for the most part. Between them are stamps that are not finite, other divisions and stamps of every kind; some runs are out of order."""
+    start, seconds = rng.choice(rng.choice([FIXED, rows[len(FIXED) :] or FIXED, PLACES]))
+    step = rng.choice([1e-3, 1e-3, 0.1, 1.0, 3000.0]) / DAY
+    first = rng.choice([0, 0, seconds, seconds - 19, seconds + 32.184, rng.uniform(-DAY, DAY)]) / DAY - step * rng.randrange(count + 1)
+    carried = rng.random() < 0.8
+    made = []
+    for i in range(count):
+        at, by = first + i * step, rng.random()
+        days = math.floor(at) if carried else 0
+        midnight, rest = start + days + 0.5, at - days
+        if by < 0.03:
+            made.append((pattern(midnight), dead_pattern(rng)) if rng.random() < 0.7 else (dead_pattern(rng), pattern(rest)))
+        elif by < 0.05:
+            made.append(stamp(rng))
+        else:
+            made.append(tuple(map(pattern, divided(rng, midnight, rest) if by < 0.1 else (midnight, rest))))
+    disorder = rng.random()
+    if disorder < 0.15:
+        rng.shuffle(made)
+    elif disorder < 0.3:
+        for _ in range(count // 10):
+            i, k = rng.randrange(count), rng.randrange(count)
+            made[i], made[k] = made[k], made[i]
+    return made
+
+
+def lists_of(rng, count, rows=FIXED, in_time=None):
+    """The bytes of so many stamps, each by itself or as a recorder writes them, by chance, and the bytes lent for their answers: as many as are due, or some more."""
+    in_time = rng.random() < 0.5 if in_time is None else in_time
+    stamps = recorded(rng, count, rows) if in_time else [stamp(rng) for _ in range(count)]
     firsts, seconds = (b"".join(s[k].to_bytes(8, "little") for s in stamps) for k in (0, 1))
     spare = [rng.choice([0, 0, 1, 7, 8, 40]) for _ in range(3)]
     return firsts, seconds, [8 * count + spare[0], 8 * count + spare[1], count + spare[2]]

@@ -1,45 +1,45 @@
-// A stamp block from standard input and its listing to standard output: what the listing programs share. `io::read_full` and `io::write_all` would do, but hold
-// 4,096 bytes each of their own.
+// A stamp block from a reader and its listing to a writer: what the listing programs share.
+#![tactic(auto)]
+
 ghost use Rattle.io.specs.Counts.{IsPrefixLen};
 ghost use Rattle.block_io.specs.Sent.{SentOf};
 
 use stamps::Reporting;
+use std::io::{Read, Write};
 
 // Through so many bytes the lines go out; a line has at most 33, and 64 where sentences are reported.
 const SCRATCH: usize = 64;
 
 // What came of the input: how many bytes are kept, and whether a read failed.
-#[derive(Drop)]
+#[derive(Clone, Copy)]
 pub struct Kept {
     pub bytes: usize,
     pub failed: bool,
 }
 
 // How many lines of a listing the output took, and whether these are all.
-#[derive(Drop)]
+#[derive(Clone, Copy)]
 pub struct Sent {
     pub lines: usize,
     pub all: bool,
 }
 
 // Reads until `space` is full, the input ends or a read fails.
-pub fn read_block(space: &mut [u8]) -> Kept
+pub fn read_block<R: Read>(input: &mut R, space: &mut [u8]) -> Kept
     ensures { IsPrefixLen result.bytes space.new }
 {
     let mut done = 0;
     while done < space.len() {
-        let got = libc::read(0, &mut space[done..]);
-        if got < 0 {
-            return Kept {
-                bytes: done,
-                failed: true,
-            };
+        match input.read(&mut space[done..]) {
+            Err(_) => {
+                return Kept {
+                    bytes: done,
+                    failed: true,
+                };
+            }
+            Ok(0) => break,
+            Ok(more) => done += more,
         }
-        let more = io::count(got, &space[done..]);
-        if more == 0 {
-            break;
-        }
-        done += more;
     }
     Kept {
         bytes: done,
@@ -48,23 +48,23 @@ pub fn read_block(space: &mut [u8]) -> Kept
 }
 
 // Writes `text`, and answers how many of its bytes the output took: all, unless it takes no more.
-pub fn write_text(text: &[u8]) -> usize
+pub fn write_text<W: Write>(output: &mut W, text: &[u8]) -> usize
     ensures { IsPrefixLen result text.now }
 {
     let mut done = 0;
     while done < text.len() {
         let rest = &text[done..];
-        let put = io::count(libc::write(1, rest), rest);
-        if put == 0 {
-            break;
+        match output.write(rest) {
+            Err(_) => break,
+            Ok(0) => break,
+            Ok(put) => done += put,
         }
-        done += put;
     }
     done
 }
 
 // Writes the listing of a block by the fixed table, part by part through so many bytes. It ends before the last line where the output takes no more.
-pub fn write_listing(reporting: Reporting, block: &[u8]) -> Sent
+pub fn write_listing<W: Write>(output: &mut W, reporting: Reporting, block: &[u8]) -> Sent
     ensures { SentOf block.now result }
 {
     let mut scratch = [0u8; SCRATCH];
@@ -73,7 +73,7 @@ pub fn write_listing(reporting: Reporting, block: &[u8]) -> Sent
     loop {
         let part = stamps::next_part_by_rows(reporting, block, line, table, &mut scratch);
         let written = part.written;
-        if write_text(&scratch[..written]) < written {
+        if write_text(output, &scratch[..written]) < written {
             return Sent {
                 lines: line,
                 all: false,

@@ -1,17 +1,18 @@
--- WORKED ANSWERS IN BYTES, by computation: a date's parts, a calendar date, a zero with its sign, a rule, a refusal, and a table of one announced row, January
--- 2027 with 38 s. Written from docs/DECISIONS.md 24 and document 02, items 5 and 8. Assumes nothing.
-use Prim.Native.Nat.{ℕ, ◌+◌, ◌*◌, ◌/◌, ◌%◌}
+-- WORKED ANSWERS IN BYTES, by computation: a date's parts, a calendar date, a zero with its sign, a rule, a refusal, and a table of one announced row, ten
+-- years after the last fixed one, with a second more. Written from docs/DECISIONS.md 24 and document 02, items 5 and 8. Assumes nothing.
+use Prim.Native.Nat.{ℕ, ◌+◌}
 use mathlib.Core.Path.{◌≡◌, refl}
 use mathlib.Core.List.{List, [], ◌∷◌, ◌++◌}
-use lib.IntN.{ℤ, pos, negsuc}
+use lib.IntN.{pos, negsuc}
 use lib.ListN.{get_or}
 use lib.Ieee.{binary64, of_bits, to_bits, round, add}
-use Rattle.refusals.specs.Outcome.{Outcome, answer, refusal}
+use Rattle.refusals.specs.Outcome.{answer, refusal}
 use Rattle.numerals.specs.little_endian.LittleEndian.{four_at, u32_at, signed32, eight_bytes, pattern_of}
 use Rattle.calendar.specs.Calendar.{date}
 use Rattle.julian.specs.JulianDate.{julian}
 use Rattle.julian.specs.Calendar.{fields}
 use Rattle.leap_table.specs.declared.offsets.Rule.TheVariants.{Whole}
+use Rattle.leap_table.specs.rows.Table.{last_month, last_seconds}
 use Rattle.leap_table.specs.rows.Announced.{table_of}
 use Rattle.c_answers.specs.Fields.{float_bytes, date_bytes, julian_bytes, calendar_bytes}
 use Rattle.c_answers.specs.Delivery.{code}
@@ -59,15 +60,16 @@ lengths-of-a-table = (refl, refl, refl)
 abbrev sixty-four : ℕ → List ℕ
 sixty-four n = eight_bytes n ++ eight_bytes 0 ++ eight_bytes 0 ++ eight_bytes 0 ++ eight_bytes 0 ++ eight_bytes 0 ++ eight_bytes 0 ++ eight_bytes 0
 
--- the two sizes in eight bytes; the month 24324, which is 12 × 2027, and 38 s
+-- the two sizes in eight bytes; the month and the seconds of a row
 abbrev table-of : ℕ → List ℕ
-table-of sizes = eight_bytes sizes ++ sixty-four 24324 ++ sixty-four 38
+table-of sizes = eight_bytes sizes ++ sixty-four (last_month + 120) ++ sixty-four (last_seconds + 1)
 
 abbrev one-row : List ℕ
 one-row = table-of 0x0000_0001_0000_0001
 
-pub row_read : ((record_in one-row).months_size ≡ 1) × ((record_in one-row).seconds_size ≡ 1) × (get_or (record_in one-row).months 0 (pos 0) ≡ pos 24324)
-    × (get_or (record_in one-row).seconds 0 (pos 0) ≡ pos 38)
+pub row_read : ((record_in one-row).months_size ≡ 1) × ((record_in one-row).seconds_size ≡ 1)
+    × (get_or (record_in one-row).months 0 (pos 0) ≡ pos (last_month + 120))
+    × (get_or (record_in one-row).seconds 0 (pos 0) ≡ pos (last_seconds + 1))
 unfolding signed_from u32_at signed32 four_at
 row_read = (refl, refl, refl, refl)
 

@@ -9,7 +9,7 @@ use lib.Ieee.{Float, binary64, fits, of_bits, to_bits}
 use lib.Ieee.Bits.{to_bits-lt, of_bits-to_bits}
 use mir.Syntax.{w32}
 use mir.Val.{SFits}
-use Rattle.numerals.specs.little_endian.LittleEndian.{four_at, u32_at, u64_at, i32_at, signed32, four_bytes, eight_bytes, pattern_of, pattern32}
+use Rattle.numerals.specs.little_endian.LittleEndian.{four_at, u32_at, u64_at, i32_at, four_bytes, pattern_of, pattern32}
 use Rattle.numerals.proofs.little_endian.RoundTrip.{read-written, read-written-4, read-signed-4}
 use Rattle.calendar.specs.declared.CalendarDate.{CalendarDate}
 use Rattle.julian.specs.declared.JulianDate.{JulianDate}

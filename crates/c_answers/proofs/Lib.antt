@@ -2,5 +2,6 @@
 pub mod Deliveries
 pub mod Pieces
 pub mod AnswerCases
+pub mod TableCases
 -- Fields read back from the bytes of an answer, by name.
 pub mod FieldsBack

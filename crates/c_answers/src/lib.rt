@@ -1,4 +1,6 @@
 // Answers for C: a code, and bytes at the start of a lent buffer.
+#![tactic(auto)]
+
 pub mod date_parts;
 pub mod fields;
 pub mod rules;
@@ -26,5 +28,5 @@ pub(crate) fn put(all: &[u8], out: &mut [u8]) -> i64
     if out.len() < all.len() {
         return refused(refusals::NO_ROOM);
     }
-    bytes::copy(all, out) as i64
+    numerals::place::copy(all, out) as i64
 }

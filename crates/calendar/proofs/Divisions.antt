@@ -209,7 +209,8 @@ module _ (l n a i b k : ℕ) (en : n ≡ 4 * l / 146097) (ea : a ≡ l - century
   b-least = b-low a (1461 * i / 4) b eb f-low
 
   pub b-most : b < 396 + extra (leap_size (100 * n + i + 300 + 1))
-  b-most = b-high l b (days_before_year (100 * n + i + 300)) (days_before_year (100 * n + i + 300 + 1)) _ b-is before-next (before-year-next (100 * n + i + 300))
+  b-most = b-high l b (days_before_year (100 * n + i + 300)) (days_before_year (100 * n + i + 300 + 1)) _ b-is before-next
+      (before-year-next (100 * n + i + 300))
 
   p : 2447 * k ≤ 80 * b
   p = subst (λ (j : ℕ). 2447 * j ≤ 80 * b) (sym ek) (k_is b).0

@@ -55,7 +55,8 @@ unfolding leap_size
 before-year-next y = go (eqb ((y + 1) % 400) 0) refl (eqb ((y + 1) % 4) 0) refl (eqb ((y + 1) % 100) 0) refl
   where
     put : (e : ℕ) → (y + 1) / 4 + (y + 1) / 400 + y / 100 ≡ y / 4 + y / 400 + (y + 1) / 100 + e → days_before_year (y + 1) ≡ days_before_year y + 365 + e
-    put e r = sum y (days_before_year y) (days_before_year (y + 1)) (y / 4) (y / 100) (y / 400) ((y + 1) / 4) ((y + 1) / 100) ((y + 1) / 400) e (before-year-is y)
+    put e r = sum y (days_before_year y) (days_before_year (y + 1)) (y / 4) (y / 100) (y / 400) ((y + 1) / 4) ((y + 1) / 100) ((y + 1) / 400) e
+        (before-year-is y)
         (before-year-is (y + 1)) r
 
     z400 : eqb ((y + 1) % 400) 0 ≡ true → (y + 1) % 400 ≡ 0

@@ -41,7 +41,8 @@ raised_year z e =
     let s = ap nat_abs r.is in
     (ap pos s ∙ sym r.is, omega (arith, s, r.low))
 
-pub day-of-date : (y m d : ℤ) → valid_date y m d ≡ answer tt → (k : ℕ) × (mjd_number y m d ≡ pos k -ℤ pos 2578142) × (date_at k ≡ date y (nat_abs m) (nat_abs d))
+pub day-of-date : (y m d : ℤ) → valid_date y m d ≡ answer tt → (k : ℕ) × (mjd_number y m d ≡ pos k -ℤ pos 2578142) ×
+    (date_at k ≡ date y (nat_abs m) (nat_abs d))
 unfolding mjd_number
 day-of-date y m d z =
     let a = date-accepted y m d z in

@@ -1,5 +1,7 @@
 // The calendar of ISO 8601 by whole numbers: which dates there are, the next day, and day numbers both ways. From scales/common.rs's calendar half, the
 // integers of `calendar_to_julian`, and `gregorian_date`.
+#![tactic(auto)]
+
 ghost use Rattle.std.specs.Prelude.{◌≡◌, false, ◌<◌, ◌≤◌, pos, negsuc, ◌+ℤ◌, ◌-ℤ◌};
 ghost use Rattle.std.specs.Int.Signed.{lt_z};
 ghost use Rattle.calendar.specs.Calendar.{leap_year, month_length, days_in_month};
@@ -9,7 +11,7 @@ ghost use Rattle.calendar.specs.Gregorian.{gregorian_date, shifted_date};
 ghost use Rattle.calendar.specs.Answers.{check_outcome, mjd_outcome, next_outcome};
 
 // A date of the proleptic Gregorian calendar.
-#[derive(Drop)]
+#[derive(Clone, Copy)]
 pub struct CalendarDate {
     pub year: i32,
     pub month: u32,
@@ -17,21 +19,21 @@ pub struct CalendarDate {
 }
 
 // Whether a year, month and day are a date, or the number of the refusal.
-#[derive(Drop)]
+#[derive(Clone, Copy)]
 pub enum DateCheck {
     Valid,
     Refused(u32),
 }
 
 // The next date, or the number of the refusal.
-#[derive(Drop)]
+#[derive(Clone, Copy)]
 pub enum NextDay {
     Date(CalendarDate),
     Refused(u32),
 }
 
 // The Modified Julian Date of a date at midnight, or the number of the refusal.
-#[derive(Drop)]
+#[derive(Clone, Copy)]
 pub enum MjdAnswer {
     Mjd(i64),
     Refused(u32),

@@ -11,7 +11,10 @@ pub mod Walks
 pub mod Ticks
 pub mod Places
 pub mod Runs
+pub mod RunBytes
 pub mod Millis
 pub mod RunTexts
 pub mod laws
 pub mod Lists
+pub mod Summaries
+pub mod LineListings

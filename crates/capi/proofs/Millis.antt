@@ -8,7 +8,7 @@ use lib.Signed.{mag}
 use mir.Syntax.{w64}
 use mir.Val.{to_z, of_z}
 use mir.Facts.{to_z_pos}
-use Rattle.refusals.specs.Outcome.{answer, refusal}
+use Rattle.refusals.specs.Outcome.{refusal}
 use Rattle.julian.specs.declared.JulianDate.{JulianDate}
 use Rattle.since_launch.specs.declared.RunMillis.{RunMillis}
 use Rattle.since_launch.specs.declared.RunMillis.TheVariants.{Written, Refused}
@@ -19,7 +19,8 @@ use Rattle.c_answers.proofs.Deliveries.{code-back}
 use Rattle.capi.specs.MillisDelivery.{MillisDelivered}
 
 -- a call that ends so is delivered by its code
-ended : (c : MillisCall) (res : RunMillis) (r : ℤ) (out numbers : List ℕ) → millis_call (run_millis_outcome res) out numbers ≡ c → r ≡ code (run_millis_outcome res)
+ended : (c : MillisCall) (res : RunMillis) (r : ℤ) (out numbers : List ℕ) → millis_call (run_millis_outcome res) out numbers ≡ c → r ≡ code
+    (run_millis_outcome res)
     → MillisDelivered c r out numbers
 ended c res r out numbers e h = record {
   returned = h ∙ ap (λ (x : MillisCall). code x.answer) e;

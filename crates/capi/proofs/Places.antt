@@ -8,7 +8,7 @@ use lib.Signed.{mag}
 use mir.Syntax.{w64}
 use mir.Val.{to_z, of_z}
 use mir.Facts.{to_z_pos}
-use Rattle.refusals.specs.Outcome.{answer, refusal}
+use Rattle.refusals.specs.Outcome.{refusal}
 use Rattle.ticks.specs.declared.places.PlacesAnswer.{PlacesAnswer}
 use Rattle.ticks.specs.declared.places.PlacesAnswer.TheVariants.{Written, Refused}
 use Rattle.ticks.specs.places.Places.{PlacesCall, places_outcome, places_call, placed_run}

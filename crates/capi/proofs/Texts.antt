@@ -47,7 +47,8 @@ module _ {o : Outcome (List ℕ)} {l out : List ℕ} {res : TextAnswer} (p : Tex
   text_refused n ok i e = record { returned = code-back ok ∙ e ∙ ap code (sym (ap text_outcome i) ∙ p.says); holds = p.holds }
 
 -- handed on by another call
-pub delivered_on : {o o' : Outcome (List ℕ)} {l out : List ℕ} {r : ℤ} → mag r < 2 ^ 63 → o ≡ o' → Delivered o l r out → Delivered o' l (to_z w64 (of_z w64 r)) out
+pub delivered_on : {o o' : Outcome (List ℕ)} {l out : List ℕ} {r : ℤ} → mag r < 2 ^ 63 → o ≡ o' → Delivered o l r out → Delivered o' l
+    (to_z w64 (of_z w64 r)) out
 delivered_on {o} {o'} {l} {out} {r} ok e p = record { returned = code-back ok ∙ moved.returned; holds = moved.holds }
   where
     moved : Delivered o' l r out

@@ -5,7 +5,7 @@ use Rattle.std.specs.Prelude.{ℕ, zero, suc, ◌+◌, ◌≡◌, List, cond, eq
 use Rattle.refusals.specs.Outcome.{Outcome, answer, refusal}
 use Rattle.numerals.specs.little_endian.LittleEndian.{with_u32, with_nth32}
 use Rattle.leap_table.specs.declared.rows.AnnouncedRows.{AnnouncedRows}
-use Rattle.leap_table.specs.rows.Announced.{natural}
+use Rattle.leap_table.specs.rows.Announced.{natural, least}
 use Rattle.leap_lists.specs.declared.ListAnswer.{ListAnswer}
 use Rattle.c_answers.specs.Delivery.{code}
 
@@ -29,6 +29,10 @@ rows_read a m n =
 unfoldable pub where_read : Outcome ℕ → List ℕ → List ℕ → List ℕ
 where_read (answer n) new old = new
 where_read (refusal k) new old = old
+
+-- the line at fault, 0 where the text is read: as far as 63 bits number lines
+unfoldable pub fault_line : ListAnswer → ℤ
+fault_line a = pos (least a.line 9223372036854775807)
 
 pub record TableRead (a : ListAnswer) (table known : List ℕ) (r : ℤ) (table-after known-after : List ℕ) : Type 0 where
   pub returned : r ≡ code (rows_read a (length table) (length known))

@@ -1,8 +1,7 @@
 // Announced leap rows that are read from a text, as the table that other calls are lent.
-ghost use Rattle.std.specs.Prelude.{◌≡◌, ◌<◌, pos};
-ghost use Rattle.leap_table.specs.rows.Announced.{least};
+ghost use Rattle.std.specs.Prelude.{◌≡◌, ◌<◌};
 ghost use Rattle.leap_lists.specs.Reading.{read_of};
-ghost use Rattle.capi.specs.ListDelivery.{put_to, with_table, TableRead};
+ghost use Rattle.capi.specs.ListDelivery.{put_to, with_table, fault_line, TableRead};
 
 use c_answers::refused;
 use leap_table::rows::AnnouncedRows;
@@ -52,7 +51,7 @@ pub extern "C" fn ct_read_table(text: &[u8], table: &mut [u8], known: &mut [u8])
 // The line at fault, counted from 1; 0 where the text is read.
 #[unsafe(no_mangle)]
 pub extern "C" fn ct_table_fault(text: &[u8]) -> i64
-    ensures { result ≡ pos (least (read_of text.now).line 9223372036854775807) }
+    ensures { result ≡ fault_line (read_of text.now) }
 {
     let line = leap_lists::read(text).line;
     if line <= 9_223_372_036_854_775_807 {

@@ -1,5 +1,7 @@
-// The constants of the conversions, under the Rust's names and in its order of operations. They are those of constants.rs but the table of TAI-UTC and the
-// series FAIRHD, and those of celestial_core that the files of the scope read.
+// The constants of the conversions, under the Rust's names. Each is computed in the Rust's order of operations. They are those
+// of constants.rs but the table of TAI-UTC and the series FAIRHD, and those of celestial_core that the files of the scope read.
+#![tactic(auto)]
+
 ghost use Rattle.std.specs.Prelude.{◌≡◌, get_or};
 ghost use Rattle.std.specs.Float.{nan};
 ghost use Rattle.constants.specs.Constants.{in_order};

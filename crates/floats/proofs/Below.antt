@@ -1,5 +1,7 @@
 -- Floor by trunc and a comparison: where x is below its whole part, one more comes off. And ceil: floor with the sign turned twice.
-use Rattle.std.proofs.Common.{◌≡◌, ℕ, zero, suc, ◌+◌, ◌*◌, ◌/◌, ◌%◌, ◌^◌, ◌<◌, ◌≤◌, Bool, true, false, cond, not, T, ltb, ℤ, pos, sym, refl, ap, ◌∙◌, subst, true≢false, lt_of_lt_of_le, lt_irrefl, mod-lt, zero-lt-suc, add-mul, lt_of_mul-lt-mul_right, mul-pos, one-mul, div-add-mod', mul-one, mul_right_comm, div-mul-le_self, le_of_mul-le-mul_right, arith, ltb→lt, nltb→le}
+use Rattle.std.proofs.Common.{◌≡◌, ℕ, zero, suc, ◌+◌, ◌*◌, ◌/◌, ◌%◌, ◌^◌, ◌<◌, ◌≤◌, Bool, true, false, cond, not, T, ltb, ℤ, pos, sym, refl, ap, ◌∙◌, subst}
+use Rattle.std.proofs.Common.{true≢false, lt_of_lt_of_le, lt_irrefl, mod-lt, zero-lt-suc, add-mul, lt_of_mul-lt-mul_right, mul-pos, one-mul, div-add-mod'}
+use Rattle.std.proofs.Common.{mul-one, mul_right_comm, div-mul-le_self, le_of_mul-le-mul_right, arith, ltb→lt, nltb→le}
 use mathlib.Core.Bool.{false≢true}
 use native.Mathlib.Nat.{div-eq_of_lt-le}
 use lib.Ieee.{Float, nan, inf, fin, binary64, up, down, odd, units, round, fits, lt, sub, add, sum, neg}

@@ -37,7 +37,8 @@ round_under_half = refl
 
 -- ---- the ends of the format: the largest negative float, the negative one nearest to zero, an infinity, a NaN
 floor_ends : (to_whole downward (of_bits binary64 0xffef_ffff_ffff_ffff) ≡ of_bits binary64 0xffef_ffff_ffff_ffff)
-    × (to_whole downward (of_bits binary64 0x8000_0000_0000_0001) ≡ fin true 1 (pos 0)) × (to_whole downward (inf true) ≡ inf true) × (to_whole downward nan ≡ nan)
+    × (to_whole downward (of_bits binary64 0x8000_0000_0000_0001) ≡ fin true 1 (pos 0)) × (to_whole downward (inf true) ≡ inf true) ×
+    (to_whole downward nan ≡ nan)
 unfolding to_whole of_bits
 floor_ends = (refl, refl, refl, refl)
 
@@ -67,6 +68,7 @@ nan_written : to_bits binary64 nan ≡ 0x7ff8_0000_0000_0000
 unfolding to_bits
 nan_written = refl
 
-nan_read : (of_bits binary64 0x7ff0_0000_0000_0001 ≡ nan) × (of_bits binary64 0xfff8_0000_0000_0000 ≡ nan) × (of_bits binary64 0x7ff0_0000_0000_0000 ≡ inf false)
+nan_read : (of_bits binary64 0x7ff0_0000_0000_0001 ≡ nan) × (of_bits binary64 0xfff8_0000_0000_0000 ≡ nan) ×
+    (of_bits binary64 0x7ff0_0000_0000_0000 ≡ inf false)
 unfolding of_bits
 nan_read = (refl, refl, refl)

@@ -1,5 +1,6 @@
 -- The saturating cast outside the range of an i64: its last number from 2 ^ 63 on, its first below -2 ^ 63, and 0 for a NaN.
-use Rattle.std.proofs.Common.{◌≡◌, ℕ, ◌+◌, ◌*◌, ◌/◌, ◌^◌, ◌<◌, ◌≤◌, min, Bool, true, false, not, ◌||◌, T, ltb, pos, negsuc, neg_ℤ, refl, ap, subst, le-div_iff_mul-le, mul-one, arith, ltb→lt, lt→ltb, nltb→le, T_not}
+use Rattle.std.proofs.Common.{◌≡◌, ℕ, ◌+◌, ◌*◌, ◌/◌, ◌^◌, ◌<◌, ◌≤◌, min, Bool, true, false, not, ◌||◌, T, ltb, pos, negsuc, neg_ℤ, refl, ap, subst}
+use Rattle.std.proofs.Common.{le-div_iff_mul-le, mul-one, arith, ltb→lt, lt→ltb, nltb→le, T_not}
 use lib.Ieee.{Float, nan, inf, fin, up, down, lt, eq, le, to_signed}
 use lib.Ieee.Fits.{down_pos}
 

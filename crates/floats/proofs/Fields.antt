@@ -1,6 +1,9 @@
 -- A bit pattern by its fields, and the value of a pattern that has its last k digits cut off after a number below 2 ^ k was added: the carry may run into the
 -- exponent's field.
-use Rattle.std.proofs.Common.{◌≡◌, ℕ, suc, ◌+◌, ◌-◌, ◌*◌, ◌/◌, ◌%◌, ◌^◌, ◌<◌, ◌≤◌, Bool, true, false, cond, not, T, eqb, leb, ◌⊎◌, sym, refl, ap, ◌∙◌, subst, inl, inr, le_trans, le_of_eq, lt_of_lt_of_le, le_of_suc-le-suc, add-zero, add_assoc, mul-le-mul_right, mod-lt, mul_assoc, suc-mul, div-lt_iff_lt-mul, add-mul, eq-or-lt_of_le, one-mul, div-add-mod', le-div_iff_mul-le, mul-one, mul_right_comm, arith, le→leb, eqb→eq, leb→le, pow_pos, pow-add}
+use Rattle.std.proofs.Common.{◌≡◌, ℕ, suc, ◌+◌, ◌-◌, ◌*◌, ◌/◌, ◌%◌, ◌^◌, ◌<◌, ◌≤◌, Bool, true, false, cond, not, T, eqb, leb, ◌⊎◌, sym, refl, ap, ◌∙◌, subst}
+use Rattle.std.proofs.Common.{inl, inr, le_trans, le_of_eq, lt_of_lt_of_le, le_of_suc-le-suc, add-zero, add_assoc, mul-le-mul_right, mod-lt, mul_assoc, suc-mul}
+use Rattle.std.proofs.Common.{div-lt_iff_lt-mul, add-mul, eq-or-lt_of_le, one-mul, div-add-mod', le-div_iff_mul-le, mul-one, mul_right_comm, arith, le→leb}
+use Rattle.std.proofs.Common.{eqb→eq, leb→le, pow_pos, pow-add}
 use native.Mathlib.Nat.{mul-add-div_right, eq_of_mul-eq-mul_right}
 use native.Mathlib.Nat.{pow-succ'}
 use lib.Arith.{digits_div, digits_mod}

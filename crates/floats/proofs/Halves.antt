@@ -1,5 +1,6 @@
 -- The nearest whole number by bits: a half of the unit added to the pattern before the digits below the unit are cut off, and 1 from a half up to 1.
-use Rattle.std.proofs.Common.{◌≡◌, ℕ, suc, ◌+◌, ◌-◌, ◌*◌, ◌/◌, ◌%◌, ◌^◌, ◌<◌, ◌≤◌, Bool, true, false, not, T, sym, refl, ap, ◌∙◌, subst, le-add_right, mul-le-mul_right, zero-lt-suc, one-mul, mul-add, arith, lit<, le→leb, pow_pos, shl_lt, shl_exact}
+use Rattle.std.proofs.Common.{◌≡◌, ℕ, suc, ◌+◌, ◌-◌, ◌*◌, ◌/◌, ◌%◌, ◌^◌, ◌<◌, ◌≤◌, Bool, true, false, not, T, sym, refl, ap, ◌∙◌, subst, le-add_right}
+use Rattle.std.proofs.Common.{mul-le-mul_right, zero-lt-suc, one-mul, mul-add, arith, lit<, le→leb, pow_pos, shl_lt, shl_exact}
 use native.Mathlib.Nat.{mul-div-mul_left, div-eq_of_lt, div-eq_of_lt-le, pow-succ'}
 use lib.Arith.{lt→nleb}
 use lib.Pow.{pow-lt}

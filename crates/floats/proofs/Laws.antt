@@ -1,6 +1,9 @@
 -- The result of a rounding is the whole number itself: `exact`, over every finite float and each of the four roundings; and what the callers of `floats` cite
 -- beside it.
-use Rattle.std.proofs.Common.{◌≡◌, ℕ, zero, suc, ◌+◌, ◌-◌, ◌*◌, ◌/◌, ◌%◌, ◌^◌, ◌<◌, ◌≤◌, Bool, true, false, not, ◌&&◌, T, eqb, ltb, leb, ℤ, pos, negsuc, sym, refl, ap, ◌∙◌, subst, true≢false, le_trans, le_of_eq, le_of_suc-le-suc, add-zero, le_of_lt, mul-le-mul_right, zero-lt-suc, mul_assoc, mul_comm, div-lt_iff_lt-mul, add-mul, mul-pos, mul-one, mul_right_comm, le_of_mul-le-mul_right, div-one, mul_left_comm, arith, lit<, ltb→lt, pow_pos, pow-add, shl_lt}
+use Rattle.std.proofs.Common.{◌≡◌, ℕ, zero, suc, ◌+◌, ◌-◌, ◌*◌, ◌/◌, ◌%◌, ◌^◌, ◌<◌, ◌≤◌, Bool, true, false, not, ◌&&◌, T, eqb, ltb, leb, ℤ, pos, negsuc, sym}
+use Rattle.std.proofs.Common.{refl, ap, ◌∙◌, subst, true≢false, le_trans, le_of_eq, le_of_suc-le-suc, add-zero, le_of_lt, mul-le-mul_right, zero-lt-suc}
+use Rattle.std.proofs.Common.{mul_assoc, mul_comm, div-lt_iff_lt-mul, add-mul, mul-pos, mul-one, mul_right_comm, le_of_mul-le-mul_right, div-one, mul_left_comm}
+use Rattle.std.proofs.Common.{arith, lit<, ltb→lt, pow_pos, pow-add, shl_lt}
 use native.Mathlib.Nat.{mul-mul-mul_comm}
 use lib.Ieee.{Float, nan, inf, fin, binary64, up, down, round, fits, is_nan, ne}
 use lib.Ieee.Fits.{and_l, and_r, down_pos, round-fits}

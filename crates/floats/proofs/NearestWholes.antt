@@ -1,5 +1,6 @@
 -- `nearest_whole`, range by range: from 0.5 on it is a + 0.5 down to a whole number (UnitSums), and below 0.5 in size it is zero.
-use Rattle.std.proofs.Common.{◌≡◌, ℕ, ◌+◌, ◌*◌, ◌^◌, ◌<◌, ◌≤◌, Bool, true, false, cond, ◌&&◌, ◌||◌, T, eqb, ltb, pos, sym, refl, ap, ◌∙◌, subst, true≢false, le_of_eq, le_of_lt, mul-pos, arith, lit<, eqb→eq, ltb→lt, lt→ltb, ltb-false, le-ltb, lt-ltb}
+use Rattle.std.proofs.Common.{◌≡◌, ℕ, ◌+◌, ◌*◌, ◌^◌, ◌<◌, ◌≤◌, Bool, true, false, cond, ◌&&◌, ◌||◌, T, eqb, ltb, pos, sym, refl, ap, ◌∙◌, subst, true≢false}
+use Rattle.std.proofs.Common.{le_of_eq, le_of_lt, mul-pos, arith, lit<, eqb→eq, ltb→lt, lt→ltb, ltb-false, le-ltb, lt-ltb}
 use mathlib.Core.Bool.{false≢true}
 use lib.Ieee.{Float, nan, inf, fin, binary64, up, down, neg, add, sub, sum, lt, eq, le}
 use lib.Ieee.Fits.{down_pos}

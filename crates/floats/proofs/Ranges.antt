@@ -1,6 +1,8 @@
 -- What the code of `trunc` and of `round` makes of a pattern, range by range of the exponent's field: from 2 ^ 52 on the float itself, near zero a zero, and
 -- between them the pattern with its last digits cut off.
-use Rattle.std.proofs.Common.{◌≡◌, ℕ, zero, suc, ◌+◌, ◌-◌, ◌*◌, ◌/◌, ◌%◌, ◌^◌, ◌<◌, ◌≤◌, Bool, true, false, cond, not, T, eqb, pos, sym, refl, ap, ◌∙◌, subst, lt_of_lt_of_le, le_of_suc-le-suc, le-add_right, lt_of_le_of_lt, mod-eq_of_lt, mul_assoc, mul_comm, mul-le-mul, div-mul-le_self, arith, leb→le, pow_pos, pow_mono, pow-add, shl_lt}
+use Rattle.std.proofs.Common.{◌≡◌, ℕ, zero, suc, ◌+◌, ◌-◌, ◌*◌, ◌/◌, ◌%◌, ◌^◌, ◌<◌, ◌≤◌, Bool, true, false, cond, not, T, eqb, pos, sym, refl, ap, ◌∙◌, subst}
+use Rattle.std.proofs.Common.{lt_of_lt_of_le, le_of_suc-le-suc, le-add_right, lt_of_le_of_lt, mod-eq_of_lt, mul_assoc, mul_comm, mul-le-mul, div-mul-le_self}
+use Rattle.std.proofs.Common.{arith, leb→le, pow_pos, pow_mono, pow-add, shl_lt}
 use lib.Dec.{nleb→lt}
 use lib.Bits.{bit_and, and_high}
 use lib.Ieee.{Float, nan, inf, fin, binary64, odd, round, fits, is_nan, of_fields, of_bits, to_bits, nan_bits}

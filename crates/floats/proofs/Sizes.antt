@@ -1,5 +1,6 @@
 -- `size` is |x| but for the sign of a zero, and no comparison sees that sign: a comparison of sizes is one of absolute values.
-use Rattle.std.proofs.Common.{◌≡◌, ℕ, zero, suc, ◌+◌, ◌*◌, ◌<◌, Bool, true, false, cond, ◌&&◌, ◌||◌, eqb, ltb, ℤ, sym, refl, ap, ◌∙◌, subst, add-zero, zero-lt-suc, mul-pos, zero-add, arith, le-ltb, lt-ltb}
+use Rattle.std.proofs.Common.{◌≡◌, ℕ, zero, suc, ◌+◌, ◌*◌, ◌<◌, Bool, true, false, cond, ◌&&◌, ◌||◌, eqb, ltb, ℤ, sym, refl, ap, ◌∙◌, subst, add-zero}
+use Rattle.std.proofs.Common.{zero-lt-suc, mul-pos, zero-add, arith, le-ltb, lt-ltb}
 use lib.Ieee.{Float, nan, inf, fin, up, down, neg, lt, eq, le}
 use lib.Ieee.Fits.{up_pos, down_pos}
 use Rattle.floats.specs.Whole.{abs}

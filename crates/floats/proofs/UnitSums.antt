@@ -1,6 +1,10 @@
 -- A sum from 2 ^ 52 to 2 ^ 53 is rounded to a whole number next to it: the one below it or the one above. With 2 ^ 52 taken off again that is a whole number
 -- next to t, and where it is above t the one before is t down to a whole number.
-use Rattle.std.proofs.Common.{◌≡◌, ℕ, suc, ◌+◌, ◌-◌, ◌*◌, ◌/◌, ◌%◌, ◌^◌, ◌<◌, ◌≤◌, Bool, true, false, cond, T, ltb, ℤ, pos, sym, ap, ◌∙◌, subst, true≢false, le_trans, le_of_eq, lt_of_lt_of_le, lt_of_le_of_lt, le_of_lt, mul-le-mul_right, zero-lt-suc, mul_assoc, mul_comm, div-lt_iff_lt-mul, lt_of_mul-lt-mul_right, mul-lt-mul_of_pos_right, one-mul, lt_of_not-le, le-div_iff_mul-le, mul-one, mul_right_comm, not-le_of_lt, div-mul-le_self, le_of_mul-le-mul_right, arith, lit<, lit≤, le→leb, ltb→lt, nltb→le, pow_pos, pow_mono, shl_lt, le-ltb}
+use Rattle.std.proofs.Common.{◌≡◌, ℕ, suc, ◌+◌, ◌-◌, ◌*◌, ◌/◌, ◌%◌, ◌^◌, ◌<◌, ◌≤◌, Bool, true, false, cond, T, ltb, ℤ, pos, sym, ap, ◌∙◌, subst, true≢false}
+use Rattle.std.proofs.Common.{le_trans, le_of_eq, lt_of_lt_of_le, lt_of_le_of_lt, le_of_lt, mul-le-mul_right, zero-lt-suc, mul_assoc, mul_comm}
+use Rattle.std.proofs.Common.{div-lt_iff_lt-mul, lt_of_mul-lt-mul_right, mul-lt-mul_of_pos_right, one-mul, lt_of_not-le, le-div_iff_mul-le, mul-one}
+use Rattle.std.proofs.Common.{mul_right_comm, not-le_of_lt, div-mul-le_self, le_of_mul-le-mul_right, arith, lit<, lit≤, le→leb, ltb→lt, nltb→le, pow_pos}
+use Rattle.std.proofs.Common.{pow_mono, shl_lt, le-ltb}
 use mathlib.Core.Bool.{false≢true}
 use Prim.Native.Nat.{compare, Ordering}
 use native.Mathlib.Nat.{mul-sub}

@@ -1,5 +1,7 @@
-// |x| and the four roundings to a whole number by the float's bits; the saturating cast, the finite test, a comparison of sizes, and bit patterns.
+// Roundings to a whole number, casts and tests by a float's bits.
 // Each takes every f64. A NaN has no pattern here (there is one NaN), so what reads the bits asks for it first, by `x != x`.
+#![tactic(auto)]
+
 ghost use Rattle.std.specs.Prelude.{◌≡◌, from_bits, to_bits};
 ghost use Rattle.std.specs.Float.{binary64};
 ghost use Rattle.std.specs.Float.Ieee.{to_signed, lt, le};
@@ -20,7 +22,7 @@ const ALL_WHOLE: u64 = 1075;
 const TWO_52: f64 = 4503599627370496.0;
 
 // A whole number as a float and as an integer.
-#[derive(Drop)]
+#[derive(Clone, Copy)]
 pub struct NearestWhole {
     pub value: f64,
     pub number: i64,

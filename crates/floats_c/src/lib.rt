@@ -1,4 +1,6 @@
 // The functions of `floats` for C, with the same contracts: tests/floats compares them with the C library.
+#![tactic(auto)]
+
 ghost use Rattle.std.specs.Prelude.{◌≡◌};
 ghost use Rattle.std.specs.Float.{binary64};
 ghost use Rattle.std.specs.Float.Ieee.{of_bits, to_bits, to_signed};

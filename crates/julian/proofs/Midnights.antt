@@ -62,7 +62,8 @@ mjd-in-42-bits y m d n f e =
     let r = raised y 4798 4800 2147483647 (lit≤ tt) a.year (at_most_i32 y f) in
     let h : nat_abs (y +ℤ pos 4800) ≤ 2147488447 = subst (λ (z : ℤ). nat_abs z ≤ 2147488447) (sym r.is) r.high in
     let k : nat_abs d ≤ 31 = le_trans a.d_high (short (leap_year y) (nat_abs m) a.m_low a.m_high) in
-    let c : civil_count (nat_abs (y +ℤ pos 4800)) (nat_abs m) (nat_abs d) ≤ 2 ^ 41 = count_small (nat_abs (y +ℤ pos 4800)) (nat_abs m) (nat_abs d) h a.m_high k in
+    let c : civil_count (nat_abs (y +ℤ pos 4800)) (nat_abs m) (nat_abs d) ≤ 2 ^ 41 = count_small (nat_abs (y +ℤ pos 4800)) (nat_abs m)
+    (nat_abs d) h a.m_high k in
     subst (λ (z : ℤ). mag z < 2 ^ 42) (sym w.is)
     (lowered (civil_count (nat_abs (y +ℤ pos 4800)) (nat_abs m) (nat_abs d)) 2432076 (2 ^ 42) (omega arith) (lit< tt))
 

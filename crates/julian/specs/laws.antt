@@ -5,3 +5,5 @@ pub mod CalendarAnswers
 pub mod Distances
 -- Nan: which dates have a NaN.
 pub mod Nan
+-- Calls: when the calendar call refuses, and what it answers for every division of a date and there and back.
+pub mod Calls

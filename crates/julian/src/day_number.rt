@@ -6,35 +6,35 @@ ghost use Rattle.julian.specs.day_number.Sums.{Sums};
 ghost use Rattle.floats.specs.NearestWhole.{nearest_whole};
 
 // A civil day by its Julian Day number, and the fraction of it since its midnight, from 0.0 to below 1.0.
-#[derive(Drop)]
+#[derive(Clone, Copy)]
 pub struct DayNumber {
     pub day: i64,
     pub fraction: f64,
 }
 
 // The day and the fraction, or a refusal by number.
-#[derive(Drop)]
+#[derive(Clone, Copy)]
 pub enum DayAnswer {
     Day(DayNumber),
     Refused(u32),
 }
 
 // A compensated sum and its correction.
-#[derive(Drop)]
+#[derive(Clone, Copy)]
 struct Kahan {
     sum: f64,
     correction: f64,
 }
 
 // The days carried out of a sum, and the sum.
-#[derive(Drop)]
+#[derive(Clone, Copy)]
 struct Summed {
     carry: u64,
     kahan: Kahan,
 }
 
 // The days borrowed for a sum, the sum with them, and the fraction that it comes to.
-#[derive(Drop)]
+#[derive(Clone, Copy)]
 struct Borrowed {
     borrow: u64,
     kahan: Kahan,
@@ -42,14 +42,14 @@ struct Borrowed {
 }
 
 // The days carried out of a fraction, and the fraction.
-#[derive(Drop)]
+#[derive(Clone, Copy)]
 struct Carried {
     carry: u64,
     fraction: f64,
 }
 
 // The days carried and borrowed, and the fraction.
-#[derive(Drop)]
+#[derive(Clone, Copy)]
 struct Normalized {
     carry: u64,
     borrow: u64,

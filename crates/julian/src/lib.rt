@@ -1,4 +1,6 @@
 // Two-part Julian dates: from the calendar and Unix time and back, equality, difference, each operation in the Rust's order.
+#![tactic(auto)]
+
 ghost use Rattle.std.specs.Prelude.{◌≡◌};
 ghost use Rattle.floats.specs.Whole.{nought};
 ghost use Rattle.constants.specs.Constants.{j2000_jd, unix_epoch_jd};
@@ -17,49 +19,49 @@ pub mod shifts;
 pub mod stamp_lists;
 
 // A Julian date: two floats whose exact sum is the date in days.
-#[derive(Drop)]
+#[derive(Clone, Copy)]
 pub struct JulianDate {
     pub jd1: f64,
     pub jd2: f64,
 }
 
 // A date, or the number of the refusal.
-#[derive(Drop)]
+#[derive(Clone, Copy)]
 pub enum JulianAnswer {
     Date(JulianDate),
     Refused(u32),
 }
 
 // The fraction of a day, or the number of the refusal.
-#[derive(Drop)]
+#[derive(Clone, Copy)]
 pub enum FractionAnswer {
     Fraction(f64),
     Refused(u32),
 }
 
 // An offset, or the number of the refusal.
-#[derive(Drop)]
+#[derive(Clone, Copy)]
 pub enum OffsetAnswer {
     Offset(f64),
     Refused(u32),
 }
 
 // A calendar date, and the part of its day that has passed.
-#[derive(Drop)]
+#[derive(Clone, Copy)]
 pub struct CalendarFields {
     pub date: calendar::CalendarDate,
     pub fraction: f64,
 }
 
 // A date and fraction, or the number of the refusal.
-#[derive(Drop)]
+#[derive(Clone, Copy)]
 pub enum CalendarAnswer {
     Fields(CalendarFields),
     Refused(u32),
 }
 
 // A rounded sum, and what the rounding lost.
-#[derive(Drop)]
+#[derive(Clone, Copy)]
 pub struct ExactSum {
     pub sum: f64,
     pub error: f64,

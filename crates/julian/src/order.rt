@@ -4,7 +4,7 @@ ghost use Rattle.julian.specs.order.Order as O;
 ghost use Rattle.julian.specs.order.Places as P;
 
 // Whether one date is before another, or the number of the refusal.
-#[derive(Drop)]
+#[derive(Clone, Copy)]
 pub enum OrderAnswer {
     Before,
     Equal,

@@ -3,7 +3,7 @@ ghost use Rattle.std.specs.Prelude.{◌≡◌};
 ghost use Rattle.julian.specs.same_stamps.Same.{same};
 
 // A stamp as it was recorded: its scale, and the bit patterns of its two parts. Not floats, because a float here does not tell one NaN from another.
-#[derive(Drop)]
+#[derive(Clone, Copy)]
 pub struct Stamp {
     pub scale: u32,
     pub jd1: u64,

@@ -65,7 +65,8 @@ module _ (n y m : ℕ) (e : n ≡ month_of y m) (l : 23520 ≤ n) (h : n < 23664
       subst Step (same-three _ _ _ _ _ _ (quick_drift n j nought l h) (quick_drift n j half l h) (quick_any (suc n) (suc_ℤ j) nought (omega arith)))
       (test_is _ _ _ t)
 
-  drift-day : (d : ℕ) → d < 31 → Step (offsets_of_day fixed n (cond (ltb (suc d) (lengths (leap_size y) m)) n (suc n)) (mjd_number (pos y) (pos m) (pos (suc d))))
+  drift-day : (d : ℕ) → d < 31 → Step (offsets_of_day fixed n (cond (ltb (suc d) (lengths (leap_size y) m)) n (suc n))
+      (mjd_number (pos y) (pos m) (pos (suc d))))
   drift-day d g = real (ltb (suc d) (lengths (leap_size y) m)) (mjd_number (pos y) (pos m) (pos (suc d))) (at_day d g)
 
 -- ---- before 1960, and 1959-12-31
@@ -81,7 +82,8 @@ before n n' j h h' =
     (before_1960 n' (of_int binary64 (suc_ℤ j)) nought h'))) none
 
 pub last_of_1959 : Both (offsets_of_day fixed 23519 23520 (mjd_number (pos 1959) (pos 12) (pos 31))) leap1959
-unfolding leap_of leap_amount drift_rate offsets_of_day offset_at offset_by by_row seconds_of start_of rate_of mjd_number civil_count fixed reached round add sub mul of_int
+unfolding leap_of leap_amount drift_rate offsets_of_day offset_at offset_by by_row seconds_of start_of rate_of mjd_number civil_count fixed reached round add
+    sub mul of_int
 last_of_1959 = (refl, refl)
 
 -- ---- the leap of a day before 1972, by its date

@@ -337,7 +337,8 @@ drift-formula y m d f x l h g e =
     let k = reached (starts fixed) N in
     let o = one-row N (omega (arith, a.m_low)) in
     let w = drift-rows N (omega (arith, a.m_high)) in
-    let z = drifting k (of_int binary64 (pos j)) f o (omega (arith, o, w)) (seconds_of (row_at k)) (start_of (row_at k)) (rate_of (row_at k)) refl refl refl in (
+    let z =
+    drifting k (of_int binary64 (pos j)) f o (omega (arith, o, w)) (seconds_of (row_at k)) (start_of (row_at k)) (rate_of (row_at k)) refl refl refl in (
       j,
       p ∙ ap answer i,
       subst (λ (t : Float). NearFormula (row_at k) j f t) (z ∙ sym (q ∙ ap (λ (t : ℤ). offset_by fixed k (of_int binary64 t) f) i))

@@ -5,8 +5,8 @@ use mathlib.Core.Bool.{Bool, true, false, not, cond, ◌&&◌, ◌||◌}
 use mathlib.Core.List.{List, [], ◌∷◌, map}
 use Prim.Native.Nat.{ℕ, suc, ◌+◌, ◌-◌, ◌*◌, ◌/◌, ◌≤◌}
 use native.Mathlib.Omega.{arith}
-use lib.Dec.{T, eqb, ltb, leb, eqb→eq, leb→le}
-use lib.ListN.{length, get_or, drop}
+use lib.Dec.{T, eqb, ltb, leb, leb→le}
+use lib.ListN.{length, drop}
 use lib.IntN.{ℤ, pos, nat_abs}
 use lib.Ieee.{Float, nan, inf, fin, binary64, add, lt, up, down, round, of_int, of_bits}
 use lib.Ieee.Bits.{is_true}

@@ -18,7 +18,8 @@ Both o x = (leap_of o ≡ x) × (leap_amount o ≡ x)
 -- ---- of k whole seconds all day, of k + 1 at its end, and of k + 1 with k at its end, for each k below 64: computed
 stay_test : ℕ → Bool
 unfolding leap_of leap_amount drift_rate round add sub mul of_int
-stay_test k = then (same_f (leap_of (offsets (whole_f k) (whole_f k) (whole_f k))) nought) (same_f (leap_amount (offsets (whole_f k) (whole_f k) (whole_f k))) nought)
+stay_test k = then (same_f (leap_of (offsets (whole_f k) (whole_f k) (whole_f k))) nought)
+    (same_f (leap_amount (offsets (whole_f k) (whole_f k) (whole_f k))) nought)
 
 step_test : ℕ → Bool
 unfolding leap_of leap_amount drift_rate round add sub mul of_int

@@ -32,7 +32,8 @@ pub data StepLeap (rows : List Row) (n n' : ℕ) (x : Float) : Type 0 where
 pub data LeapOn (rows : List Row) (y m d : ℤ) (x : Float) : Type 0 where
   before_1960 : month_number y (nat_abs m) < 23520 → x ≡ nought → LeapOn rows y m d x
   last_of_1959 : y ≡ pos 1959 → nat_abs m ≡ 12 → nat_abs d ≡ 31 → x ≡ leap1959 → LeapOn rows y m d x
-  drifting : 23520 ≤ month_number y (nat_abs m) → month_number y (nat_abs m) < 23664 → T (small x) → leap_at_end_of_day fixed y m d ≡ answer x → LeapOn rows y m d x
+  drifting : 23520 ≤ month_number y (nat_abs m) → month_number y (nat_abs m) < 23664 → T (small x) → leap_at_end_of_day fixed y m d ≡ answer x
+      → LeapOn rows y m d x
   from_1972 : 23664 ≤ month_number y (nat_abs m) → (next : CalendarDate) → next_of y m d ≡ answer next
       → StepLeap rows (month_number y (nat_abs m)) (month_number next.year next.month) x → LeapOn rows y m d x
 

@@ -142,7 +142,8 @@ by_said : (h : Held) (n : ℕ) (ls : List (List ℕ)) → read_from h n ls ≡ s
 unfolding read_from said
 by_said h n [] = refl
 by_said h n (l ∷ ls) =
-    ap (λ (r : ListAnswer). cond (eqb (line_fault h (line_says l)) 0) r (refused_at (line_fault h (line_says l)) (n + 1))) (by_said (with_line h (line_says l)) (n + 1) ls)
+    ap (λ (r : ListAnswer). cond (eqb (line_fault h (line_says l)) 0) r (refused_at (line_fault h (line_says l)) (n + 1)))
+    (by_said (with_line h (line_says l)) (n + 1) ls)
 
 pub read_alike : (h : Held) (n : ℕ) (ls ks : List (List ℕ)) → map line_says ls ≡ map line_says ks → read_from h n ls ≡ read_from h n ks
 read_alike h n ls ks e = by_said h n ls ∙ ap (said h n) e ∙ sym (by_said h n ks)

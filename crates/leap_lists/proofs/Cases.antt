@@ -3,16 +3,16 @@
 use mathlib.Core.Path.{◌≡◌, refl}
 use mathlib.Core.Bool.{Bool, true, false, cond, ◌&&◌}
 use mathlib.Core.List.{List, [], ◌∷◌, ◌++◌, map}
-use Prim.Native.Nat.{ℕ, zero, suc, ◌+◌, ◌-◌, ◌/◌}
+use Prim.Native.Nat.{ℕ, zero, suc, ◌+◌, ◌-◌, ◌*◌, ◌/◌}
 use Prim.Native.Char.{code}
 use Prim.Native.String.{String}
 use Prim.Native.String as Native
 use lib.ListN.{length, drop, get_or, replicate}
 use lib.Dec.{eqb}
 use lib.IntN.{ℤ, pos}
-use Rattle.numerals.specs.digits.Decimal.{is_digit}
+use Rattle.numerals.specs.digits.Decimal.{is_digit, digits_in, digits_of}
 use Rattle.calendar.specs.Calendar.{leap_size, lengths}
-use Rattle.leap_table.specs.rows.Table.{Row, fixed, reached, month_number, none, fixed_rows, last_month}
+use Rattle.leap_table.specs.rows.Table.{Row, fixed, reached, month_number, none, last_month, last_seconds}
 use Rattle.leap_table.specs.offsets.WholeSeconds.{whole_seconds}
 use Rattle.leap_lists.specs.declared.ListAnswer.{ListAnswer}
 use Rattle.leap_lists.specs.declared.lines.Line.{Line}
@@ -23,7 +23,7 @@ use Rattle.leap_lists.specs.lines.Lines.{row_with, month_row, ntp_row, row_behin
 use Rattle.leap_lists.specs.Held.{seconds_from, library_row, none_held, later_fault, line_fault, with_line}
 use Rattle.leap_lists.specs.Texts.{on_first, lines_of}
 use Rattle.leap_lists.specs.Reading.{answered, refused_at, read_from, read_of}
-use Rattle.leap_lists.specs.Writer.{lines_text}
+use Rattle.leap_lists.specs.Writer.{last_digits, month_line, lines_text}
 
 -- the bytes of a text that is written out here
 abbrev pub ascii_bytes : String → List ℕ
@@ -34,31 +34,31 @@ ascii_bytes (Native.◌∷◌ c s) = code c ∷ ascii_bytes s
 unfoldable pub others : List (List ℕ)
 others =
     ascii_bytes "x" ∷
-    ascii_bytes "2027" ∷
-    ascii_bytes "2027-01" ∷
-    ascii_bytes "2027-01 " ∷
-    ascii_bytes "2027-01 x" ∷
-    ascii_bytes "2027-1 38" ∷
-    ascii_bytes "2027-001 38" ∷
-    ascii_bytes "02027-01 38" ∷
-    ascii_bytes "202-01 38" ∷
-    ascii_bytes "2027-00 38" ∷
-    ascii_bytes "2027-13 38" ∷
-    ascii_bytes "2027-0138" ∷
-    ascii_bytes "2027-01-38" ∷
-    ascii_bytes "2027-01 38 9" ∷
-    ascii_bytes "2027-01 38x" ∷
-    ascii_bytes "2027-01 -38" ∷
-    ascii_bytes "2027-01 +38" ∷
-    ascii_bytes "2027-01 38.0" ∷
-    ascii_bytes "2027-01 1234567890" ∷
-    (ascii_bytes "2027-01" ++ (13 ∷ ascii_bytes "38")) ∷
-    ascii_bytes "2027/01 38" ∷
-    ascii_bytes "-027-01 38" ∷
-    ascii_bytes "2027 -01 38" ∷
-    ascii_bytes "2027- 01 38" ∷
-    ascii_bytes "2027-01,38" ∷
-    ascii_bytes "2027-01 #38" ∷
+    ascii_bytes "2012" ∷
+    ascii_bytes "2012-01" ∷
+    ascii_bytes "2012-01 " ∷
+    ascii_bytes "2012-01 x" ∷
+    ascii_bytes "2012-1 35" ∷
+    ascii_bytes "2012-001 35" ∷
+    ascii_bytes "02012-01 35" ∷
+    ascii_bytes "201-01 35" ∷
+    ascii_bytes "2012-00 35" ∷
+    ascii_bytes "2012-13 35" ∷
+    ascii_bytes "2012-0135" ∷
+    ascii_bytes "2012-01-35" ∷
+    ascii_bytes "2012-01 35 9" ∷
+    ascii_bytes "2012-01 35x" ∷
+    ascii_bytes "2012-01 -35" ∷
+    ascii_bytes "2012-01 +35" ∷
+    ascii_bytes "2012-01 35.0" ∷
+    ascii_bytes "2012-01 1234567890" ∷
+    (ascii_bytes "2012-01" ++ (13 ∷ ascii_bytes "35")) ∷
+    ascii_bytes "2012/01 35" ∷
+    ascii_bytes "-012-01 35" ∷
+    ascii_bytes "2012 -01 35" ∷
+    ascii_bytes "2012- 01 35" ∷
+    ascii_bytes "2012-01,35" ∷
+    ascii_bytes "2012-01 #35" ∷
     ascii_bytes "2272060800" ∷
     ascii_bytes "2272060801 10" ∷
     ascii_bytes "2272147200 10" ∷
@@ -75,8 +75,8 @@ others =
     ascii_bytes "@ 3928521600" ∷
     ascii_bytes "0 0x" ∷
     (0 ∷ []) ∷
-    (ascii_bytes "2027-01 38" ++ (0 ∷ [])) ∷
-    (239 ∷ (188 ∷ (146 ∷ (239 ∷ (188 ∷ (144 ∷ (239 ∷ (188 ∷ (146 ∷ (239 ∷ (188 ∷ (151 ∷ ascii_bytes "-01 38")))))))))))) ∷
+    (ascii_bytes "2012-01 35" ++ (0 ∷ [])) ∷
+    (239 ∷ (188 ∷ (146 ∷ (239 ∷ (188 ∷ (144 ∷ (239 ∷ (188 ∷ (145 ∷ (239 ∷ (188 ∷ (146 ∷ ascii_bytes "-01 35")))))))))))) ∷
     []
 
 pub outside-lines : map line_says others ≡ replicate 44 K.Outside
@@ -92,9 +92,9 @@ kinds =
     ascii_bytes "# a comment" ∷
     ascii_bytes "#" ∷
     ascii_bytes "  # @" ∷
-    ascii_bytes "2027-01 38" ∷
-    (ascii_bytes " " ++ (9 ∷ (ascii_bytes "2027-01" ++ (9 ∷ (ascii_bytes " 38 " ++ (13 ∷ [])))))) ∷
-    ascii_bytes "2027-01 38# made up" ∷
+    ascii_bytes "2012-01 35" ∷
+    (ascii_bytes " " ++ (9 ∷ (ascii_bytes "2012-01" ++ (9 ∷ (ascii_bytes " 35 " ++ (13 ∷ [])))))) ∷
+    ascii_bytes "2012-01 35# made up" ∷
     ascii_bytes "9999-12 999999999" ∷
     ascii_bytes "0000-01 0" ∷
     ascii_bytes "2272060800 10" ∷
@@ -113,9 +113,9 @@ pub kinds_read : map line_says kinds
     K.Blank ∷
     K.Blank ∷
     K.Blank ∷
-    K.Row 24324 38 ∷
-    K.Row 24324 38 ∷
-    K.Row 24324 38 ∷
+    K.Row 24144 35 ∷
+    K.Row 24144 35 ∷
+    K.Row 24144 35 ∷
     K.Row 119999 999999999 ∷
     K.Row 0 0 ∷
     K.Row 23664 10 ∷
@@ -197,11 +197,11 @@ ntp_lines =
     []
 
 -- the number of a text's refusal, its line, its rows and its expiry
-abbrev pub told : ListAnswer → List ℕ
-told r = r.number ∷ r.line ∷ r.table.months_size ∷ r.known_until ∷ []
+abbrev pub fields_of : ListAnswer → List ℕ
+fields_of r = r.number ∷ r.line ∷ r.table.months_size ∷ r.known_until ∷ []
 
 -- 28 rows that the library has: no row is lent
-pub own-months : told (read_of (lines_text month_lines)) ≡ 0 ∷ 0 ∷ 0 ∷ 0 ∷ []
+pub own-months : fields_of (read_of (lines_text month_lines)) ≡ 0 ∷ 0 ∷ 0 ∷ 0 ∷ []
 unfolding month_lines read_of read_from lines_of on_first lines_text none_held line_fault with_line later_fault library_row seconds_from whole_seconds fixed
     reached month_number answered refused_at line_says line_from row_of row_behind month_row ntp_row row_with expiry_of last_number number_then ended
     first_digits behind_blanks line_blank is_digit month_from month_after month_days leap_size lengths
@@ -209,119 +209,139 @@ own-months = refl
 
 -- the IERS's form says the same, line by line
 pub own-ntp : map line_says (lines_of (lines_text ntp_lines)) ≡ map line_says month_lines
-unfolding month_lines ntp_lines read_of read_from lines_of on_first lines_text none_held line_fault with_line later_fault library_row seconds_from whole_seconds fixed
+unfolding month_lines ntp_lines read_of read_from lines_of on_first lines_text none_held line_fault with_line later_fault library_row seconds_from whole_seconds
+    fixed
     reached month_number answered refused_at line_says line_from row_of row_behind month_row ntp_row row_with expiry_of last_number number_then ended
     first_digits behind_blanks line_blank is_digit month_from month_after month_days leap_size lengths
 own-ntp = refl
 
--- and one behind them
-pub one_more : told (read_of (lines_text (month_lines ++ (ascii_bytes "2027-01 38" ∷ [])))) ≡ 0 ∷ 0 ∷ 1 ∷ 0 ∷ []
+-- ---- rows behind the last that the library has, whatever that is: their lines are written by `month_line`
+-- the line of a row that begins so many months after the last
+abbrev later : ℕ → ℕ → List ℕ
+later months seconds = month_line (last_month + months) seconds
+
+-- n lines, each of a year and a second more, from `from` years and seconds after the last
+abbrev yearly : ℕ → ℕ → List (List ℕ)
+yearly zero from = []
+yearly (suc n) from = later (12 * from) (last_seconds + from) ∷ yearly n (suc from)
+
+-- one row behind the library's own
+pub one_more : fields_of (read_of (lines_text (month_lines ++ (later 120 (last_seconds + 1) ∷ [])))) ≡ 0 ∷ 0 ∷ 1 ∷ 0 ∷ []
 unfolding month_lines read_of read_from lines_of on_first lines_text none_held line_fault with_line later_fault library_row seconds_from whole_seconds fixed
     reached month_number answered refused_at line_says line_from row_of row_behind month_row ntp_row row_with expiry_of last_number number_then ended
-    first_digits behind_blanks line_blank is_digit month_from month_after month_days leap_size lengths
+    first_digits behind_blanks line_blank is_digit month_from month_after month_days leap_size lengths month_line last_digits digits_of digits_in
 one_more = refl
 
-pub no_text : told (read_of ([])) ≡ 0 ∷ 0 ∷ 0 ∷ 0 ∷ []
+pub no_text : fields_of (read_of ([])) ≡ 0 ∷ 0 ∷ 0 ∷ 0 ∷ []
 unfolding read_of read_from lines_of on_first lines_text none_held line_fault with_line later_fault library_row seconds_from whole_seconds fixed reached
     month_number answered refused_at line_says line_from row_of row_behind month_row ntp_row row_with expiry_of last_number number_then ended first_digits
     behind_blanks line_blank is_digit month_from month_after month_days leap_size lengths
 no_text = refl
 
 -- the expiry of the list that ends on 2026-12-28
-pub with-expiry : told (read_of (lines_text ((ascii_bytes "#$" ++ (9 ∷ ascii_bytes "3676924800")) ∷ (ascii_bytes "#@" ++ (9 ∷ ascii_bytes "3991420800")) ∷ (ascii_bytes "3692217600" ++ (9 ∷ ascii_bytes "37")) ∷ []))) ≡ 0 ∷ 0 ∷ 0 ∷ 61217 ∷ []
+pub with-expiry : fields_of
+    (read_of
+    (lines_text
+    ((ascii_bytes "#$" ++ (9 ∷ ascii_bytes "3676924800")) ∷ (ascii_bytes "#@" ++ (9 ∷ ascii_bytes "3991420800"))
+    ∷ (ascii_bytes "3692217600" ++ (9 ∷ ascii_bytes "37")) ∷ [])))
+    ≡ 0 ∷ 0 ∷ 0 ∷ 61217 ∷ []
 unfolding read_of read_from lines_of on_first lines_text none_held line_fault with_line later_fault library_row seconds_from whole_seconds fixed reached
     month_number answered refused_at line_says line_from row_of row_behind month_row ntp_row row_with expiry_of last_number number_then ended first_digits
     behind_blanks line_blank is_digit month_from month_after month_days leap_size lengths
 with-expiry = refl
 
 -- of two expiries the last
-pub last-expiry : told (read_of (lines_text (ascii_bytes "#@ 3991420800" ∷ ascii_bytes "#@ 3991507200" ∷ []))) ≡ 0 ∷ 0 ∷ 0 ∷ 61218 ∷ []
+pub last-expiry : fields_of (read_of (lines_text (ascii_bytes "#@ 3991420800" ∷ ascii_bytes "#@ 3991507200" ∷ []))) ≡ 0 ∷ 0 ∷ 0 ∷ 61218 ∷ []
 unfolding read_of read_from lines_of on_first lines_text none_held line_fault with_line later_fault library_row seconds_from whole_seconds fixed reached
     month_number answered refused_at line_says line_from row_of row_behind month_row ntp_row row_with expiry_of last_number number_then ended first_digits
     behind_blanks line_blank is_digit month_from month_after month_days leap_size lengths
 last-expiry = refl
 
 -- the first fault in the text's order: line 2 is outside the grammar, line 3 goes by two seconds
-pub not_a_line : told (read_of (lines_text (ascii_bytes "2027-01 38" ∷ ascii_bytes "2028-01" ∷ ascii_bytes "2029-01 40" ∷ []))) ≡ 15 ∷ 2 ∷ 0 ∷ 0 ∷ []
+pub not_a_line : fields_of (read_of (lines_text (later 120 (last_seconds + 1) ∷ ascii_bytes "2028-01" ∷ later 144 (last_seconds + 3) ∷ [])))
+    ≡ 15 ∷ 2 ∷ 0 ∷ 0 ∷ []
 unfolding read_of read_from lines_of on_first lines_text none_held line_fault with_line later_fault library_row seconds_from whole_seconds fixed reached
     month_number answered refused_at line_says line_from row_of row_behind month_row ntp_row row_with expiry_of last_number number_then ended first_digits
-    behind_blanks line_blank is_digit month_from month_after month_days leap_size lengths
+    behind_blanks line_blank is_digit month_from month_after month_days leap_size lengths month_line last_digits digits_of digits_in
 not_a_line = refl
 
 -- a row of the library's with other seconds
-pub other_own_seconds : told (read_of (lines_text (ascii_bytes "1972-01 10" ∷ ascii_bytes "1972-07 12" ∷ []))) ≡ 22 ∷ 2 ∷ 0 ∷ 0 ∷ []
+pub other_own_seconds : fields_of (read_of (lines_text (ascii_bytes "1972-01 10" ∷ ascii_bytes "1972-07 12" ∷ []))) ≡ 22 ∷ 2 ∷ 0 ∷ 0 ∷ []
 unfolding read_of read_from lines_of on_first lines_text none_held line_fault with_line later_fault library_row seconds_from whole_seconds fixed reached
     month_number answered refused_at line_says line_from row_of row_behind month_row ntp_row row_with expiry_of last_number number_then ended first_digits
     behind_blanks line_blank is_digit month_from month_after month_days leap_size lengths
 other_own_seconds = refl
 
 -- a month in which the library has no row
-pub other_own_month : told (read_of (lines_text ([] ∷ ascii_bytes "2016-07 36" ∷ []))) ≡ 22 ∷ 2 ∷ 0 ∷ 0 ∷ []
+pub other_own_month : fields_of (read_of (lines_text ([] ∷ ascii_bytes "2016-07 36" ∷ []))) ≡ 22 ∷ 2 ∷ 0 ∷ 0 ∷ []
 unfolding read_of read_from lines_of on_first lines_text none_held line_fault with_line later_fault library_row seconds_from whole_seconds fixed reached
     month_number answered refused_at line_says line_from row_of row_behind month_row ntp_row row_with expiry_of last_number number_then ended first_digits
     behind_blanks line_blank is_digit month_from month_after month_days leap_size lengths
 other_own_month = refl
 
-pub before-1972 : told (read_of (lines_text (ascii_bytes "1971-12 10" ∷ []))) ≡ 22 ∷ 1 ∷ 0 ∷ 0 ∷ []
+pub before-1972 : fields_of (read_of (lines_text (ascii_bytes "1971-12 10" ∷ []))) ≡ 22 ∷ 1 ∷ 0 ∷ 0 ∷ []
 unfolding read_of read_from lines_of on_first lines_text none_held line_fault with_line later_fault library_row seconds_from whole_seconds fixed reached
     month_number answered refused_at line_says line_from row_of row_behind month_row ntp_row row_with expiry_of last_number number_then ended first_digits
     behind_blanks line_blank is_digit month_from month_after month_days leap_size lengths
 before-1972 = refl
 
-pub not_rising : told (read_of (lines_text (ascii_bytes "2027-01 38" ∷ ascii_bytes "2027-01 39" ∷ []))) ≡ 21 ∷ 2 ∷ 0 ∷ 0 ∷ []
+pub not_rising : fields_of (read_of (lines_text (later 120 (last_seconds + 1) ∷ later 120 (last_seconds + 2) ∷ []))) ≡ 21 ∷ 2 ∷ 0 ∷ 0 ∷ []
 unfolding read_of read_from lines_of on_first lines_text none_held line_fault with_line later_fault library_row seconds_from whole_seconds fixed reached
     month_number answered refused_at line_says line_from row_of row_behind month_row ntp_row row_with expiry_of last_number number_then ended first_digits
-    behind_blanks line_blank is_digit month_from month_after month_days leap_size lengths
+    behind_blanks line_blank is_digit month_from month_after month_days leap_size lengths month_line last_digits digits_of digits_in
 not_rising = refl
 
-pub two-seconds : told (read_of (lines_text (ascii_bytes "2027-01 38" ∷ ascii_bytes "2027-07 40" ∷ []))) ≡ 22 ∷ 2 ∷ 0 ∷ 0 ∷ []
+pub two-seconds : fields_of (read_of (lines_text (later 120 (last_seconds + 1) ∷ later 126 (last_seconds + 3) ∷ []))) ≡ 22 ∷ 2 ∷ 0 ∷ 0 ∷ []
 unfolding read_of read_from lines_of on_first lines_text none_held line_fault with_line later_fault library_row seconds_from whole_seconds fixed reached
     month_number answered refused_at line_says line_from row_of row_behind month_row ntp_row row_with expiry_of last_number number_then ended first_digits
-    behind_blanks line_blank is_digit month_from month_after month_days leap_size lengths
+    behind_blanks line_blank is_digit month_from month_after month_days leap_size lengths month_line last_digits digits_of digits_in
 two-seconds = refl
 
-pub one_less : told (read_of (lines_text (ascii_bytes "2027-01 36" ∷ ascii_bytes "2027-07 35" ∷ []))) ≡ 0 ∷ 0 ∷ 2 ∷ 0 ∷ []
+pub one_less : fields_of (read_of (lines_text (later 120 (last_seconds - 1) ∷ later 126 (last_seconds - 2) ∷ []))) ≡ 0 ∷ 0 ∷ 2 ∷ 0 ∷ []
 unfolding read_of read_from lines_of on_first lines_text none_held line_fault with_line later_fault library_row seconds_from whole_seconds fixed reached
     month_number answered refused_at line_says line_from row_of row_behind month_row ntp_row row_with expiry_of last_number number_then ended first_digits
-    behind_blanks line_blank is_digit month_from month_after month_days leap_size lengths
+    behind_blanks line_blank is_digit month_from month_after month_days leap_size lengths month_line last_digits digits_of digits_in
 one_less = refl
 
-pub sixteen : told (read_of (lines_text (ascii_bytes "2020-01 38" ∷ ascii_bytes "2021-01 39" ∷ ascii_bytes "2022-01 40" ∷ ascii_bytes "2023-01 41" ∷ ascii_bytes "2024-01 42" ∷ ascii_bytes "2025-01 43" ∷ ascii_bytes "2026-01 44" ∷ ascii_bytes "2027-01 45" ∷ ascii_bytes "2028-01 46" ∷ ascii_bytes "2029-01 47" ∷ ascii_bytes "2030-01 48" ∷ ascii_bytes "2031-01 49" ∷ ascii_bytes "2032-01 50" ∷ ascii_bytes "2033-01 51" ∷ ascii_bytes "2034-01 52" ∷ ascii_bytes "2035-01 53" ∷ []))) ≡ 0 ∷ 0 ∷ 16 ∷ 0 ∷ []
+pub sixteen : fields_of (read_of (lines_text (yearly 16 1))) ≡ 0 ∷ 0 ∷ 16 ∷ 0 ∷ []
 unfolding read_of read_from lines_of on_first lines_text none_held line_fault with_line later_fault library_row seconds_from whole_seconds fixed reached
     month_number answered refused_at line_says line_from row_of row_behind month_row ntp_row row_with expiry_of last_number number_then ended first_digits
-    behind_blanks line_blank is_digit month_from month_after month_days leap_size lengths
+    behind_blanks line_blank is_digit month_from month_after month_days leap_size lengths month_line last_digits digits_of digits_in
 sixteen = refl
 
 -- 20 comes before 21 and 22
-pub seventeen : told (read_of (lines_text (ascii_bytes "2020-01 38" ∷ ascii_bytes "2021-01 39" ∷ ascii_bytes "2022-01 40" ∷ ascii_bytes "2023-01 41" ∷ ascii_bytes "2024-01 42" ∷ ascii_bytes "2025-01 43" ∷ ascii_bytes "2026-01 44" ∷ ascii_bytes "2027-01 45" ∷ ascii_bytes "2028-01 46" ∷ ascii_bytes "2029-01 47" ∷ ascii_bytes "2030-01 48" ∷ ascii_bytes "2031-01 49" ∷ ascii_bytes "2032-01 50" ∷ ascii_bytes "2033-01 51" ∷ ascii_bytes "2034-01 52" ∷ ascii_bytes "2035-01 53" ∷ ascii_bytes "2020-01 99" ∷ []))) ≡ 20 ∷ 17 ∷ 0 ∷ 0 ∷ []
+pub seventeen : fields_of (read_of (lines_text (yearly 16 1 ++ (later 12 (last_seconds + 99) ∷ [])))) ≡ 20 ∷ 17 ∷ 0 ∷ 0 ∷ []
 unfolding read_of read_from lines_of on_first lines_text none_held line_fault with_line later_fault library_row seconds_from whole_seconds fixed reached
     month_number answered refused_at line_says line_from row_of row_behind month_row ntp_row row_with expiry_of last_number number_then ended first_digits
-    behind_blanks line_blank is_digit month_from month_after month_days leap_size lengths
+    behind_blanks line_blank is_digit month_from month_after month_days leap_size lengths month_line last_digits digits_of digits_in
 seventeen = refl
 
 -- 21 comes before 22
-pub rising-first : told (read_of (lines_text (ascii_bytes "2027-01 38" ∷ ascii_bytes "2026-01 99" ∷ []))) ≡ 21 ∷ 2 ∷ 0 ∷ 0 ∷ []
+pub rising-first : fields_of (read_of (lines_text (later 120 (last_seconds + 1) ∷ later 108 (last_seconds + 99) ∷ []))) ≡ 21 ∷ 2 ∷ 0 ∷ 0 ∷ []
 unfolding read_of read_from lines_of on_first lines_text none_held line_fault with_line later_fault library_row seconds_from whole_seconds fixed reached
     month_number answered refused_at line_says line_from row_of row_behind month_row ntp_row row_with expiry_of last_number number_then ended first_digits
-    behind_blanks line_blank is_digit month_from month_after month_days leap_size lengths
+    behind_blanks line_blank is_digit month_from month_after month_days leap_size lengths month_line last_digits digits_of digits_in
 rising-first = refl
 
 -- a row of the library's may stand behind a later one
-pub own-behind-later : told (read_of (lines_text (ascii_bytes "2027-01 38" ∷ ascii_bytes "2017-01 37" ∷ []))) ≡ 0 ∷ 0 ∷ 1 ∷ 0 ∷ []
+pub own-behind-later : fields_of (read_of (lines_text (later 120 (last_seconds + 1) ∷ ascii_bytes "2017-01 37" ∷ []))) ≡ 0 ∷ 0 ∷ 1 ∷ 0 ∷ []
 unfolding read_of read_from lines_of on_first lines_text none_held line_fault with_line later_fault library_row seconds_from whole_seconds fixed reached
     month_number answered refused_at line_says line_from row_of row_behind month_row ntp_row row_with expiry_of last_number number_then ended first_digits
-    behind_blanks line_blank is_digit month_from month_after month_days leap_size lengths
+    behind_blanks line_blank is_digit month_from month_after month_days leap_size lengths month_line last_digits digits_of digits_in
 own-behind-later = refl
 
 -- the rows that are read, place by place
-pub two-rows : ((read_of (lines_text (ascii_bytes "2027-01 38" ∷ ascii_bytes "2030-07 37" ∷ []))).table.months ≡ pos 24324 ∷ pos 24366 ∷ replicate 14 (pos 0))
-    × ((read_of (lines_text (ascii_bytes "2027-01 38" ∷ ascii_bytes "2030-07 37" ∷ []))).table.seconds ≡ pos 38 ∷ pos 37 ∷ replicate 14 (pos 0))
-unfolding read_of read_from lines_of on_first lines_text none_held line_fault with_line later_fault library_row seconds_from whole_seconds fixed reached month_number
+pub two-rows : ((read_of (lines_text (later 120 (last_seconds + 1) ∷ later 162 last_seconds ∷ []))).table.months
+    ≡ pos (last_month + 120) ∷ pos (last_month + 162) ∷ replicate 14 (pos 0))
+    × ((read_of (lines_text (later 120 (last_seconds + 1) ∷ later 162 last_seconds ∷ []))).table.seconds
+    ≡ pos (last_seconds + 1) ∷ pos last_seconds ∷ replicate 14 (pos 0))
+unfolding read_of read_from lines_of on_first lines_text none_held line_fault with_line later_fault library_row seconds_from whole_seconds fixed reached
+    month_number
     answered refused_at line_says line_from row_of row_behind month_row ntp_row row_with expiry_of last_number number_then ended first_digits behind_blanks
-    line_blank is_digit month_from month_after month_days leap_size lengths
+    line_blank is_digit month_from month_after month_days leap_size lengths month_line last_digits digits_of digits_in
 two-rows = (refl, refl)
 
--- ---- what the library has: each row of the table from 1972 on, and no other month up to the last
+-- ---- what the library has: each row of the table from 1972 on, and no other month between two of them
 abbrev pub month-and-seconds : List Row → Bool
 month-and-seconds [] = true
 month-and-seconds (r ∷ rs) = library_row r.month (r.units / 10000000) && month-and-seconds rs
@@ -335,8 +355,10 @@ pub own-rows : month-and-seconds (drop 14 fixed) ≡ true
 unfolding library_row seconds_from whole_seconds fixed reached month_number
 own-rows = refl
 
--- from the last row but one to the last: no month between them
-pub no_other_rows : begun (suc (last_month - (get_or fixed (fixed_rows - 2) none).month)) (get_or fixed (fixed_rows - 2) none).month
-    ≡ map (λ (r : Row). r.month) (drop (fixed_rows - 2) fixed)
+-- from July 2015, place 40, to January 2017, place 41: no month between them
+abbrev start : ℕ → ℕ
+start i = (get_or fixed i none).month
+
+pub no_other_rows : begun (suc (start 41 - start 40)) (start 40) ≡ start 40 ∷ start 41 ∷ []
 unfolding library_row seconds_from whole_seconds fixed reached month_number
 no_other_rows = refl

@@ -37,7 +37,8 @@ blank_no_digit : (r : Bool) (c : ℕ) → line_blank r c ≡ true → is_digit c
 blank_no_digit r c e = either (is_digit c) refl
   where
     either : (b : Bool) → is_digit c ≡ b → is_digit c ≡ false
-    either true g = absurd (let p : line_blank r c ≡ false = digit_no_blank r c (digit_bounds c g).0 in let z : ◌≡◌ {A = ℕ} 0 1 = cc in let y : ⊥ = omega arith in y)
+    either true g = absurd
+        (let p : line_blank r c ≡ false = digit_no_blank r c (digit_bounds c g).0 in let z : ◌≡◌ {A = ℕ} 0 1 = cc in let y : ⊥ = omega arith in y)
     either false g = g
 
 blanks-gone : (r : Bool) (b x : List ℕ) → OnlyBlanks r b → behind_blanks r (b ++ x) ≡ behind_blanks r x
@@ -86,7 +87,8 @@ gap-first (b ∷ g) x h n = h.0
 -- ---- the number at the end
 module _ (most : ℕ) (f e : List ℕ) (k : LineEnd most f e) where
   tail_ends : ended (behind_blanks true (k.after ++ k.comment)) ≡ true
-  tail_ends = ap ended (blanks-gone true k.after k.comment k.after_blank ∙ comment-stays k.comment k.a_comment) ∙ comment-ends k.comment k.a_comment
+  tail_ends = ap ended (blanks-gone true k.after k.comment k.after_blank ∙ comment-stays k.comment k.a_comment)
+      ∙ comment-ends k.comment k.a_comment
 
   behind-gap : behind_blanks false e ≡ f ++ (k.after ++ k.comment)
   behind-gap =
@@ -191,7 +193,8 @@ of_ntp d e f k a n q lt v g =
     let days : number d / 86400 ≡ days_from first_month k = omega arith in
     let no : get_or e 0 0 ≡ 45 → ⊥ = λ h. no_hyphen (get_or e 0 0) (gap-there 9 f e g) h in
     let back : month_from (number d / 86400) ≡ first_month + k = ap month_from days ∙ month-begins k lt in
-    rw (ld, drop-append_seam d e, ne_eqb _ _ no, lt-ltb _ _ p, eq-eqb _ _ whole, back) (row-found (first_month + k) e (λ z. omega arith) ∙ ap (row_by (first_month + k)) (ending-read 9 f e g))
+    rw (ld, drop-append_seam d e, ne_eqb _ _ no, lt-ltb _ _ p, eq-eqb _ _ whole, back)
+    (row-found (first_month + k) e (λ z. omega arith) ∙ ap (row_by (first_month + k)) (ending-read 9 f e g))
 
 first-digits : (b d x : List ℕ) → OnlyBlanks true b → AllDigits d → 1 ≤ length d → line_says (b ++ (d ++ x)) ≡ row_of (d ++ x)
 unfolding line_says

@@ -117,7 +117,8 @@ unfolding put_from
 kept l n [] j h = refl
 kept l n (x ∷ xs) j h = kept (set l n (pos x)) (n + 1) xs j (omega arith) ∙ get_or-set_other l n j (pos x) (pos 0) (λ e. omega arith)
 
-pub put-at : (l : List ℤ) (n : ℕ) (xs : List ℕ) (i : ℕ) → i < length xs → n + length xs ≤ length l → get_or (put_from l n xs) (n + i) (pos 0) ≡ pos (get_or xs i 0)
+pub put-at : (l : List ℤ) (n : ℕ) (xs : List ℕ) (i : ℕ) → i < length xs → n + length xs ≤ length l → get_or (put_from l n xs) (n + i) (pos 0) ≡ pos
+    (get_or xs i 0)
 unfolding put_from
 put-at l n [] i h k = absurd (let no : ⊥ = omega arith in no)
 put-at l n (x ∷ xs) zero h k =

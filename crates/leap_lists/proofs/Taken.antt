@@ -15,7 +15,8 @@ use borrow.Author.Tests.{ltb-true, ltb-false, lt-ltb, leb-true, leb-false, eqb-t
 use Rattle.refusals.specs.Outcome.{answer}
 use Rattle.leap_table.specs.declared.rows.AnnouncedRows.{AnnouncedRows}
 use Rattle.leap_table.specs.rows.Table.{last_month, last_seconds}
-use Rattle.leap_table.specs.rows.Announced.{announced_table, rows_of, table_of, before, later_at, OneStep, StepAt, one_apart, Decision, sizes, order, step, taken}
+use Rattle.leap_table.specs.rows.Announced.{announced_table, rows_of, table_of, before, later_at, OneStep, StepAt, one_apart, Decision, sizes, order, step}
+use Rattle.leap_table.specs.rows.Announced.{taken}
 use Rattle.leap_table.proofs.rows.TableLaws.{near, table-decided}
 use Rattle.leap_lists.specs.declared.ListAnswer.{ListAnswer}
 use Rattle.leap_lists.specs.declared.held.Held.{Held}
@@ -104,7 +105,8 @@ good_more h m s g f =
         (get_or-set_other h.months h.size i (pos m) (pos 0) (λ e. omega arith) j)) ∙ g.rises i less
     rise i false p k r =
         let same : i ≡ h.size = omega (arith, ltb-false i h.size p) in
-        (λ j. lt_z ((before-kept (pos last_month) h.months h.size (pos m) r i (omega arith) ∙ ap (before (pos last_month) h.months) same ∙ g.last-month) j)
+        (λ j. lt_z ((before-kept (pos last_month) h.months h.size (pos m) r i (omega arith) ∙ ap (before (pos last_month) h.months) same
+        ∙ g.last-month) j)
         ((ap (λ (x : ℕ). get_or (set h.months h.size (pos m)) x (pos 0)) same ∙ get_or-set_same h.months h.size (pos m) (pos 0) r) j))
         ∙ lt-ltb h.month m f.later
 
@@ -188,3 +190,30 @@ lines-taken h n (l ∷ ls) g e =
 pub read_taken : (t : List ℕ) → (read_of t).number ≡ 0 → table_of (read_of t).table ≡ answer (rows_of (read_of t).table)
 unfolding read_of
 read_taken t e = lines-taken none_held 0 (lines_of t) good_start e
+
+-- ---- and has two arrays of 16, and at most 16 rows
+pub record Sixteen (t : AnnouncedRows) : Type 0 where
+  pub few : t.months_size ≤ 16
+  pub alike : t.seconds_size ≡ t.months_size
+  pub months : length t.months ≡ 16
+  pub seconds : length t.seconds ≡ 16
+
+lines-sixteen : (h : Held) (n : ℕ) (ls : List (List ℕ)) → Good h → Sixteen (read_from h n ls).table
+unfolding read_from answered refused_at
+lines-sixteen h n [] g = record { few = g.many; alike = refl; months = g.all-months; seconds = g.all-seconds }
+lines-sixteen h n (l ∷ ls) g =
+    either (eqb (line_fault h (line_says l)) 0) refl (λ k. lines-sixteen (with_line h (line_says l)) (n + 1) ls (good-line h (line_says l) g k))
+  where
+    on : ListAnswer
+    on = read_from (with_line h (line_says l)) (n + 1) ls
+
+    off : ListAnswer
+    off = refused_at (line_fault h (line_says l)) (n + 1)
+
+    either : (b : Bool) → eqb (line_fault h (line_says l)) 0 ≡ b → (line_fault h (line_says l) ≡ 0 → Sixteen on.table) → Sixteen (cond b on off).table
+    either true p next = next (eqb-true _ _ p)
+    either false p next = record { few = omega arith; alike = refl; months = refl; seconds = refl }
+
+pub read-sixteen : (t : List ℕ) → Sixteen (read_of t).table
+unfolding read_of
+read-sixteen t = lines-sixteen none_held 0 (lines_of t) good_start

@@ -36,7 +36,8 @@ unfolding first_line
 first_part [] = refl
 first_part (c ∷ cs) = either (eqb c 10) (first_part cs)
   where
-    either : (b : Bool) → take (length (first_line cs)) cs ≡ first_line cs → take (length (cond b [] (c ∷ first_line cs))) (c ∷ cs) ≡ cond b [] (c ∷ first_line cs)
+    either : (b : Bool) → take (length (first_line cs)) cs ≡ first_line cs → take (length (cond b [] (c ∷ first_line cs))) (c ∷ cs) ≡ cond b []
+        (c ∷ first_line cs)
     either true h = refl
     either false h = ap (λ (l : List ℕ). c ∷ l) h
 
@@ -46,7 +47,8 @@ unfolding lines_of first_line on_first
 lines-first [] h = absurd (let no : ⊥ = omega arith in no)
 lines-first (c ∷ []) h = either (eqb c 10)
   where
-    either : (b : Bool) → cond b ([] ∷ lines_of []) (on_first c (lines_of [])) ≡ cond b [] (c ∷ []) ∷ lines_of (drop (suc (length (cond b [] (c ∷ [])))) (c ∷ []))
+    either : (b : Bool) → cond b ([] ∷ lines_of []) (on_first c (lines_of [])) ≡ cond b [] (c ∷ []) ∷ lines_of
+        (drop (suc (length (cond b [] (c ∷ [])))) (c ∷ []))
     either true = refl
     either false = refl
 lines-first (c ∷ (d ∷ ds)) h = either (eqb c 10) (lines-first (d ∷ ds) (omega arith))
@@ -55,6 +57,7 @@ lines-first (c ∷ (d ∷ ds)) h = either (eqb c 10) (lines-first (d ∷ ds) (om
     s = d ∷ ds
 
     either : (b : Bool) → lines_of s ≡ first_line s ∷ lines_of (drop (suc (length (first_line s))) s)
-        → cond b ([] ∷ lines_of s) (on_first c (lines_of s)) ≡ cond b [] (c ∷ first_line s) ∷ lines_of (drop (suc (length (cond b [] (c ∷ first_line s)))) (c ∷ s))
+        → cond b ([] ∷ lines_of s) (on_first c (lines_of s)) ≡ cond b [] (c ∷ first_line s) ∷ lines_of
+        (drop (suc (length (cond b [] (c ∷ first_line s)))) (c ∷ s))
     either true g = refl
     either false g = ap (on_first c) g

@@ -27,7 +27,8 @@ module _ (h : Held) (n : ℕ) (l : List ℕ) (ls : List (List ℕ)) (z : line_fa
   below k f zero g = z
   below k f (suc i) g = f i (omega arith)
 
-  more : ListVerdict (with_line h (line_says l)) (n + 1) ls (read_from (with_line h (line_says l)) (n + 1) ls) → ListVerdict h n (l ∷ ls) (read_from h n (l ∷ ls))
+  more : ListVerdict (with_line h (line_says l)) (n + 1) ls (read_from (with_line h (line_says l)) (n + 1) ls) → ListVerdict h n (l ∷ ls)
+      (read_from h n (l ∷ ls))
   unfolding held_to
   more (taken f e) = taken (under f) (no_fault h n l ls z ∙ e)
   more (refused i g f k e) =
@@ -45,7 +46,8 @@ verdict h n [] = taken (λ i g. absurd (let no : ⊥ = omega arith in no)) refl
 verdict h n (l ∷ ls) = either (eqb (line_fault h (line_says l)) 0) refl (verdict (with_line h (line_says l)) (n + 1) ls)
   where
     either : (b : Bool) → eqb (line_fault h (line_says l)) 0 ≡ b
-        → ListVerdict (with_line h (line_says l)) (n + 1) ls (read_from (with_line h (line_says l)) (n + 1) ls) → ListVerdict h n (l ∷ ls) (read_from h n (l ∷ ls))
+        → ListVerdict (with_line h (line_says l)) (n + 1) ls (read_from (with_line h (line_says l)) (n + 1) ls) → ListVerdict h n (l ∷ ls)
+        (read_from h n (l ∷ ls))
     either true e v = more h n l ls (eqb-true _ _ e) v
     either false e v = at_first h n l ls (eqb-false _ _ e)
 

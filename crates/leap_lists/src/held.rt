@@ -8,7 +8,7 @@ use crate::lines::Line;
 
 // What is read so far: as many announced rows as `size`, their month starts and their seconds; the month and the seconds of the last row, of the library's last
 // where there is none; and the expiry, 0 where there is none.
-#[derive(Drop)]
+#[derive(Clone, Copy)]
 pub(crate) struct Held {
     pub(crate) size: u32,
     pub(crate) months: [i32; 16],
@@ -30,8 +30,7 @@ fn seconds_from(month: u32) -> u32
 fn last_month() -> u32
     ensures { result ≡ last_month }
 {
-    let last = (leap_table::rows::FIXED_ROWS - 1) as usize;
-    leap_table::offsets::walk_rows::row_start(leap_table::rows::no_rows(), last) as u32
+    leap_table::rows::LAST_MONTH
 }
 
 // Whether the library has a row that begins in that month with these seconds.

@@ -1,4 +1,6 @@
 // Announced leap rows read from a text: lines of a month and TAI-UTC, and the file that the IERS publishes.
+#![tactic(auto)]
+
 ghost use Rattle.std.specs.Prelude.{◌≡◌, ◌+◌, ◌≤◌, length, drop};
 ghost use Rattle.leap_lists.specs.Texts.{first_line, Behind};
 ghost use Rattle.leap_lists.specs.Reading.{answered, refused_at, read_of};
@@ -13,7 +15,7 @@ use leap_table::rows::AnnouncedRows;
 
 // What a text says. Where it is read, `number` and `line` are 0, `table` has its rows, and `known_until` is the Modified Julian Date of its expiry, 0 where it
 // tells none. Where it is refused, `number` is the refusal's, `line` the line at fault, counted from 1, and the table lends no rows.
-#[derive(Drop)]
+#[derive(Clone, Copy)]
 pub struct ListAnswer {
     pub number: u32,
     pub line: usize,

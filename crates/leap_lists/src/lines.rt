@@ -17,7 +17,7 @@ const DAY: u64 = 86_400;
 const FIRST_NTP_DAY: u32 = 15_020;
 
 // What a line says: nothing; TAI-UTC in whole seconds from a month on, months numbered from January of year 0; or the day until which the table is known.
-#[derive(Drop)]
+#[derive(Clone, Copy)]
 pub(crate) enum Line {
     Blank,
     Row(u32, u32),
@@ -26,14 +26,14 @@ pub(crate) enum Line {
 }
 
 // A number at the end of a line, or none.
-#[derive(Drop)]
+#[derive(Clone, Copy)]
 pub(crate) enum Last {
     Number(u64),
     Nothing,
 }
 
 // The digits that stand somewhere: the number that they say, and the index behind them.
-#[derive(Drop)]
+#[derive(Clone, Copy)]
 pub(crate) struct Run {
     pub(crate) value: u64,
     pub(crate) end: usize,

@@ -14,3 +14,4 @@ pub mod WholeSeconds
 pub mod Forward
 pub mod Cases
 pub mod RuleLaws
+pub mod Told

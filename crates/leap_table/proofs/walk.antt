@@ -27,3 +27,5 @@ pub mod Written
 pub mod Due
 -- OfCall: what a call writes, place by place, from bytes and from numbers.
 pub mod OfCall
+-- Right: what an answered walk gives.
+pub mod Right

@@ -4,6 +4,7 @@
 pub mod Offset
 pub mod Leap
 pub mod Rule
+pub mod Told
 pub mod Plain
 pub mod WholeSeconds
 pub mod Forward

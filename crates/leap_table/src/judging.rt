@@ -1,5 +1,5 @@
 // Which lists of dates a walk refuses, and by which number: dates go in time order. Document 02, item 2.
-ghost use Rattle.std.specs.Prelude.{◌≡◌, true, ◌+◌, ◌*◌, ◌≤◌, length};
+ghost use Rattle.std.specs.Prelude.{◌≡◌, ◌+◌, ◌*◌, ◌≤◌, true, length};
 ghost use Rattle.refusals.specs.Outcome.{answer, onward};
 ghost use Rattle.leap_table.specs.rows.Announced.{table_of, unless_refused};
 ghost use Rattle.leap_table.specs.judging.Judging.{earlier, valid_triple, judged_next, judged_all};
@@ -12,7 +12,7 @@ pub use in_bytes::bytes_refusal;
 pub(crate) use in_bytes::triple_in;
 
 // A year, month and day, a date or not.
-#[derive(Drop)]
+#[derive(Clone, Copy)]
 pub struct Triple {
     pub year: i32,
     pub month: i32,

@@ -1,4 +1,5 @@
 // The leap table: TAI-UTC from 1960 on, with the rows that are announced.
+#![tactic(auto)]
 
 // dates in time order
 pub mod judging;

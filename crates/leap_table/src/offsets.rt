@@ -16,7 +16,7 @@ pub use whole_day::{
 };
 
 // Which row an offset was read from, counted from 0: none before 1960, one that drifts, or one of whole seconds.
-#[derive(Drop)]
+#[derive(Clone, Copy)]
 pub enum Rule {
     Absent,
     Drifting(u32),
@@ -24,21 +24,21 @@ pub enum Rule {
 }
 
 // Seconds, of TAI-UTC or of the leap at the end of a day, or the number of the refusal.
-#[derive(Drop)]
+#[derive(Clone, Copy)]
 pub enum SecondsAnswer {
     Seconds(f64),
     Refused(u32),
 }
 
 // The same, with the rule of the day.
-#[derive(Drop)]
+#[derive(Clone, Copy)]
 pub enum SecondsByRule {
     Seconds(f64, Rule),
     Refused(u32),
 }
 
 // TAI-UTC in seconds at the start, the middle and the end of a day.
-#[derive(Drop)]
+#[derive(Clone, Copy)]
 pub struct DayOffsets {
     pub at_0h: f64,
     pub at_12h: f64,
@@ -46,14 +46,14 @@ pub struct DayOffsets {
 }
 
 // The offsets of a day, or the number of the refusal.
-#[derive(Drop)]
+#[derive(Clone, Copy)]
 pub enum DayOffsetsAnswer {
     Offsets(DayOffsets),
     Refused(u32),
 }
 
 // The same, with the rule of the day.
-#[derive(Drop)]
+#[derive(Clone, Copy)]
 pub enum DayByRule {
     Day(DayOffsets, Rule),
     Refused(u32),

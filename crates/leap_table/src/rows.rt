@@ -8,14 +8,15 @@ ghost use Rattle.leap_table.specs.rows.Answers.{rows_outcome};
 mod announced;
 mod fixed;
 
+pub(crate) use announced::and_later;
 pub use announced::{announced_refusal, at_most_16, natural, size_of, table_refusal};
-pub use fixed::FIXED_ROWS;
+pub use fixed::{FIXED_ROWS, LAST_MONTH, LAST_SECONDS};
 pub(crate) use fixed::{FIXED_SIZE, MONTHS};
 
 // The rows that a caller lends after the fixed ones: how many by each size, their month starts (12 × year + month - 1) and their whole seconds. Places past the
 // size are not read. A call that ends in `_by_rows` takes the rows of such a table, which is tested elsewhere; one that ends in `_by_arrays` takes one size and
 // the two arrays by reference, at most 16 rows, so that nothing is copied from call to call.
-#[derive(Drop)]
+#[derive(Clone, Copy)]
 pub struct AnnouncedRows {
     pub months_size: u32,
     pub seconds_size: u32,
@@ -24,7 +25,7 @@ pub struct AnnouncedRows {
 }
 
 // How many rows a table has, or the number of the refusal.
-#[derive(Drop)]
+#[derive(Clone, Copy)]
 pub enum RowsAnswer {
     Rows(u32),
     Refused(u32),

@@ -1,5 +1,5 @@
 // TAI-UTC of many dates in one walk through the table. From document 02, item 2. All dates are judged before one offset is written.
-ghost use Rattle.std.specs.Prelude.{◌≡◌, ◌++◌, map, ◌*◌, ◌<◌, ◌≤◌, nat_abs, length, drop, T};
+ghost use Rattle.std.specs.Prelude.{◌≡◌, ◌*◌, ◌<◌, ◌≤◌, T, ◌++◌, map, length, drop};
 ghost use Rattle.std.specs.Float.{binary64};
 ghost use Rattle.std.specs.Float.Ieee.{of_int};
 ghost use Rattle.refusals.specs.Outcome.{answer, onward};
@@ -24,14 +24,14 @@ use crate::rows::AnnouncedRows;
 pub use in_bytes::offsets_at_0h_bytes;
 
 // The number of rows compared, or the number of the refusal.
-#[derive(Drop)]
+#[derive(Clone, Copy)]
 pub enum WalkAnswer {
     Compared(u64),
     Refused(u32),
 }
 
 // How far a walk has come: the rows of the table and those reached, the start of the next one, the terms of the last one reached, and the rows compared so far.
-#[derive(Drop)]
+#[derive(Clone, Copy)]
 pub struct Walk {
     pub rows: usize,
     pub reached: usize,

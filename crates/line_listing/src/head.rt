@@ -1,5 +1,5 @@
 // The first lines and the last: how many stamps each run has, how many of them are not finite, refused and left out.
-ghost use Rattle.std.specs.Prelude.{◌≡◌, ◌+◌, ◌-◌, ◌≤◌, ◌<◌, cond, eqb, length};
+ghost use Rattle.std.specs.Prelude.{◌≡◌, ◌+◌, ◌-◌, ◌<◌, ◌≤◌, length, if◌then◌else◌, ◌==◌, nat_eq};
 ghost use Rattle.floats.specs.ExponentField.{exponent_field};
 ghost use Rattle.leap_table.specs.rows.Announced.{least};
 ghost use Rattle.utc.specs.text.Answer.{TextPut};
@@ -15,7 +15,7 @@ use reasons::sentences::numbers::place_decimal;
 use utc::text::TextAnswer;
 
 // Whether a run is named, and the block that ended it: how many came before it, and the number of its refusal, 0 where none did.
-#[derive(Drop)]
+#[derive(Clone, Copy)]
 pub struct RunEnd {
     pub named: bool,
     pub block: u64,
@@ -24,7 +24,7 @@ pub struct RunEnd {
 
 // Whether the exponent field of a pattern is all ones.
 fn all_ones(bits: u64) -> bool
-    ensures { result ≡ eqb (exponent_field bits) 2047 }
+    ensures { result ≡ (exponent_field bits == 2047) }
 {
     bits / 0x10_0000_0000_0000 % 2048 == 2047
 }
@@ -50,13 +50,20 @@ fn kind_at(jd1s: &[u8], jd2s: &[u8], numbers: &[u8], place: usize) -> u8
 }
 
 fn one_if_same(a: u8, b: u8) -> usize
-    ensures { (result ≡ cond (eqb a b) 1 0) × (result ≤ 1) }
+    ensures { (result ≡ (if nat_eq a b then 1 else 0)) × (result ≤ 1) }
 {
     if a == b { 1 } else { 0 }
 }
 
 // How many of the n stamps from `from` on are of a kind.
-fn count_of(jd1s: &[u8], jd2s: &[u8], numbers: &[u8], kind: u8, from: usize, n: usize) -> usize
+pub(crate) fn count_of(
+    jd1s: &[u8],
+    jd2s: &[u8],
+    numbers: &[u8],
+    kind: u8,
+    from: usize,
+    n: usize,
+) -> usize
     requires { from + n < 18446744073709551616 }
     ensures { (result ≡ kinds_in jd1s.now jd2s.now numbers.now kind from n) × (result ≤ n) }
 {
@@ -70,7 +77,7 @@ fn count_of(jd1s: &[u8], jd2s: &[u8], numbers: &[u8], kind: u8, from: usize, n: 
 }
 
 // Words and a number.
-fn place_count(words: &[u8], n: u64, dst: &mut [u8], at: usize) -> usize
+pub(crate) fn place_count(words: &[u8], n: u64, dst: &mut [u8], at: usize) -> usize
     requires { at + length words.now + 20 ≤ length dst.old }
     ensures { PlacedIn dst.old at (counted words.now n) (length words.now + 20) result dst.new }
 {
@@ -164,7 +171,7 @@ pub(crate) fn smaller(a: usize, b: usize) -> usize
 }
 
 // The first lines, at the start of a slice that surely holds them.
-fn compose(
+pub(crate) fn compose(
     jd1s: &[u8],
     jd2s: &[u8],
     numbers: &[u8],
@@ -211,10 +218,10 @@ pub fn put_head(
     if out.len() < n {
         return TextAnswer::Refused(refusals::NO_ROOM);
     }
-    TextAnswer::Written(bytes::copy(&all[..n], out))
+    TextAnswer::Written(numerals::place::copy(&all[..n], out))
 }
 
-fn compose_end(ordered: u64, textless: u64, dst: &mut [u8]) -> usize
+pub(crate) fn compose_end(ordered: u64, textless: u64, dst: &mut [u8]) -> usize
     requires { 64 ≤ length dst.old }
     ensures { PlacedIn dst.old 0 (end_text ordered textless) 64 result dst.new }
 {
@@ -232,5 +239,5 @@ pub fn put_end(ordered: u64, textless: u64, out: &mut [u8]) -> TextAnswer
     if out.len() < n {
         return TextAnswer::Refused(refusals::NO_ROOM);
     }
-    TextAnswer::Written(bytes::copy(&all[..n], out))
+    TextAnswer::Written(numerals::place::copy(&all[..n], out))
 }

@@ -1,15 +1,11 @@
 // The line of each stamp: its recorder, its index in its run, and its UTC text or the number of its refusal.
-ghost use Rattle.std.specs.Prelude.{◌≡◌, ◌+◌, ◌-◌, ◌*◌, ◌/◌, ◌≤◌, ◌<◌, true, length, get_or};
-ghost use Rattle.refusals.specs.Outcome.{onward};
+ghost use Rattle.std.specs.Prelude.{◌≡◌, ◌+◌, ◌-◌, ◌*◌, ◌/◌, ◌<◌, ◌≤◌, true, length, slice_index};
 ghost use Rattle.numerals.specs.digits.Placed.{Placed};
 ghost use Rattle.leap_table.specs.rows.Announced.{rows_in, table_of, least};
-ghost use Rattle.stamps.specs.Listing.{one_if_refused};
-ghost use Rattle.utc_scales.specs.UtcTai.{tai_to_utc};
-ghost use Rattle.utc.specs.iso_texts.Expanded.{iso_text_expanded};
-ghost use Rattle.line_listing.specs.lines.StampLine.{stamps, line_in_order, recorder, index_in, sentence_behind, number_told, no_text, refused, stamp_told};
-ghost use Rattle.line_listing.specs.lines.StampLine.{utc_told, line_by, no_text_count};
-ghost use Rattle.line_listing.specs.lines.Parts.{longest_line, ListedCall};
-ghost use Rattle.line_listing.specs.lines.Asked.{answer_by, Gathered, Converted, ToldAt, LinesPlaced};
+ghost use Rattle.line_listing.specs.lines.StampLine.{stamps, line_in_order, recorder, index_in, sentence_behind, number_told, no_text, refused};
+ghost use Rattle.line_listing.specs.lines.Parts.{longest_line, places_there, absent_refusal, ListedCall};
+ghost use Rattle.line_listing.specs.lines.Asked.{text_by, none_by, told_by, textless_by, line_told, PartsRoom, TextsRoom, ShortTexts, Gathered, Converted};
+ghost use Rattle.line_listing.specs.lines.Asked.{Texts, page, ToldAt, PagePlaced, LinesPlaced};
 
 use crate::head::smaller;
 use julian::JulianDate;
@@ -18,12 +14,11 @@ use numerals::little_endian::{nth_u32, nth_u64, put_nth_u64};
 use numerals::place::place_bytes;
 use reasons::sentences::numbers::place_decimal;
 use reasons::{ReasonAnswer, Values};
-use scales::UTC;
-use utc::iso_texts::TextByRule;
+use utc::iso_texts::NamedForm;
 use utc::text::TextAnswer;
 
 // What a call put into the buffer: how many bytes, which line comes next, and how many of the lines are of ordered stamps without text.
-#[derive(Drop)]
+#[derive(Clone, Copy)]
 pub struct Part {
     pub written: usize,
     pub line: usize,
@@ -31,14 +26,14 @@ pub struct Part {
 }
 
 // A part of the lines, or the number of the refusal.
-#[derive(Drop)]
+#[derive(Clone, Copy)]
 pub enum PartAnswer {
     Lines(Part),
     Refused(u32),
 }
 
 // The index after what was written of a stamp, and 1 where it is ordered and has no text.
-#[derive(Drop)]
+#[derive(Clone, Copy)]
 struct Told {
     next: usize,
     textless: usize,
@@ -121,70 +116,57 @@ fn place_refused(sentences: bool, number: u32, jd: JulianDate, dst: &mut [u8], a
     place_number(sentences, number, jd, dst, start)
 }
 
-// The UTC text of a TAI whose conversion has this mark, 0 or the number of its refusal, and this date.
-fn place_text<'a>(
+// What is told of an ordered stamp: the text of its UTC, where its conversion has the mark 0 and its text the number 0.
+fn place_text(
     sentences: bool,
     mark: u8,
     tai: JulianDate,
     date: JulianDate,
-    size: usize,
-    months: &'a [i32; 16],
-    seconds: &'a [i32; 16],
+    text: &[u8],
+    none: u8,
     dst: &mut [u8],
     at: usize,
 ) -> Told
-    requires { (answer_by mark date ≡ tai_to_utc (rows_in size months.now seconds.now) tai) × (at + longest_line sentences ≤ length dst.old + 16) }
-    ensures told_at { ToldAt dst.old at
-        (utc_told sentences (rows_in size months.now seconds.now) tai (tai_to_utc (rows_in size months.now seconds.entry.now) tai))
-        (one_if_refused (onward (tai_to_utc (rows_in size months.now seconds.now) tai)
-        (iso_text_expanded (rows_in size months.now seconds.now)))) result dst.new }
+    requires { (length text.now ≤ 27) × (at + longest_line sentences ≤ length dst.old + 16) }
+    ensures told_at { ToldAt dst.old at (text_by sentences mark tai date text.now none) (none_by mark none) result dst.new }
     ensures next_bound { result.next + 16 ≤ at + longest_line sentences }
 {
     if mark != 0 {
         return place_no_text(sentences, mark as u32, tai, dst, at);
     }
-    match utc::iso_texts::to_iso8601_expanded_by_arrays(
-        UTC(date),
-        size,
-        months,
-        seconds,
-        &mut dst[at..],
-    ) {
-        TextByRule::Written(n, _) => Told {
-            next: at + n,
-            textless: 0,
-        },
-        TextByRule::Refused(number) => place_no_text(sentences, number, date, dst, at),
+    if none != 0 {
+        return place_no_text(sentences, none as u32, date, dst, at);
     }
+    let next = place_bytes(text, dst, at);
+    Told { next, textless: 0 }
 }
 
 // What is told of a stamp with this number.
-fn place_stamp<'a>(
+fn place_stamp(
     sentences: bool,
     number: u8,
     mark: u8,
     tai: JulianDate,
     date: JulianDate,
-    size: usize,
-    months: &'a [i32; 16],
-    seconds: &'a [i32; 16],
+    text: &[u8],
+    none: u8,
     dst: &mut [u8],
     at: usize,
 ) -> Told
-    requires { (answer_by mark date ≡ tai_to_utc (rows_in size months.now seconds.now) tai) × (at + longest_line sentences ≤ length dst.old + 16) }
-    ensures told_at { ToldAt dst.old at (stamp_told sentences (rows_in size months.now seconds.now) tai number)
-        (no_text_count (rows_in size months.now seconds.now) tai number) result dst.new }
+    requires { (length text.now ≤ 27) × (at + longest_line sentences ≤ length dst.old + 16) }
+    ensures told_at { ToldAt dst.old at (told_by sentences number mark tai date text.now none) (textless_by number mark none) result
+        dst.new }
     ensures next_bound { result.next + 16 ≤ at + longest_line sentences }
 {
     if number != 0 {
         let next = place_refused(sentences, number as u32, tai, dst, at);
         return Told { next, textless: 0 };
     }
-    place_text(sentences, mark, tai, date, size, months, seconds, dst, at)
+    place_text(sentences, mark, tai, date, text, none, dst, at)
 }
 
 // The line of the stamp at a place.
-fn place_line<'a>(
+fn place_line(
     sentences: bool,
     first: usize,
     second: usize,
@@ -193,24 +175,20 @@ fn place_line<'a>(
     mark: u8,
     tai: JulianDate,
     date: JulianDate,
-    size: usize,
-    months: &'a [i32; 16],
-    seconds: &'a [i32; 16],
+    text: &[u8],
+    none: u8,
     dst: &mut [u8],
     at: usize,
 ) -> Told
-    requires { (answer_by mark date ≡ tai_to_utc (rows_in size months.now seconds.now) tai) × (place < 4294967296)
-        × (at + longest_line sentences ≤ length dst.old) }
-    ensures told_at { ToldAt dst.old at (line_by sentences (rows_in size months.now seconds.now) first second place tai number)
-        (no_text_count (rows_in size months.now seconds.now) tai number) result dst.new }
+    requires { (length text.now ≤ 27) × (place < 4294967296) × (at + longest_line sentences ≤ length dst.old) }
+    ensures told_at { ToldAt dst.old at (line_told first second place (told_by sentences number mark tai date text.now none))
+        (textless_by number mark none) result dst.new }
     ensures next_bound { result.next ≤ at + longest_line sentences }
 {
     let a = place_recorder(first, second, place, dst, at);
     let b = place_decimal(index_in(first, second, place) as u64, dst, a);
     let c = place_bytes(b" ", dst, b);
-    let told = place_stamp(
-        sentences, number, mark, tai, date, size, months, seconds, dst, c,
-    );
+    let told = place_stamp(sentences, number, mark, tai, date, text, none, dst, c);
     let d = told.next;
     let next = place_bytes(b"\n", dst, d);
     Told {
@@ -219,46 +197,48 @@ fn place_line<'a>(
     }
 }
 
-// The parts of the stamps of 256 lines from `line` on.
-fn gather(jds: &[u8], order: &[u8], line: usize, out: &mut [u8])
-    requires { (line + 256 < 18446744073709551616) × (length out.old ≡ 2048) }
-    ensures { Gathered jds.now order.now line 256 out.new × (length out.new ≡ 2048) }
+// The parts of the stamps of `count` lines from `line` on.
+fn gather(jds: &[u8], order: &[u8], line: usize, count: usize, out: &mut [u8])
+    requires { (line + count < 18446744073709551616) × (length out.old ≡ 8 * count) }
+    ensures { Gathered jds.now order.now line count out.new × (length out.new ≡ 8 * count) }
 {
     let mut i = 0;
-    while i < 256 {
+    while i < count {
         let place = nth_u32(order, line + i) as usize;
         put_nth_u64(out, i, nth_u64(jds, place));
         i += 1;
     }
 }
 
-// Their UTC. A line without a stamp has that of the first.
+// Their UTC.
 fn convert_page<'a>(
     jd1s: &[u8],
     jd2s: &[u8],
     order: &[u8],
     line: usize,
+    count: usize,
     size: usize,
     months: &'a [i32; 16],
     seconds: &'a [i32; 16],
+    tai1: &mut [u8],
+    tai2: &mut [u8],
     utc1: &mut [u8],
     utc2: &mut [u8],
     marks: &mut [u8],
 )
-    requires { (line + 256 < 18446744073709551616) × (length utc1.old ≡ 2048) × (length utc2.old ≡ 2048) × (length marks.old ≡ 256) }
+    requires { (line + count < 18446744073709551616) × PartsRoom count tai1.old tai2.old × PartsRoom count utc1.old utc2.old
+        × (length marks.old ≡ count) }
     ensures { Converted (rows_in size months.now seconds.now) jd1s.now jd2s.now order.now line
-        utc1.new utc2.new marks.new × (length utc1.new ≡ 2048) × (length utc2.new ≡ 2048)
-        × (length marks.new ≡ 256) }
+        count utc1.new utc2.new marks.new × PartsRoom count utc1.new utc2.new
+        × PartsRoom count tai1.new tai2.new × (length marks.new ≡ count) }
 {
-    let mut tai1 = [0u8; 2048];
-    let mut tai2 = [0u8; 2048];
-    gather(jd1s, order, line, &mut tai1);
-    gather(jd2s, order, line, &mut tai2);
+    gather(jd1s, order, line, count, tai1);
+    gather(jd2s, order, line, count, tai2);
     runs::convert_run_by_arrays(
         constants::scale_numbers::TAI,
         constants::scale_numbers::UTC,
-        &tai1,
-        &tai2,
+        tai1,
+        tai2,
         size,
         months,
         seconds,
@@ -268,9 +248,38 @@ fn convert_page<'a>(
     );
 }
 
+// The texts of `count` UTC dates, with expanded years.
+fn write_texts<'a>(
+    utc1: &[u8],
+    utc2: &[u8],
+    count: usize,
+    size: usize,
+    months: &'a [i32; 16],
+    seconds: &'a [i32; 16],
+    texts: &mut [u8],
+    lengths: &mut [u8],
+    nones: &mut [u8],
+)
+    requires { PartsRoom count utc1.now utc2.now × TextsRoom count texts.old lengths.old nones.old }
+    ensures { Texts (rows_in size months.now seconds.now) utc1.now utc2.now count texts.new
+        lengths.new nones.new × TextsRoom count texts.new lengths.new nones.new }
+{
+    utc::run_texts::texts_of_run_by_arrays(
+        NamedForm::Expanded,
+        utc1,
+        utc2,
+        size,
+        months,
+        seconds,
+        texts,
+        lengths,
+        nones,
+    );
+}
+
 // The number of the stamp at a place; 0 where the list does not have it.
 pub(crate) fn number_at(numbers: &[u8], place: usize) -> u8
-    ensures { result ≡ get_or numbers.now place 0 }
+    ensures { result ≡ slice_index numbers.now place }
 {
     if place < numbers.len() {
         return numbers[place];
@@ -278,8 +287,8 @@ pub(crate) fn number_at(numbers: &[u8], place: usize) -> u8
     0
 }
 
-// `count` lines from `line` on, by their UTC.
-fn place_lines<'a>(
+// `count` lines from `line` on, by their UTC and its texts.
+fn place_lines(
     sentences: bool,
     jd1s: &[u8],
     jd2s: &[u8],
@@ -292,16 +301,16 @@ fn place_lines<'a>(
     utc1: &[u8],
     utc2: &[u8],
     marks: &[u8],
-    size: usize,
-    months: &'a [i32; 16],
-    seconds: &'a [i32; 16],
+    texts: &[u8],
+    lengths: &[u8],
+    nones: &[u8],
     out: &mut [u8],
 ) -> Part
-    requires { Converted (rows_in size months.now seconds.now) jd1s.now jd2s.now order.now line utc1.now utc2.now marks.now
-        × (count ≤ 256) × (256 ≤ length marks.now) × (line + 256 < 18446744073709551616) × (count * longest_line sentences ≤ length out.old) }
-    ensures { LinesPlaced sentences (rows_in size months.now seconds.now)
-        (stamps jd1s.now jd2s.now numbers.now first second) order.now line count out.old result
-        out.new }
+    requires { (line + count < 18446744073709551616) × TextsRoom count texts.now lengths.now nones.now × ShortTexts count lengths.now
+        × (count * longest_line sentences ≤ length out.old) }
+    ensures { PagePlaced sentences (stamps jd1s.now jd2s.now numbers.now first second) order.now line count
+        (page utc1.now utc2.now marks.now texts.now lengths.now nones.now)
+        out.old result out.new }
 {
     let mut at = 0;
     let mut textless = 0;
@@ -311,9 +320,21 @@ fn place_lines<'a>(
         let number = number_at(numbers, place);
         let tai = julian::stamp_lists::stamp_of(jd1s, jd2s, place);
         let date = julian::stamp_lists::stamp_of(utc1, utc2, i);
+        let start = 27 * i;
+        let end = start + number_at(lengths, i) as usize;
         let told = place_line(
-            sentences, first, second, place, number, marks[i], tai, date, size, months, seconds,
-            out, at,
+            sentences,
+            first,
+            second,
+            place,
+            number,
+            number_at(marks, i),
+            tai,
+            date,
+            &texts[start..end],
+            number_at(nones, i),
+            out,
+            at,
         );
         at = told.next;
         textless += told.textless;
@@ -326,8 +347,50 @@ fn place_lines<'a>(
     }
 }
 
-// The same, with the UTC of the lines.
-fn page_part<'a>(
+// The same, with the UTC and its texts, in areas of their size.
+fn page_in<'a>(
+    sentences: bool,
+    jd1s: &[u8],
+    jd2s: &[u8],
+    numbers: &[u8],
+    first: usize,
+    second: usize,
+    order: &[u8],
+    line: usize,
+    count: usize,
+    size: usize,
+    months: &'a [i32; 16],
+    seconds: &'a [i32; 16],
+    tai1: &mut [u8],
+    tai2: &mut [u8],
+    utc1: &mut [u8],
+    utc2: &mut [u8],
+    marks: &mut [u8],
+    texts: &mut [u8],
+    lengths: &mut [u8],
+    nones: &mut [u8],
+    out: &mut [u8],
+) -> Part
+    requires { (line + count < 18446744073709551616) × PartsRoom count tai1.old tai2.old × PartsRoom count utc1.old utc2.old
+        × (length marks.old ≡ count) × TextsRoom count texts.old lengths.old nones.old × (count * longest_line sentences ≤ length out.old) }
+    ensures { LinesPlaced sentences (rows_in size months.now seconds.now)
+        (stamps jd1s.now jd2s.now numbers.now first second) order.now line count out.old result
+        out.new }
+{
+    convert_page(
+        jd1s, jd2s, order, line, count, size, months, seconds, tai1, tai2, utc1, utc2, marks,
+    );
+    write_texts(
+        utc1, utc2, count, size, months, seconds, texts, lengths, nones,
+    );
+    place_lines(
+        sentences, jd1s, jd2s, numbers, first, second, order, line, count, utc1, utc2, marks,
+        texts, lengths, nones, out,
+    )
+}
+
+// The same, with the areas.
+pub(crate) fn page_part<'a>(
     sentences: bool,
     jd1s: &[u8],
     jd2s: &[u8],
@@ -347,15 +410,38 @@ fn page_part<'a>(
         (stamps jd1s.now jd2s.now numbers.now first second) order.now line count out.old result
         out.new }
 {
+    let mut tai1 = [0u8; 2048];
+    let mut tai2 = [0u8; 2048];
     let mut utc1 = [0u8; 2048];
     let mut utc2 = [0u8; 2048];
     let mut marks = [0u8; 256];
-    convert_page(
-        jd1s, jd2s, order, line, size, months, seconds, &mut utc1, &mut utc2, &mut marks,
-    );
-    place_lines(
-        sentences, jd1s, jd2s, numbers, first, second, order, line, count, &utc1, &utc2, &marks,
-        size, months, seconds, out,
+    let mut texts = [0u8; 6912];
+    let mut lengths = [0u8; 256];
+    let mut nones = [0u8; 256];
+    let parts = 8 * count;
+    let room = 27 * count;
+    page_in(
+        sentences,
+        jd1s,
+        jd2s,
+        numbers,
+        first,
+        second,
+        order,
+        line,
+        count,
+        size,
+        months,
+        seconds,
+        &mut tai1[..parts],
+        &mut tai2[..parts],
+        &mut utc1[..parts],
+        &mut utc2[..parts],
+        &mut marks[..count],
+        &mut texts[..room],
+        &mut lengths[..count],
+        &mut nones[..count],
+        out,
     )
 }
 
@@ -368,7 +454,7 @@ fn line_room(sentences: bool) -> usize
 }
 
 // How many lines go into the part from `line` on, into `room` bytes.
-fn part_lines(sentences: bool, lines: usize, line: usize, room: usize) -> usize
+pub(crate) fn part_lines(sentences: bool, lines: usize, line: usize, room: usize) -> usize
     ensures { result ≡ least (least (lines - line) 256) (room / longest_line sentences) }
 {
     if lines <= line {
@@ -377,10 +463,44 @@ fn part_lines(sentences: bool, lines: usize, line: usize, room: usize) -> usize
     smaller(smaller(lines - line, 256), room / line_room(sentences))
 }
 
+// Whether each of `count` lines from `line` on names one of so many stamps.
+fn places_there(order: &[u8], stamps: usize, line: usize, count: usize) -> bool
+    requires { line + count < 18446744073709551616 }
+    ensures { result ≡ places_there order.now stamps line count }
+{
+    let mut i = 0;
+    while i < count {
+        if nth_u32(order, line + i) as usize >= stamps {
+            return false;
+        }
+        i += 1;
+    }
+    true
+}
+
+// 18 where a line of the part from `line` on names a stamp that is not there, else 0.
+pub(crate) fn places_refusal(
+    sentences: bool,
+    stamps: usize,
+    order: &[u8],
+    line: usize,
+    room: usize,
+) -> u32
+    ensures { result ≡ absent_refusal sentences stamps order.now line room }
+{
+    let count = part_lines(sentences, order.len() / 4, line, room);
+    if count == 0 {
+        return 0;
+    }
+    if places_there(order, stamps, line, count) {
+        return 0;
+    }
+    refusals::OUT_OF_LIMIT
+}
+
 // The lines of an order of stamps, from line `line` on, at the start of the buffer: as many whole lines as surely go into it, each given the room of the
 // longest, 43 bytes, or 84 with sentences, and at most 256. A stamp that the lists do not have is of parts 0.0 and of number 0. Into a shorter buffer
-// nothing is
-// written, and the answer names the same line. Refusals: 20 to 22 the table.
+// nothing is written, and the answer names the same line. Refusals: 20 to 22 the table.
 pub fn next_part(
     sentences: bool,
     jd1s: &[u8],

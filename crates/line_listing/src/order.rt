@@ -1,5 +1,5 @@
 // Every stamp's place in the listing: the ordered ones by their TAI, the others behind the last ordered one before them in their run.
-ghost use Rattle.std.specs.Prelude.{◌≡◌, ◌∷◌, ◌++◌, length, take, drop, suc, ◌*◌};
+ghost use Rattle.std.specs.Prelude.{◌≡◌, suc, ◌*◌, ◌∷◌, ◌++◌, length, take, drop};
 ghost use Rattle.line_up.specs.LineUp as U;
 ghost use Rattle.line_up.specs.keep.Cells as C;
 ghost use Rattle.line_listing.specs.order.Order as O;

@@ -5,7 +5,7 @@ use mathlib.Core.Bool.{Bool, true}
 use mathlib.Core.List.{List, [], ◌∷◌}
 use lib.Dec.{ltb}
 use lib.ListN.{get_or, take}
-use Rattle.line_up.specs.Runs.{tested, into, merge, pick, cursor_after, zeros}
+use Rattle.line_up.specs.Runs.{tested, into, merge}
 use Rattle.line_up.specs.LineUp.{line_refusal}
 
 abbrev by : List ℕ → ℕ → ℕ → Bool

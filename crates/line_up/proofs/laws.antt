@@ -3,5 +3,6 @@ pub mod Pairwise
 pub mod Once
 pub mod Judging
 pub mod Theorems
+pub mod NotFinite
 pub mod Due
 pub mod Written

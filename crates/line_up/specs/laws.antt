@@ -2,3 +2,4 @@
 pub mod Claims
 pub mod Due
 pub mod Writer
+pub mod Line

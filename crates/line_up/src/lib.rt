@@ -1,4 +1,6 @@
 // The stamps of up to three recorders, in TAI, in one order by their exact sums. The parts of the stamps and the places are bytes, the lowest first.
+#![tactic(auto)]
+
 ghost use Rattle.std.specs.Prelude.{◌≡◌, length, ◌≤◌, ◌<◌, ◌+◌};
 ghost use Rattle.line_up.specs.Runs as R;
 ghost use Rattle.line_up.specs.LineUp as U;
@@ -7,7 +9,7 @@ ghost use Rattle.line_up.specs.Asked as N;
 pub mod keep;
 
 // How many stamps are ordered, or the number of the refusal.
-#[derive(Drop)]
+#[derive(Clone, Copy)]
 pub enum LineUpAnswer {
     Ordered(u32),
     Refused(u32),

@@ -1,5 +1,7 @@
 // Lists stamp blocks one after the other: they are read from standard input, each behind its length in four bytes. tests/listing/stored writes the input and
 // the listings that are due: a good block, an empty one, each refusal, and the longest.
+#![tactic(auto)]
+
 ghost use Rattle.std.specs.Prelude.{◌≡◌, length};
 
 // One byte more than the longest block, 8 + 16 * 4000 bytes, so that a block that is too long can be given too.

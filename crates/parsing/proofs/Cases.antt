@@ -15,7 +15,8 @@ use Rattle.calendar.specs.Refusals.{valid_date}
 use Rattle.utc.specs.text.Ascii.{ascii_bytes}
 use Rattle.parsing.specs.declared.ParsedDateTime.{ParsedDateTime}
 use Rattle.parsing.specs.scan.Written.{Written}
-use Rattle.parsing.specs.scan.Form.{is_blank, after_blanks, two_digits, digit_says, date_right, is_separator, time_right, leading, fraction_digits, after_fraction}
+use Rattle.parsing.specs.scan.Form.{is_blank, after_blanks, two_digits, digit_says, date_right, is_separator, time_right, leading, fraction_digits}
+use Rattle.parsing.specs.scan.Form.{after_fraction}
 use Rattle.parsing.specs.scan.Form.{end_right, right_form, says, form_of}
 use Rattle.parsing.specs.Parsed.{time_fits, judged, parsed}
 
@@ -72,23 +73,27 @@ others =
     []
 
 pub missing_fields : map (parsed true) missing ≡ replicate 21 (refusal 15)
-unfolding missing parsed onward form_of right_form end_right after_fraction fraction_digits leading time_right is_separator date_right two_digits after_blanks is_blank
+unfolding missing parsed onward form_of right_form end_right after_fraction fraction_digits leading time_right is_separator date_right two_digits after_blanks
+    is_blank
     is_digit
 missing_fields = refl
 
 pub other_bytes : map (parsed true) others ≡ replicate 22 (refusal 15)
-unfolding others parsed onward form_of right_form end_right after_fraction fraction_digits leading time_right is_separator date_right two_digits after_blanks is_blank
+unfolding others parsed onward form_of right_form end_right after_fraction fraction_digits leading time_right is_separator date_right two_digits after_blanks
+    is_blank
     is_digit says digit_says judged time_fits valid_date days_in_month lengths leap_size
 other_bytes = refl
 
 -- a Z is read in UTC alone, and right behind the second
 pub no_zulu : parsed false (ascii_bytes "2016-12-31T23:59:60.5Z") ≡ refusal 15
-unfolding parsed onward form_of right_form end_right after_fraction fraction_digits leading time_right is_separator date_right two_digits after_blanks is_blank is_digit
+unfolding parsed onward form_of right_form end_right after_fraction fraction_digits leading time_right is_separator date_right two_digits after_blanks is_blank
+    is_digit
     says digit_says judged time_fits valid_date days_in_month lengths leap_size
 no_zulu = refl
 
 pub no_tab : parsed true (ascii_bytes "2016-12-31T23:59:60.5" ++ (9 ∷ ascii_bytes "Z")) ≡ refusal 15
-unfolding parsed onward form_of right_form end_right after_fraction fraction_digits leading time_right is_separator date_right two_digits after_blanks is_blank is_digit
+unfolding parsed onward form_of right_form end_right after_fraction fraction_digits leading time_right is_separator date_right two_digits after_blanks is_blank
+    is_digit
     says digit_says judged time_fits valid_date days_in_month lengths leap_size
 no_tab = refl
 
@@ -121,30 +126,35 @@ whole = ascii_bytes "2016-12-31 23:59:60Z"
 
 -- a blank goes in front or behind
 pub blank_more : map (places tenth) blanks ≡ replicate 6 (0 ∷ 22 ∷ [])
-unfolding places_from within form_of right_form end_right after_fraction fraction_digits leading time_right is_separator date_right two_digits after_blanks is_blank is_digit
+unfolding places_from within form_of right_form end_right after_fraction fraction_digits leading time_right is_separator date_right two_digits after_blanks
+    is_blank is_digit
     says
 blank_more = refl
 
 -- a digit into the fraction
 pub digit_more : map (places tenth) (48 ∷ 53 ∷ 57 ∷ []) ≡ replicate 3 (20 ∷ 21 ∷ [])
-unfolding places_from within form_of right_form end_right after_fraction fraction_digits leading time_right is_separator date_right two_digits after_blanks is_blank is_digit
+unfolding places_from within form_of right_form end_right after_fraction fraction_digits leading time_right is_separator date_right two_digits after_blanks
+    is_blank is_digit
     says
 digit_more = refl
 
 -- and no mark anywhere
 pub mark_more : map (places tenth) marks ≡ replicate 22 []
-unfolding places_from within form_of right_form end_right after_fraction fraction_digits leading time_right is_separator date_right two_digits after_blanks is_blank is_digit
+unfolding places_from within form_of right_form end_right after_fraction fraction_digits leading time_right is_separator date_right two_digits after_blanks
+    is_blank is_digit
     says
 mark_more = refl
 
 pub blank_more_whole : map (places whole) blanks ≡ replicate 6 (0 ∷ 20 ∷ [])
-unfolding places_from within form_of right_form end_right after_fraction fraction_digits leading time_right is_separator date_right two_digits after_blanks is_blank is_digit
+unfolding places_from within form_of right_form end_right after_fraction fraction_digits leading time_right is_separator date_right two_digits after_blanks
+    is_blank is_digit
     says
 blank_more_whole = refl
 
 -- where there is no fraction, no digit either
 pub mark_more_whole : map (places whole) (48 ∷ 53 ∷ 57 ∷ marks) ≡ replicate 25 []
-unfolding places_from within form_of right_form end_right after_fraction fraction_digits leading time_right is_separator date_right two_digits after_blanks is_blank is_digit
+unfolding places_from within form_of right_form end_right after_fraction fraction_digits leading time_right is_separator date_right two_digits after_blanks
+    is_blank is_digit
     says
 mark_more_whole = refl
 
@@ -153,26 +163,31 @@ abbrev fields : Float → ParsedDateTime
 fields s = record { year = pos 2016; month = 12; day = 31; hour = 23; minute = 59; second = s }
 
 pub no_fraction : parsed true (ascii_bytes "2016-12-31T23:59:60") ≡ answer (fields (decimal 60 0))
-unfolding parsed onward form_of right_form end_right after_fraction fraction_digits leading time_right is_separator date_right two_digits after_blanks is_blank is_digit
+unfolding parsed onward form_of right_form end_right after_fraction fraction_digits leading time_right is_separator date_right two_digits after_blanks is_blank
+    is_digit
     says digit_says judged time_fits valid_date days_in_month lengths leap_size
 no_fraction = refl
 
 pub tenths : parsed true (ascii_bytes "2016-12-31 23:59:60.5Z") ≡ answer (fields (decimal 605 1))
-unfolding parsed onward form_of right_form end_right after_fraction fraction_digits leading time_right is_separator date_right two_digits after_blanks is_blank is_digit
+unfolding parsed onward form_of right_form end_right after_fraction fraction_digits leading time_right is_separator date_right two_digits after_blanks is_blank
+    is_digit
     says digit_says judged time_fits valid_date days_in_month lengths leap_size
 tenths = refl
 
 pub ten-digits : parsed true (ascii_bytes "2016-12-31T23:59:60.1234567891Z") ≡ answer (fields (decimal 601234567891 10))
-unfolding parsed onward form_of right_form end_right after_fraction fraction_digits leading time_right is_separator date_right two_digits after_blanks is_blank is_digit
+unfolding parsed onward form_of right_form end_right after_fraction fraction_digits leading time_right is_separator date_right two_digits after_blanks is_blank
+    is_digit
     says digit_says judged time_fits valid_date days_in_month lengths leap_size
 ten-digits = refl
 
 pub thirteen_digits : parsed true (ascii_bytes "2016-12-31T23:59:59.1234567890123Z") ≡ answer (fields (decimal 591234567890123 13))
-unfolding parsed onward form_of right_form end_right after_fraction fraction_digits leading time_right is_separator date_right two_digits after_blanks is_blank is_digit
+unfolding parsed onward form_of right_form end_right after_fraction fraction_digits leading time_right is_separator date_right two_digits after_blanks is_blank
+    is_digit
     says digit_says judged time_fits valid_date days_in_month lengths leap_size
 thirteen_digits = refl
 
 pub fourteen_digits : parsed true (ascii_bytes "2016-12-31T23:59:59.12345678901234Z") ≡ refusal 16
-unfolding parsed onward form_of right_form end_right after_fraction fraction_digits leading time_right is_separator date_right two_digits after_blanks is_blank is_digit
+unfolding parsed onward form_of right_form end_right after_fraction fraction_digits leading time_right is_separator date_right two_digits after_blanks is_blank
+    is_digit
     says digit_says judged time_fits valid_date days_in_month lengths leap_size
 fourteen_digits = refl

@@ -4,3 +4,5 @@ pub mod Judging
 -- The words of the theorems: no contract cites them. That the form is this grammar is proved in parsing_laws.
 pub mod Grammar
 pub mod scan
+-- The dates of a run of texts.
+pub mod run_dates

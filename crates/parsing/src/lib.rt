@@ -1,5 +1,7 @@
 // ISO 8601 text read: its six fields, and of UTC text the date. From parsing/mod.rs, and `FromStr` of scales/utc/mod.rs, with a byte slice in place of a
 // string.
+#![tactic(auto)]
+
 ghost use Rattle.std.specs.Prelude.{◌≡◌, true, false, ◌≤◌};
 ghost use Rattle.julian.specs.JulianDate.{julian_outcome};
 ghost use Rattle.refusals.specs.Outcome.{onward};
@@ -13,10 +15,11 @@ use julian::{JulianAnswer, JulianDate};
 use leap_table::rows::AnnouncedRows;
 use scales::{UTC, UtcAnswer};
 
+pub mod run_dates;
 pub mod scan;
 
 // The six fields of a text.
-#[derive(Drop)]
+#[derive(Clone, Copy)]
 pub struct ParsedDateTime {
     pub year: i32,
     pub month: u8,
@@ -27,20 +30,20 @@ pub struct ParsedDateTime {
 }
 
 // The fields, or the number of the refusal.
-#[derive(Drop)]
+#[derive(Clone, Copy)]
 pub enum ParsedAnswer {
     Fields(ParsedDateTime),
     Refused(u32),
 }
 
 // The fields of a UTC text, and the date that they name.
-#[derive(Drop)]
+#[derive(Clone, Copy)]
 pub struct ParsedUtc {
     pub fields: ParsedDateTime,
     pub date: UTC,
 }
 
-#[derive(Drop)]
+#[derive(Clone, Copy)]
 pub enum ParsedUtcAnswer {
     Read(ParsedUtc),
     Refused(u32),

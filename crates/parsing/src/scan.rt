@@ -5,7 +5,7 @@ ghost use Rattle.parsing.specs.scan.Form.{is_blank, after_blanks, two_digits, di
 ghost use Rattle.parsing.specs.scan.Scan.{pairs_at, joined as joined·of, DigitsRun, FractionRun, form_by, scanned_outcome, scan_of};
 
 // What a text of the right form says. The second is `whole` over 10^places where there are at most 13 places; `second` is its whole part.
-#[derive(Drop)]
+#[derive(Clone, Copy)]
 pub struct Form {
     pub year: u16,
     pub month: u8,
@@ -17,21 +17,21 @@ pub struct Form {
     pub places: usize,
 }
 
-#[derive(Drop)]
+#[derive(Clone, Copy)]
 pub enum Scanned {
     Within(Form),
     Outside,
 }
 
 // The digits of a fraction: the second with the first 13 of them behind it, how many there are, and the index behind them.
-#[derive(Drop)]
+#[derive(Clone, Copy)]
 pub struct Run {
     pub whole: u64,
     pub places: usize,
     pub end: usize,
 }
 
-fn blank(c: u8) -> bool
+pub(crate) fn blank(c: u8) -> bool
     ensures { result ≡ is_blank c }
 {
     if c == 32 {
@@ -86,14 +86,14 @@ fn worth(c: u8) -> u8
     0
 }
 
-fn two(a: u8, b: u8) -> u8
+pub(crate) fn two(a: u8, b: u8) -> u8
     ensures { (result ≡ two_say a b) × (result ≤ 99) }
 {
     10 * worth(a) + worth(b)
 }
 
 // Three numbers of two digits with a mark between them: a date but for the first two digits of its year, and a time.
-fn pairs_right(text: &[u8], at: usize, mark: u8) -> bool
+pub(crate) fn pairs_right(text: &[u8], at: usize, mark: u8) -> bool
     requires { at + 8 ≤ length text.now }
     ensures { result ≡ pairs_at mark text.now at }
 {
@@ -191,7 +191,7 @@ fn byte_at(text: &[u8], at: usize) -> u8
 }
 
 // The fraction from `at` on; a point with no digit behind it is none.
-fn fraction(text: &[u8], at: usize, second: u8) -> Run
+pub(crate) fn fraction(text: &[u8], at: usize, second: u8) -> Run
     requires { (at ≤ length text.now) × (second ≤ 99) }
     ensures { FractionRun second at text.now result }
 {
@@ -227,7 +227,7 @@ fn zone_end(text: &[u8], at: usize, utc: bool) -> usize
 }
 
 // Nothing but a zone and blanks from `at` on.
-fn end_right(text: &[u8], at: usize, utc: bool) -> bool
+pub(crate) fn end_right(text: &[u8], at: usize, utc: bool) -> bool
     requires { at ≤ length text.now }
     ensures { result ≡ end_right utc (drop at text.now) }
 {

@@ -1,6 +1,6 @@
 -- The scan of the definition is the grammar, both ways: it answers w exactly where the text reads as w, and 15 exactly where it reads as nothing; so a text has
 -- one reading. Assumes nothing.
-use Prim.Native.Nat.{ℕ, ◌+◌}
+use Prim.Native.Nat.{ℕ}
 use native.Mathlib.Omega.{arith}
 use mathlib.Core.Path.{◌≡◌, refl, sym, ap, ◌∙◌, subst}
 use mathlib.Core.List.{List, [], ◌∷◌, ◌++◌}
@@ -149,7 +149,8 @@ module _ (utc : Bool) (t : List ℕ) (right : right_form utc (after_blanks t) �
   unfolding found
   joined =
       all-nineteen u (nineteen u tb)
-      ∙ (λ i. byte_at u 0 ∷ byte_at u 1 ∷ byte_at u 2 ∷ byte_at u 3 ∷ db.after-year i ∷ byte_at u 5 ∷ byte_at u 6 ∷ db.after_month i ∷ byte_at u 8 ∷ byte_at u 9 ∷
+      ∙ (λ i. byte_at u 0 ∷ byte_at u 1 ∷ byte_at u 2 ∷ byte_at u 3 ∷ db.after-year i ∷ byte_at u 5 ∷ byte_at u 6 ∷ db.after_month i ∷ byte_at u 8 ∷ byte_at u 9
+      ∷
       byte_at u 10
       ∷ byte_at u 11 ∷ byte_at u 12 ∷ tb.after_hour i ∷ byte_at u 14 ∷ byte_at u 15 ∷ tb.after_minute i ∷ byte_at u 17 ∷ byte_at u 18 ∷ behind i)
 

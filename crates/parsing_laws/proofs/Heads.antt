@@ -1,5 +1,5 @@
 -- The nineteen bytes YYYY-MM-DDThh:mm:ss: which lists they are, what makes them right, and what their digits say. Assumes nothing.
-use Prim.Native.Nat.{ℕ, ◌+◌, ◌-◌, ◌*◌, ◌≤◌}
+use Prim.Native.Nat.{ℕ, ◌+◌, ◌*◌, ◌≤◌}
 use native.Mathlib.Omega.{arith}
 use mathlib.Core.Path.{◌≡◌, refl, sym, ap, ◌∙◌, subst}
 use mathlib.Core.List.{List, [], ◌∷◌}
@@ -176,7 +176,8 @@ nineteen s k = either (ltb 18 (length s)) refl
         absurd (let y : ⊥ = omega (arith, d.0) in y)
 
 pub all-nineteen : (s : List ℕ) → 19 ≤ length s
-    → s ≡ byte_at s 0 ∷ byte_at s 1 ∷ byte_at s 2 ∷ byte_at s 3 ∷ byte_at s 4 ∷ byte_at s 5 ∷ byte_at s 6 ∷ byte_at s 7 ∷ byte_at s 8 ∷ byte_at s 9 ∷ byte_at s 10 ∷
+    → s ≡ byte_at s 0 ∷ byte_at s 1 ∷ byte_at s 2 ∷ byte_at s 3 ∷ byte_at s 4 ∷ byte_at s 5 ∷ byte_at s 6 ∷ byte_at s 7 ∷ byte_at s 8 ∷ byte_at s 9 ∷ byte_at s
+    10 ∷
     byte_at s 11 ∷ byte_at s 12 ∷ byte_at s 13 ∷ byte_at s 14 ∷ byte_at s 15 ∷ byte_at s 16 ∷ byte_at s 17 ∷ byte_at s 18 ∷ drop 19 s
 all-nineteen s h = drop-cons s 0 0 (omega arith)
     ∙ ap (λ (l : List ℕ). byte_at s 0 ∷ l)

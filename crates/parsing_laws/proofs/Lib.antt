@@ -12,9 +12,12 @@ pub mod ReadBack
 pub mod UtcTimes
 pub mod UtcReadBack
 pub mod EveryText
+pub mod Read
 pub mod Cases
 -- And the date that it is read as has the same text again.
 pub mod ClockFraction
 pub mod NearCounts
 pub mod DayAgain
 pub mod TextAgain
+-- The dates of a run of texts, place by place.
+pub mod RunDates

@@ -1,17 +1,14 @@
 -- THE SIX FIELDS of every text that is read, by the digits that stand in it; all digits of a fraction count. Assumes nothing.
 use mathlib.Core.Path.{◌≡◌, ap, sym, subst, ◌∙◌}
-use mathlib.Core.List.{List, ◌++◌}
+use mathlib.Core.List.{List}
 use mathlib.Core.Bool.{Bool}
 use Prim.Native.Nat.{ℕ, ◌*◌, ◌^◌, ◌≤◌, ◌<◌}
 use native.Mathlib.Omega.{arith}
-use native.Mathlib.Nat.{pow-le-pow_right, mul-le-mul_left, le_trans}
+use native.Mathlib.Nat.{pow-le-pow_right, mul-le-mul_left}
 use lib.Dec.{lit≤}
-use lib.ListN.{length}
 use lib.IntN.{pos}
 use lib.Ieee.{of_int}
 use Rattle.refusals.specs.Outcome.{Outcome, answer, refusal}
-use Rattle.numerals.specs.digits.Decimal.{number}
-use Rattle.constants.specs.Constants.{decimal}
 use Rattle.parsing.specs.declared.ParsedDateTime.{ParsedDateTime}
 use Rattle.parsing.specs.scan.Written.{Written}
 use Rattle.parsing.specs.Grammar.{Reads}
@@ -19,7 +16,7 @@ use Rattle.parsing.specs.Judging.{quotient}
 use Rattle.parsing.specs.Parsed.{fields_of, parsed}
 use Rattle.parsing.proofs.Seconds.{one-division}
 use Rattle.parsing_laws.specs.Verdict.{Verdict, outside, too_many_digits, bad_date, bad_time, fields, SomeTime}
-use Rattle.parsing_laws.specs.SixFields.{divided_once, SixFields}
+use Rattle.parsing_laws.specs.SixFields.{SixFields}
 use Rattle.parsing_laws.proofs.Ladder.{verdict}
 
 -- below 61 s the whole number is below 2 ^ 53

@@ -40,7 +40,8 @@ pub record YearShown (s : List ℕ) : Type 0 where
 -- in a table of rows the text s is read as the fields that it shows, with the date that `utc_from_calendar` has for them
 pub record ReadsBack (rows : List Row) (s : List ℕ) : Type 0 where
   pub date : JulianDate
-  pub accepted : utc_from_calendar rows (read_year s) (read_month s) (read_day s) (read_hour s) (read_minute s) (decimal (1000 * read_second s + read_milli s) 3) ≡
+  pub accepted : utc_from_calendar rows (read_year s) (read_month s) (read_day s) (read_hour s) (read_minute s)
+      (decimal (1000 * read_second s + read_milli s) 3) ≡
       answer date
   pub read : parsed_utc rows s ≡ answer (with_date (fields_shown s) date)
 

@@ -6,7 +6,7 @@ use Rattle.std.specs.Float.Ieee.{of_int, div}
 use Rattle.numerals.specs.digits.Decimal.{number}
 use Rattle.parsing.specs.declared.ParsedDateTime.{ParsedDateTime}
 use Rattle.parsing.specs.scan.Written.{Written}
-use Rattle.parsing.specs.Grammar.{Pieces, Reads}
+use Rattle.parsing.specs.Grammar.{Reads}
 
 -- a whole number of digits, and one division
 abbrev pub divided_once : List ℕ → ℕ → Float

@@ -66,7 +66,8 @@ pub record Demand1 (t : AnnouncedRows) (rows : List Row) : Type 0 where
   pub conversions_answer : (k : Twenty) (d : JulianDate) → Held d → Holds Any (WithTable (reads_table k) (numbers_of k)) (announced_answer t k d)
   pub calendar_answers : (x y : Float) (n : ℕ) → julian_to_calendar x y ≡ refusal n → n ≡ 6
   pub texts_answer : (form : TextForm) (d : JulianDate) (before after : List ℕ) (r : TextByRule)
-      → TextRuleCall (onward (table_of t) (λ l. text_by_rule form l d)) before r after → Decided (text_by_rule_outcome r) (text_call_ladder form t d (length before))
+      → TextRuleCall (onward (table_of t) (λ l. text_by_rule form l d)) before r after → Decided (text_by_rule_outcome r)
+      (text_call_ladder form t d (length before))
   pub offset_answers : (y m d : ℤ) (f : Float) → Decided (onward (table_of t) (λ l. offset_by_rule l y m d f)) (offset_ladder t y m d f)
   pub leap_answers : (y m d : ℤ) → Decided (onward (table_of t) (λ l. leap_at_end_of_day l y m d)) (leap_ladder t y m d)
   pub fields_answer : (y : ℤ) (m d hour minute : ℕ) (second : Float)

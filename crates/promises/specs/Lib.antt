@@ -1,5 +1,6 @@
--- The customer's sentences as statements over the public definitions: a record for each demand and each request, a field for each sentence, in the customer's
--- order. Each is proved for every table that is taken.
+-- The customer's sentences as statements over the public definitions: in Promises a record for each demand and each request, whose parameters are what its
+-- sentences speak of; in Demands, Requests and Recorders one whose fields hold of all of these.
+pub mod Promises
 pub mod Terms
 pub mod Demands
 pub mod Requests

@@ -45,7 +45,8 @@ pub record Recorders (rows : List Row) : Type 0 where
 -- a run from one scale to another, where the call is not refused: each stamp at its place as the single calls have it, every one that is not finite by its
 -- number, and the answer is how many numbers are not 0
 pub record ConvertedRun (rows : List Row) (from to : ℕ) (js ks out1 out2 numbers : List ℕ) : Type 0 where
-  pub each : (i : ℕ) → i < length js / 8 → StampDone (stamp_answer rows from to js ks i) i out1 out2 (converted_run (answer rows) from to js ks out1 out2 numbers)
+  pub each : (i : ℕ) → i < length js / 8 → StampDone (stamp_answer rows from to js ks i) i out1 out2
+      (converted_run (answer rows) from to js ks out1 out2 numbers)
   pub not_finite : (i : ℕ) → i < length js / 8 → StampNotFinite js ks i
       → get_or (converted_run (answer rows) from to js ks out1 out2 numbers).numbers i 0 ≡ number_of_not_finite from to
   pub count : (converted_run (answer rows) from to js ks out1 out2 numbers).answer

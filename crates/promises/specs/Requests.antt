@@ -1,5 +1,6 @@
 -- The fourteen requests, sentence by sentence. `rows` are those of a table that is taken. Written from document 02. Assumes nothing.
-use Rattle.std.specs.Prelude.{◌%◌, ◌*◌, ◌+◌, ◌/◌, ◌<◌, ◌^◌, ℕ, ◌≤◌, ◌&&◌, Bool, false, true, List, [], ◌∷◌, ◌++◌, ◌⊎◌, ◌≡◌, T, Float, nat_abs, negsuc, pos, ℤ, length}
+use Rattle.std.specs.Prelude.{◌%◌, ◌*◌, ◌+◌, ◌/◌, ◌<◌, ◌^◌, ℕ, ◌≤◌, ◌&&◌, Bool, false, true, List, [], ◌∷◌, ◌++◌, ◌⊎◌, ◌≡◌, T, Float, nat_abs, negsuc, pos, ℤ}
+use Rattle.std.specs.Prelude.{length}
 use Rattle.std.specs.Float.{binary64, nan}
 use Rattle.std.specs.Float.Ieee.{div, fits, le, lt, of_bits, of_int}
 use Rattle.std.specs.Int.Signed.{lt_z}

@@ -104,7 +104,8 @@ pub record RuleNames (t : AnnouncedRows) (rows : List Row) (n : ℕ) : Type 0 wh
 
 -- the rule passed on is that of the calendar's date: of the larger and the smaller part, of jd1 and jd2, and of the date before a text's carry
 pub record PassedOn (rows : List Row) : Type 0 where
-  pub by_tai : (d x : JulianDate) (r : Rule) → utc_to_tai_by_rule rows d ≡ answer (x, r) → rule_of_date rows (kept_parts d).larger (kept_parts d).smaller ≡ answer r
+  pub by_tai : (d x : JulianDate) (r : Rule) → utc_to_tai_by_rule rows d ≡ answer (x, r) → rule_of_date rows (kept_parts d).larger (kept_parts d).smaller
+      ≡ answer r
   pub by_ut1 : (d x : JulianDate) (s : Float) (r : Rule) → utc_to_ut1_by_rule rows d s ≡ answer (x, r) → rule_of_date rows d.jd1 d.jd2 ≡ answer r
   pub by_texts : (form : TextForm) (d : JulianDate) (s : List ℕ) (r : Rule) → text_by_rule form rows d ≡ answer (s, r)
       → rule_of_date rows d.jd1 d.jd2 ≡ answer r

@@ -60,11 +60,11 @@ written-by : (t p : List ℕ) (n : ℕ) (b : Bool) → cond b (answer (length t)
 written-by t p n true e = (cc, refl)
 written-by t p n false e = let z : ◌≡◌ {A = ℕ} 0 1 = cc in absurd (omega arith)
 
-told-written : (o : Outcome (List ℕ)) (p : List ℕ) (n : ℕ) → Short o → written o (length p) ≡ answer n
+answer-written : (o : Outcome (List ℕ)) (p : List ℕ) (n : ℕ) → Short o → written o (length p) ≡ answer n
     → (n ≡ length (reading_words o)) × (buffer_holds o p ≡ reading_words o ++ drop (length (reading_words o)) p) × (n ≤ 27)
 unfolding written buffer_holds reading_words onward text_written buffer_after
-told-written (answer t) p n s e = let w = written-by t p n (leb (length t) (length p)) e in let m = s t refl in (w.0, w.1, omega (arith, w.0))
-told-written (refusal k) p n s e = let z : ◌≡◌ {A = ℕ} 0 1 = cc in absurd (omega arith)
+answer-written (answer t) p n s e = let w = written-by t p n (leb (length t) (length p)) e in let m = s t refl in (w.0, w.1, omega (arith, w.0))
+answer-written (refusal k) p n s e = let z : ◌≡◌ {A = ℕ} 0 1 = cc in absurd (omega arith)
 
 refused-by : (t : List ℕ) (p : List ℕ) (k : ℕ) → length t ≤ length p → text_written t (length p) ≡ refusal k → ⊥
 unfolding text_written
@@ -72,11 +72,11 @@ refused-by t p k h e =
     let g : ◌≡◌ {A = Outcome ℕ} (answer (length t)) (refusal k) = simp (le-leb _ _ h) at e in
     let z : ◌≡◌ {A = ℕ} 0 1 = cc in omega arith
 
-told-refused : (o : Outcome (List ℕ)) (p : List ℕ) (k : ℕ) → Short o → 27 ≤ length p → written o (length p) ≡ refusal k → (o ≡ refusal k)
+refusal-written : (o : Outcome (List ℕ)) (p : List ℕ) (k : ℕ) → Short o → 27 ≤ length p → written o (length p) ≡ refusal k → (o ≡ refusal k)
     × (buffer_holds o p ≡ p)
 unfolding written buffer_holds onward
-told-refused (answer t) p k s h e = let m = s t refl in absurd (refused-by t p k (omega arith) e)
-told-refused (refusal j) p k s h e = let same : j ≡ k = cc in (ap refusal same, refl)
+refusal-written (answer t) p k s h e = let m = s t refl in absurd (refused-by t p k (omega arith) e)
+refusal-written (refusal j) p k s h e = let same : j ≡ k = cc in (ap refusal same, refl)
 
 module _ (rows : List Row) (jd : JulianDate) {p ys : List ℕ} {res : TextByRule} (call : TextRuleCall (expanded_by_rule rows jd) p res ys) where
   -- without the rule
@@ -89,13 +89,13 @@ module _ (rows : List Row) (jd : JulianDate) {p ys : List ℕ} {res : TextByRule
   unfolding text_outcome text_by_rule_outcome forget onward
   text-written n rule e =
       let c : TextCall (iso_text_expanded rows jd) p (Written n) ys = as_call (Written n) (ap (λ (x : TextByRule). forget (text_by_rule_outcome x)) (sym e)) in
-      let w = told-written (iso_text_expanded rows jd) p n (short rows jd) (sym c.says) in (w.0, c.holds ∙ w.1, w.2)
+      let w = answer-written (iso_text_expanded rows jd) p n (short rows jd) (sym c.says) in (w.0, c.holds ∙ w.1, w.2)
 
   pub text_refused : (k : ℕ) → res ≡ Ruled.Refused k → 27 ≤ length p → (iso_text_expanded rows jd ≡ refusal k) × (ys ≡ p)
   unfolding text_outcome text_by_rule_outcome forget onward
   text_refused k e h =
       let c : TextCall (iso_text_expanded rows jd) p (Refused k) ys = as_call (Refused k) (ap (λ (x : TextByRule). forget (text_by_rule_outcome x)) (sym e)) in
-      let w = told-refused (iso_text_expanded rows jd) p k (short rows jd) h (sym c.says) in (w.0, c.holds ∙ w.1)
+      let w = refusal-written (iso_text_expanded rows jd) p k (short rows jd) h (sym c.says) in (w.0, c.holds ∙ w.1)
 
 -- ---- what the reader answered
 module _ (rows : List Row) (s : List ℕ) (a : ParsedUtcAnswer) (is : parsed_utc_outcome a ≡ parsed_utc rows s) where

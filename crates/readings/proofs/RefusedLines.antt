@@ -15,30 +15,30 @@ use Rattle.readings.specs.Reading.{reading, reading_words, reading_line}
 use Rattle.readings.specs.RefusedLine.{refused_as, RefusedLine, by_form, by_digits, by_month, by_day, by_time}
 
 -- the five words, byte by byte
-pub told-15 : reading_words (refusal 15) ≡ ascii_bytes "refused 15"
+pub line-of-15 : reading_words (refusal 15) ≡ ascii_bytes "refused 15"
 unfolding reading_words digits_of digits_in
-told-15 = refl
+line-of-15 = refl
 
-pub told-16 : reading_words (refusal 16) ≡ ascii_bytes "refused 16"
+pub line-of-16 : reading_words (refusal 16) ≡ ascii_bytes "refused 16"
 unfolding reading_words digits_of digits_in
-told-16 = refl
+line-of-16 = refl
 
-pub told-2 : reading_words (refusal 2) ≡ ascii_bytes "refused 2"
+pub line-of-2 : reading_words (refusal 2) ≡ ascii_bytes "refused 2"
 unfolding reading_words digits_of digits_in
-told-2 = refl
+line-of-2 = refl
 
-pub told-3 : reading_words (refusal 3) ≡ ascii_bytes "refused 3"
+pub line-of-3 : reading_words (refusal 3) ≡ ascii_bytes "refused 3"
 unfolding reading_words digits_of digits_in
-told-3 = refl
+line-of-3 = refl
 
-pub told-4 : reading_words (refusal 4) ≡ ascii_bytes "refused 4"
+pub line-of-4 : reading_words (refusal 4) ≡ ascii_bytes "refused 4"
 unfolding reading_words digits_of digits_in
-told-4 = refl
+line-of-4 = refl
 
 module _ (rows : List Row) (s : List ℕ) (index : ℕ) where
-  is-told : (k : ℕ) → parsed_utc rows s ≡ refusal k → reading_words (reading rows s) ≡ reading_words (refusal k)
+  line-of-refused : (k : ℕ) → parsed_utc rows s ≡ refusal k → reading_words (reading rows s) ≡ reading_words (refusal k)
   unfolding reading onward
-  is-told k e = ap (λ (o : Outcome ParsedUtc). reading_words (onward o (λ r. iso_text_expanded rows r.date.0))) e
+  line-of-refused k e = ap (λ (o : Outcome ParsedUtc). reading_words (onward o (λ r. iso_text_expanded rows r.date.0))) e
 
   as_line : (words : List ℕ) → reading_words (reading rows s) ≡ words → reading_line rows s index ≡ refused_as index (32 ∷ words)
   unfolding reading_line
@@ -48,8 +48,8 @@ module _ (rows : List Row) (s : List ℕ) (index : ℕ) where
   refused-line k e = go (utc-only-numbers rows s k e) e
     where
       go : {k : ℕ} → ReaderNumber k → parsed_utc rows s ≡ refusal k → RefusedLine index (reading_line rows s index) k
-      go fifteen e = by_form (as_line (ascii_bytes "refused 15") (is-told 15 e ∙ told-15))
-      go sixteen e = by_digits (as_line (ascii_bytes "refused 16") (is-told 16 e ∙ told-16))
-      go two e = by_month (as_line (ascii_bytes "refused 2") (is-told 2 e ∙ told-2))
-      go three e = by_day (as_line (ascii_bytes "refused 3") (is-told 3 e ∙ told-3))
-      go four e = by_time (as_line (ascii_bytes "refused 4") (is-told 4 e ∙ told-4))
+      go fifteen e = by_form (as_line (ascii_bytes "refused 15") (line-of-refused 15 e ∙ line-of-15))
+      go sixteen e = by_digits (as_line (ascii_bytes "refused 16") (line-of-refused 16 e ∙ line-of-16))
+      go two e = by_month (as_line (ascii_bytes "refused 2") (line-of-refused 2 e ∙ line-of-2))
+      go three e = by_day (as_line (ascii_bytes "refused 3") (line-of-refused 3 e ∙ line-of-3))
+      go four e = by_time (as_line (ascii_bytes "refused 4") (line-of-refused 4 e ∙ line-of-4))

@@ -1,4 +1,6 @@
 // The texts of the marker boxes, each answered by a line.
+#![tactic(auto)]
+
 ghost use Rattle.std.specs.Prelude.{◌+◌, ◌≤◌, length};
 ghost use Rattle.refusals.specs.Outcome.{refusal};
 ghost use Rattle.leap_table.specs.rows.Announced.{rows_in, rows_of};

@@ -1,6 +1,14 @@
-// Lists the stamp block on standard input, with refusals in sentences: the second listing program. Proved here: the program is safe,
-// and ends where its input does. That the parts are the listing is a theorem (stamps::listing_laws); that they go out in order is tested by what the program
-// prints.
+// Lists the stamp block on standard input, with refusals in sentences.
+//
+//   reason_listing < BLOCK > LISTING
+//
+// The listing is that of utc_listing, with the sentence of a refusal, which names what is at fault, in the place of `refused` and its number. The program
+// lends no rows.
+//
+// Proved here: the program is safe, and ends where its input does. That the parts are the listing is a theorem (stamps::listing_laws); that they go out in
+// order is tested by what the program prints.
+#![tactic(auto)]
+
 ghost use Rattle.std.specs.Prelude.{◌≡◌, length};
 
 use stamps::Reporting;
@@ -15,12 +23,18 @@ fn block_space() -> [u8; BLOCK_SPACE]
 }
 
 // What standard error is told. A message that standard error does not take is lost.
-fn tell_unread() {
-    libc::write(2, b"reason_listing: the input can't be read\n");
+fn tell_unread(rt: &HostRuntime) {
+    block_io::write_text(
+        &mut rt.stderr(),
+        b"reason_listing: the input can't be read\n",
+    );
 }
 
-fn tell_unwritten() {
-    libc::write(2, b"reason_listing: the listing can't be written\n");
+fn tell_unwritten(rt: &HostRuntime) {
+    block_io::write_text(
+        &mut rt.stderr(),
+        b"reason_listing: the listing can't be written\n",
+    );
 }
 
 // The sum, and the largest number where that is passed: no input comes to it.
@@ -33,17 +47,17 @@ fn count_on(came: u64, more: u64) -> u64 {
 }
 
 // What is left of the input: whether there may be more of it, and how many bytes came.
-#[derive(Drop)]
+#[derive(Clone, Copy)]
 struct Rest {
     more: bool,
     came: u64,
 }
 
-fn read_some(came: u64) -> Rest {
+fn read_some(rt: &HostRuntime, came: u64) -> Rest {
     let mut space = [0u8; 512];
-    let kept = block_io::read_block(&mut space);
+    let kept = block_io::read_block(&mut rt.stdin(), &mut space);
     if kept.failed {
-        tell_unread();
+        tell_unread(rt);
     }
     let bytes = kept.bytes;
     Rest {
@@ -54,40 +68,40 @@ fn read_some(came: u64) -> Rest {
 
 // Reads to the input's end, and answers how many bytes came. A proved loop has to end, and nothing says that an input does: so the turns are counted, from a
 // number that no run uses up.
-fn read_rest(start: u64) -> u64 {
+fn read_rest(rt: &HostRuntime, start: u64) -> u64 {
     let mut rest = Rest {
         more: true,
         came: start,
     };
     let mut turns = u64::MAX;
     while turns > 0 && rest.more {
-        rest = read_some(rest.came);
+        rest = read_some(rt, rest.came);
         turns -= 1;
     }
     rest.came
 }
 
 // How many bytes came in all: where the space is full, there may be more than it holds.
-fn whole_length(kept: usize) -> u64 {
+fn whole_length(rt: &HostRuntime, kept: usize) -> u64 {
     let came = kept as u64;
     if kept == BLOCK_SPACE {
-        return read_rest(came);
+        return read_rest(rt, came);
     }
     came
 }
 
 // The program lends no rows. Where the output takes no more, the program says so and ends: what it wrote until then has its last line cut short, or ends with a
 // whole line.
-fn main() {
+fn main(rt: HostRuntime) {
     let mut space = block_space();
-    let kept = block_io::read_block(&mut space);
+    let kept = block_io::read_block(&mut rt.stdin(), &mut space);
     if kept.failed {
-        tell_unread();
+        tell_unread(&rt);
     }
     let len = kept.bytes;
-    let reporting = Reporting::Sentences(whole_length(len));
-    let sent = block_io::write_listing(reporting, &space[..len]);
+    let reporting = Reporting::Sentences(whole_length(&rt, len));
+    let sent = block_io::write_listing(&mut rt.stdout(), reporting, &space[..len]);
     if !sent.all {
-        tell_unwritten();
+        tell_unwritten(&rt);
     }
 }

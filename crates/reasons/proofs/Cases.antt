@@ -1,14 +1,14 @@
 -- 18 EXACTLY WHERE a number is 0 or above 28, whatever its values; the characters of hexadecimal digits; and closed cases. Assumes nothing.
 use mathlib.Core.Path.{◌≡◌, refl}
 use mathlib.Core.Bool.{Bool, true, false}
-use mathlib.Core.List.{List, [], ◌∷◌, map}
+use mathlib.Core.List.{[], ◌∷◌, map}
 use mathlib.Core.Logic.{inl, inr}
 use Prim.Native.Nat.{ℕ}
 use native.Mathlib.Omega.{arith}
 use lib.Dec.{leb}
-use lib.Ieee.{binary64, nan, to_bits}
+use lib.Ieee.{nan, to_bits}
 use borrow.Author.Tests.{leb-true, leb-false}
-use Rattle.refusals.specs.Outcome.{answer, refusal, onward}
+use Rattle.refusals.specs.Outcome.{refusal, onward}
 use Rattle.numerals.specs.digits.Hexadecimal.{hex_digit, hex_digits, hex16}
 use Rattle.reasons.specs.declared.Values.{Values}
 use Rattle.reasons.specs.sentences.Texts.{ascii_bytes}

@@ -1,4 +1,6 @@
 // A refusal's reason as an English sentence that names the field at fault.
+#![tactic(auto)]
+
 mod fields;
 pub mod sentences;
 
@@ -11,7 +13,7 @@ use crate::sentences::{Named, Reason};
 use utc::text::TextAnswer;
 
 // The values that a refusal's test reads; where none are at hand, `NoValues`.
-#[derive(Drop)]
+#[derive(Clone, Copy)]
 pub enum Values {
     NoValues,
     // year, month, day: 1, 2, 3
@@ -29,7 +31,7 @@ pub enum Values {
 }
 
 // The reason, or the number of the refusal.
-#[derive(Drop)]
+#[derive(Clone, Copy)]
 pub enum ReasonAnswer {
     Told(Reason),
     Refused(u32),

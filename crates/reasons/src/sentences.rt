@@ -10,7 +10,7 @@ ghost use Rattle.reasons.specs.sentences.Render.{render};
 use utc::text::TextAnswer;
 
 // The field at fault, with its value.
-#[derive(Drop)]
+#[derive(Clone, Copy)]
 pub enum Named {
     NoField,
     Year(i32),
@@ -31,7 +31,7 @@ pub enum Named {
 }
 
 // A refusal's number, and the field that it names.
-#[derive(Drop)]
+#[derive(Clone, Copy)]
 pub struct Reason {
     pub number: u32,
     pub named: Named,
@@ -58,5 +58,5 @@ pub fn put_sentence(reason: Reason, out: &mut [u8]) -> TextAnswer
     if out.len() < n {
         return TextAnswer::Refused(refusals::NO_ROOM);
     }
-    TextAnswer::Written(bytes::copy(&all[..n], out))
+    TextAnswer::Written(numerals::place::copy(&all[..n], out))
 }

@@ -1,4 +1,5 @@
 // Refusals by number, 1 to 28. 1 to 14 are document 01's, 15 to 28 document 02's. A refusal carries its number and nothing else.
+#![tactic(auto)]
 
 // The year is before -4799; of a standby bill, before 1972.
 pub const YEAR_BEFORE_FIRST: u32 = 1;

@@ -1,6 +1,8 @@
 // Replays stored answers: document 01's worked cases, answers of the Rust, and answers of the ERFA filter (ERFA's; for the calls 1 to 7 the C library's).
 // Standard input is a list of records of 128 bytes, a request and its answer, as tests/replay_list makes it. Counts the records and those whose answer the port
 // does not give.
+#![tactic(auto)]
+
 mod calendar_calls;
 mod floats_calls;
 mod julian_calls;
@@ -9,7 +11,7 @@ mod scale_calls;
 mod utc_calls;
 mod words;
 
-#[derive(Drop)]
+#[derive(Clone, Copy)]
 struct Tally {
     replayed: u64,
     differ: u64,

@@ -2,7 +2,7 @@
 use julian::JulianDate;
 
 // An answer: the refusal's number, or 0 and the values.
-#[derive(Drop)]
+#[derive(Clone, Copy)]
 pub(crate) struct Answer {
     pub number: u64,
     pub first: u64,

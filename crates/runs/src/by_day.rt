@@ -1,22 +1,25 @@
 // The day that a run keeps from stamp to stamp, in hand: what UTC to TAI computes of a day alone. It serves the stamps whose jd1 is its midnight and whose jd2
 // is from 0.0 to below 1.0; every other stamp goes to the plain conversion. The operations and their order are those of `utc_tai`, so the bits are the same.
-ghost use Rattle.std.specs.Prelude.{◌≡◌, ◌≤◌, pos, nat_abs, ◌-ℤ◌};
+ghost use Rattle.std.specs.Prelude.{◌≡◌, true, false, ◌≤◌, pos, nat_abs, ◌-ℤ◌, eqb};
 ghost use Rattle.std.specs.Float.{binary64};
 ghost use Rattle.std.specs.Float.Ieee.{of_int};
+ghost use Rattle.refusals.specs.Outcome.{onward};
 ghost use Rattle.julian.specs.JulianDate.{julian, julian_outcome};
 ghost use Rattle.leap_table.specs.rows.Announced.{rows_in};
-ghost use Rattle.runs.specs.ways.Ways.{way_of};
+ghost use Rattle.utc_scales.specs.UtcTai.{utc_to_tai, tai_to_utc};
+ghost use Rattle.runs.specs.ways.Ways.{into_tai, out_of_tai, way_of};
+ghost use Rattle.runs.specs.ways.Asked.{reads_day};
 ghost use Rattle.runs.specs.by_day.Hand as D;
 
 use constants::SECONDS_PER_DAY_F64;
-use constants::scale_numbers::{TAI, UTC, are};
+use constants::scale_numbers::UTC;
 use julian::{JulianAnswer, JulianDate};
 use leap_table::offsets::{DayByRule, DayOffsets};
 
 // The day whose midnight is the Julian date `midnight`: `top` is 1.0 where it serves, 0.0 where it was looked up and serves no stamp, and below 0.0 where it
 // was not looked up; `zero` is what the midnight and its Modified Julian Date come to, `leap` and `drift` are the factors of the day's length, and `start` is
 // TAI-UTC at 0h in days.
-#[derive(Drop)]
+#[derive(Clone, Copy)]
 pub(crate) struct DayInHand {
     pub midnight: f64,
     pub top: f64,
@@ -27,21 +30,21 @@ pub(crate) struct DayInHand {
 }
 
 // A date by the day in hand, where it serves.
-#[derive(Drop)]
+#[derive(Clone, Copy)]
 pub(crate) enum ByHand {
     Date(JulianDate),
     Elsewhere,
 }
 
 // The fraction of the day of a midnight, where a part lies in it.
-#[derive(Drop)]
+#[derive(Clone, Copy)]
 enum InDay {
     Fraction(f64),
     Elsewhere,
 }
 
 // The smaller part after a round of TAI to UTC, where the day in hand serves its guess.
-#[derive(Drop)]
+#[derive(Clone, Copy)]
 enum Round {
     Part(f64),
     Elsewhere,
@@ -242,51 +245,79 @@ fn quick_utc(big: f64, small: f64, hand: DayInHand) -> ByHand
     }
 }
 
-// The way by the day in hand: UTC to TAI, and TAI to UTC.
-fn quick_way(from: u32, to: u32, jd: JulianDate, hand: DayInHand) -> ByHand
-    ensures { D.FindsWay from to jd hand result }
-{
-    if from == UTC {
-        if to == TAI {
-            return quick_tai(jd.jd1, jd.jd2, hand);
-        }
-    }
-    if from == TAI {
-        if to == UTC {
-            return quick_utc(jd.jd1, jd.jd2, hand);
-        }
-    }
-    ByHand::Elsewhere
-}
-
-// Whether the way takes a day in hand.
-fn keeps_day(from: u32, to: u32) -> bool {
-    if are(from, to, UTC, TAI) {
-        return true;
-    }
-    are(from, to, TAI, UTC)
-}
-
-// The day in hand for the next stamp, where the way takes one.
-pub(crate) fn next_hand<'a>(
-    from: u32,
-    to: u32,
-    jd1: f64,
+// UTC to TAI by the day in hand where it serves, and else by the plain conversion.
+fn utc_into_tai_with<'a>(
+    jd: JulianDate,
     hand: DayInHand,
     size: usize,
     months: &'a [i32; 16],
     seconds: &'a [i32; 16],
-) -> DayInHand
+) -> JulianAnswer
     requires { D.RightHand (rows_in size months.now seconds.now) hand }
-    ensures { D.RightHand (rows_in size months.now seconds.now) result }
+    ensures { julian_outcome result ≡ utc_to_tai (rows_in size months.now seconds.now) jd }
 {
-    if keeps_day(from, to) {
-        return next_day(jd1, hand, size, months, seconds);
+    match quick_tai(jd.jd1, jd.jd2, hand) {
+        ByHand::Date(d) => JulianAnswer::Date(d),
+        ByHand::Elsewhere => crate::ways::utc_into_tai(jd, size, months, seconds),
     }
-    hand
 }
 
-// The date in scale `to` of a date in scale `from`, by the day in hand where it serves, and else by the plain way.
+// TAI to UTC in the same way.
+fn tai_into_utc_with<'a>(
+    jd: JulianDate,
+    hand: DayInHand,
+    size: usize,
+    months: &'a [i32; 16],
+    seconds: &'a [i32; 16],
+) -> JulianAnswer
+    requires { D.RightHand (rows_in size months.now seconds.now) hand }
+    ensures { julian_outcome result ≡ tai_to_utc (rows_in size months.now seconds.now) jd }
+{
+    match quick_utc(jd.jd1, jd.jd2, hand) {
+        ByHand::Date(d) => JulianAnswer::Date(d),
+        ByHand::Elsewhere => crate::ways::tai_into_utc(jd, size, months, seconds),
+    }
+}
+
+// UTC in another scale, through TAI.
+fn out_of_utc<'a>(
+    to: u32,
+    jd: JulianDate,
+    hand: DayInHand,
+    size: usize,
+    months: &'a [i32; 16],
+    seconds: &'a [i32; 16],
+) -> JulianAnswer
+    requires { D.RightHand (rows_in size months.now seconds.now) hand × (eqb to 0 ≡ false) }
+    ensures { julian_outcome result ≡ onward (utc_to_tai (rows_in size months.now seconds.now) jd)
+        (out_of_tai (rows_in size months.now seconds.now) to) }
+{
+    match utc_into_tai_with(jd, hand, size, months, seconds) {
+        JulianAnswer::Refused(n) => JulianAnswer::Refused(n),
+        JulianAnswer::Date(tai) => crate::ways::out_of_tai_by_formula(to, tai),
+    }
+}
+
+// Another scale in UTC, through TAI.
+fn into_utc<'a>(
+    from: u32,
+    jd: JulianDate,
+    hand: DayInHand,
+    size: usize,
+    months: &'a [i32; 16],
+    seconds: &'a [i32; 16],
+) -> JulianAnswer
+    requires { D.RightHand (rows_in size months.now seconds.now) hand × (eqb from 0 ≡ false) }
+    ensures { julian_outcome result ≡ onward (into_tai (rows_in size months.now seconds.now) from jd)
+        (tai_to_utc (rows_in size months.now seconds.now)) }
+{
+    match crate::ways::into_tai_by_formula(from, jd) {
+        JulianAnswer::Refused(n) => JulianAnswer::Refused(n),
+        JulianAnswer::Date(tai) => tai_into_utc_with(tai, hand, size, months, seconds),
+    }
+}
+
+// The date in scale `to` of a date in scale `from`, where the way reads a day: by the day in hand where it serves, and else by the plain conversion.
 pub(crate) fn convert_with<'a>(
     from: u32,
     to: u32,
@@ -296,11 +327,11 @@ pub(crate) fn convert_with<'a>(
     months: &'a [i32; 16],
     seconds: &'a [i32; 16],
 ) -> JulianAnswer
-    requires { D.RightHand (rows_in size months.now seconds.now) hand }
+    requires { D.RightHand (rows_in size months.now seconds.now) hand × (reads_day from to ≡ true) }
     ensures { julian_outcome result ≡ way_of (rows_in size months.now seconds.now) from to jd }
 {
-    match quick_way(from, to, jd, hand) {
-        ByHand::Date(d) => JulianAnswer::Date(d),
-        ByHand::Elsewhere => crate::ways::convert_by_arrays(from, to, jd, size, months, seconds),
+    if from == UTC {
+        return out_of_utc(to, jd, hand, size, months, seconds);
     }
+    into_utc(from, jd, hand, size, months, seconds)
 }

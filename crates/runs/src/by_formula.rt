@@ -15,7 +15,7 @@ ghost use Rattle.runs.specs.by_formula.Formula.{formula_run};
 ghost use Rattle.runs.specs.by_formula.Asked.{kind_refusal};
 
 // How many stamps are refused, or the number of the refusal of the whole run.
-#[derive(Drop)]
+#[derive(Clone, Copy)]
 pub enum RunAnswer {
     Converted(usize),
     Refused(u32),

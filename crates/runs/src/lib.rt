@@ -1,9 +1,13 @@
-// A run of stamps from one scale to another in one call, where refused stamps are numbered and counted. The parts of the stamps and of the dates are bytes,
-// eight each, the lowest first.
-ghost use Rattle.std.specs.Prelude.{◌≡◌, ◌+◌, ◌*◌, ◌≤◌, length};
+// A run of stamps from one scale to another in one call. Refused stamps are numbered and counted. The parts of the stamps and of the dates are bytes, eight
+// each, the lowest first.
+#![tactic(auto)]
+
+ghost use Rattle.std.specs.Prelude.{◌≡◌, true, false, List, ◌+◌, ◌*◌, ◌≤◌, length};
 ghost use Rattle.julian.specs.JulianDate.{julian_outcome};
+ghost use Rattle.leap_table.specs.rows.Table.{Row};
 ghost use Rattle.leap_table.specs.rows.Announced.{rows_in, table_of};
 ghost use Rattle.runs.specs.ways.Ways.{is_run_scale};
+ghost use Rattle.runs.specs.ways.Asked.{reads_day};
 ghost use Rattle.runs.specs.by_formula.Run.{run_outcome, run_call};
 ghost use Rattle.runs.specs.by_formula.Asked.{Roomy, HasPlace, StampPut, RunPut};
 ghost use Rattle.runs.specs.Run.{stamp_answer, run_refusal, run_by, converted_run};
@@ -36,7 +40,7 @@ fn put_answer(found: JulianAnswer, i: usize, out1: &mut [u8], out2: &mut [u8]) -
 }
 
 // The number of a stamp, and the day in hand after it.
-#[derive(Drop)]
+#[derive(Clone, Copy)]
 struct AfterStamp {
     number: u8,
     hand: DayInHand,
@@ -56,19 +60,19 @@ fn convert_stamp<'a>(
     out1: &mut [u8],
     out2: &mut [u8],
 ) -> AfterStamp
-    requires { HasPlace i out1.old out2.old × RightHand (rows_in size months.now seconds.now) hand }
+    requires { HasPlace i out1.old out2.old × (RightHand (rows_in size months.now seconds.now) hand × (reads_day from to ≡ true)) }
     ensures { StampPut (stamp_answer (rows_in size months.now seconds.now) from to jd1s.now jd2s.now i) i
         out1.old out2.old result.number out1.new out2.new
         × RightHand (rows_in size months.now seconds.now) result.hand }
 {
     let jd = julian::stamp_lists::stamp_of(jd1s, jd2s, i);
-    let next = crate::by_day::next_hand(from, to, jd.jd1, hand, size, months, seconds);
+    let next = crate::by_day::next_day(jd.jd1, hand, size, months, seconds);
     let found = crate::by_day::convert_with(from, to, jd, next, size, months, seconds);
     let number = put_answer(found, i, out1, out2);
     AfterStamp { number, hand: next }
 }
 
-// Converts n stamps, and says how many are refused. The day in hand is kept from stamp to stamp.
+// Converts n stamps by a way that reads a day, and says how many are refused. The day in hand is kept from stamp to stamp.
 fn convert_all<'a>(
     from: u32,
     to: u32,
@@ -82,7 +86,7 @@ fn convert_all<'a>(
     out2: &mut [u8],
     numbers: &mut [u8],
 ) -> usize
-    requires { Roomy n jd1s.now jd2s.now out1.old out2.old numbers.old }
+    requires { Roomy n jd1s.now jd2s.now out1.old out2.old numbers.old × (reads_day from to ≡ true) }
     ensures { RunPut (stamp_answer (rows_in size months.now seconds.now) from to jd1s.now jd2s.now) n
         out1.old out2.old numbers.old result out1.new out2.new numbers.new }
 {
@@ -103,7 +107,57 @@ fn convert_all<'a>(
     refused
 }
 
-fn is_run_scale(n: u32) -> bool
+// Converts the stamp at place i by a way that reads no day and is not one formula, and gives its number.
+fn change_stamp(
+    from: u32,
+    to: u32,
+    jd1s: &[u8],
+    jd2s: &[u8],
+    i: usize,
+    out1: &mut [u8],
+    out2: &mut [u8],
+) -> u8
+    requires { HasPlace i out1.old out2.old × ((reads_day from to ≡ false) × (is_short from to ≡ false)) }
+    ensures { (rows : List Row) → StampPut (stamp_answer rows from to jd1s.now jd2s.now i) i out1.old
+        out2.old result out1.new out2.new }
+{
+    let jd = julian::stamp_lists::stamp_of(jd1s, jd2s, i);
+    put_answer(
+        crate::ways::convert_by_formulas(from, to, jd),
+        i,
+        out1,
+        out2,
+    )
+}
+
+// Converts n stamps by such a way, and says how many are refused. Its own loop, so that it carries no day.
+fn change_all(
+    from: u32,
+    to: u32,
+    jd1s: &[u8],
+    jd2s: &[u8],
+    n: usize,
+    out1: &mut [u8],
+    out2: &mut [u8],
+    numbers: &mut [u8],
+) -> usize
+    requires { Roomy n jd1s.now jd2s.now out1.old out2.old numbers.old × ((reads_day from to ≡ false) × (is_short from to ≡ false)) }
+    ensures { (rows : List Row) → RunPut (stamp_answer rows from to jd1s.now jd2s.now) n out1.old out2.old
+        numbers.old result out1.new out2.new numbers.new }
+{
+    let mut refused = 0;
+    let mut i = 0;
+    while i < n {
+        let number = change_stamp(from, to, jd1s, jd2s, i, out1, out2);
+        numbers[i] = number;
+        refused += one_if_refused(number);
+        i += 1;
+    }
+    refused
+}
+
+// Whether a run converts from and to this scale: UTC, TAI, TT, GPS or TCG.
+pub fn is_run_scale(n: u32) -> bool
     ensures { result ≡ is_run_scale n }
 {
     if n == constants::scale_numbers::UTC {
@@ -216,6 +270,10 @@ pub fn convert_run_by_arrays<'a>(
         return crate::by_formula::formula_run(from, to, jd1s, jd2s, none, out1, out2, numbers);
     }
     let n = jd1s.len() / 8;
+    if !crate::ways::reads_day(from, to) {
+        let count = change_all(from, to, jd1s, jd2s, n, out1, out2, numbers);
+        return RunAnswer::Converted(count);
+    }
     RunAnswer::Converted(convert_all(
         from, to, jd1s, jd2s, n, size, months, seconds, out1, out2, numbers,
     ))

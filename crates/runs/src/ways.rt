@@ -1,15 +1,20 @@
 // The way of a date from one scale to another, through TAI. A scale is its number. The rows of a table are a size and two arrays that are lent on.
-ghost use Rattle.std.specs.Prelude.{◌≡◌};
-ghost use Rattle.refusals.specs.Outcome.{onward};
+ghost use Rattle.std.specs.Prelude.{◌≡◌, false, List, eqb};
 ghost use Rattle.julian.specs.JulianDate.{julian_outcome};
+ghost use Rattle.julian.specs.shifts.Shifts.{plus, converted};
+ghost use Rattle.leap_table.specs.rows.Table.{Row};
 ghost use Rattle.leap_table.specs.rows.Announced.{rows_in};
-ghost use Rattle.scales.specs.Scales.{tai_outcome, tt_outcome, gps_outcome, tcg_outcome, utc_outcome};
+ghost use Rattle.scales.specs.Scales.{tai_outcome, tcg_outcome, utc_outcome};
 ghost use Rattle.utc_scales.specs.UtcTai.{utc_to_tai, tai_to_utc};
-ghost use Rattle.runs.specs.ways.Ways.{into_tai, out_of_tai, between, way_of};
+ghost use Rattle.runs.specs.ways.Ways.{into_tai, out_of_tai, way_of};
+ghost use Rattle.runs.specs.ways.Asked.{is_shifted, days_into_tai, days_out_of_tai, reads_day};
+ghost use Rattle.runs.specs.Asked.{is_short};
 
-use constants::scale_numbers::{GPS, TCG, TT, UTC, are};
+use constants::scale_numbers::{GPS, TCG, TT, UTC};
 use julian::{JulianAnswer, JulianDate};
-use scales::{GpsAnswer, TaiAnswer, TcgAnswer, TtAnswer, UtcAnswer};
+use scales::gps_tai::gps_days;
+use scales::tai_tt::tt_days;
+use scales::{TaiAnswer, TcgAnswer, UtcAnswer};
 use utc_scales::utc_tai::TaiByRule;
 
 // An answer as a date that names no scale.
@@ -22,30 +27,6 @@ fn of_tai(a: TaiAnswer) -> JulianAnswer
             JulianAnswer::Date(jd)
         }
         TaiAnswer::Refused(n) => JulianAnswer::Refused(n),
-    }
-}
-
-fn of_tt(a: TtAnswer) -> JulianAnswer
-    ensures { julian_outcome result ≡ tt_outcome a }
-{
-    match a {
-        TtAnswer::Date(tt) => {
-            let jd = tt.0;
-            JulianAnswer::Date(jd)
-        }
-        TtAnswer::Refused(n) => JulianAnswer::Refused(n),
-    }
-}
-
-fn of_gps(a: GpsAnswer) -> JulianAnswer
-    ensures { julian_outcome result ≡ gps_outcome a }
-{
-    match a {
-        GpsAnswer::Date(gps) => {
-            let jd = gps.0;
-            JulianAnswer::Date(jd)
-        }
-        GpsAnswer::Refused(n) => JulianAnswer::Refused(n),
     }
 }
 
@@ -74,7 +55,7 @@ fn of_utc(a: UtcAnswer) -> JulianAnswer
 }
 
 // UTC in TAI, without the rule.
-fn utc_into_tai<'a>(
+pub(crate) fn utc_into_tai<'a>(
     jd: JulianDate,
     size: usize,
     months: &'a [i32; 16],
@@ -91,23 +72,64 @@ fn utc_into_tai<'a>(
     }
 }
 
-fn into_tai<'a>(
-    from: u32,
+// TAI in UTC.
+pub(crate) fn tai_into_utc<'a>(
     jd: JulianDate,
     size: usize,
     months: &'a [i32; 16],
     seconds: &'a [i32; 16],
 ) -> JulianAnswer
-    ensures { julian_outcome result ≡ into_tai (rows_in size months.now seconds.now) from jd }
+    ensures { julian_outcome result ≡ tai_to_utc (rows_in size months.now seconds.now) jd }
+{
+    of_utc(utc_scales::utc_tai::tai_to_utc_by_arrays(scales::TAI(jd), size, months, seconds))
+}
+
+// Whether the way reads TAI-UTC on a day.
+pub(crate) fn reads_day(from: u32, to: u32) -> bool
+    ensures { result ≡ reads_day from to }
 {
     if from == UTC {
-        return utc_into_tai(jd, size, months, seconds);
+        return to != UTC;
     }
-    if from == TT {
-        return of_tai(scales::tai_tt::tt_to_tai(scales::TT(jd)));
+    to == UTC
+}
+
+// Whether the scale is a fixed offset from TAI.
+fn is_shifted(n: u32) -> bool
+    ensures { result ≡ is_shifted n }
+{
+    if n == TT {
+        return true;
     }
-    if from == GPS {
-        return of_tai(scales::gps_tai::gps_to_tai(scales::GPS(jd)));
+    n == GPS
+}
+
+fn days_into_tai(from: u32) -> f64
+    ensures { result ≡ days_into_tai from }
+{
+    if from == TT { -tt_days() } else { gps_days() }
+}
+
+fn days_out_of_tai(to: u32) -> f64
+    ensures { result ≡ days_out_of_tai to }
+{
+    if to == TT { tt_days() } else { -gps_days() }
+}
+
+// The date so many days later, and 9 where a part is not finite.
+fn shifted(jd: JulianDate, days: f64) -> JulianAnswer
+    ensures { julian_outcome result ≡ converted (plus days) jd }
+{
+    julian::shifts::smaller_part::later(julian::finite_jd(jd), days)
+}
+
+// A date of another scale than UTC in TAI. The offset is chosen before it is added, so that the addition stands once in the code.
+pub(crate) fn into_tai_by_formula(from: u32, jd: JulianDate) -> JulianAnswer
+    requires { eqb from 0 ≡ false }
+    ensures { (rows : List Row) → julian_outcome result ≡ into_tai rows from jd }
+{
+    if is_shifted(from) {
+        return shifted(jd, days_into_tai(from));
     }
     if from == TCG {
         return of_tai(scales::tai_tt::tcg_to_tai(scales::TCG(jd)));
@@ -115,28 +137,13 @@ fn into_tai<'a>(
     JulianAnswer::Date(jd)
 }
 
-fn out_of_tai<'a>(
-    to: u32,
-    jd: JulianDate,
-    size: usize,
-    months: &'a [i32; 16],
-    seconds: &'a [i32; 16],
-) -> JulianAnswer
-    ensures { julian_outcome result ≡ out_of_tai (rows_in size months.now seconds.now) to jd }
+// A date of TAI in another scale than UTC.
+pub(crate) fn out_of_tai_by_formula(to: u32, jd: JulianDate) -> JulianAnswer
+    requires { eqb to 0 ≡ false }
+    ensures { (rows : List Row) → julian_outcome result ≡ out_of_tai rows to jd }
 {
-    if to == UTC {
-        return of_utc(utc_scales::utc_tai::tai_to_utc_by_arrays(
-            scales::TAI(jd),
-            size,
-            months,
-            seconds,
-        ));
-    }
-    if to == TT {
-        return of_tt(scales::tai_tt::tai_to_tt(scales::TAI(jd)));
-    }
-    if to == GPS {
-        return of_gps(scales::gps_tai::tai_to_gps(scales::TAI(jd)));
+    if is_shifted(to) {
+        return shifted(jd, days_out_of_tai(to));
     }
     if to == TCG {
         return of_tcg(scales::tai_tt::tai_to_tcg(scales::TAI(jd)));
@@ -144,55 +151,17 @@ fn out_of_tai<'a>(
     JulianAnswer::Date(jd)
 }
 
-fn through_tai<'a>(
-    from: u32,
-    to: u32,
-    jd: JulianDate,
-    size: usize,
-    months: &'a [i32; 16],
-    seconds: &'a [i32; 16],
-) -> JulianAnswer
-    ensures { julian_outcome result ≡ onward (into_tai (rows_in size months.now seconds.now) from jd)
-        (out_of_tai (rows_in size months.now seconds.now) to) }
-{
-    match into_tai(from, jd, size, months, seconds) {
-        JulianAnswer::Refused(n) => JulianAnswer::Refused(n),
-        JulianAnswer::Date(tai) => out_of_tai(to, tai, size, months, seconds),
-    }
-}
-
-fn between<'a>(
-    from: u32,
-    to: u32,
-    jd: JulianDate,
-    size: usize,
-    months: &'a [i32; 16],
-    seconds: &'a [i32; 16],
-) -> JulianAnswer
-    ensures { julian_outcome result ≡ between (rows_in size months.now seconds.now) from to jd }
-{
-    if are(from, to, TT, TCG) {
-        return of_tcg(scales::tt_tcg::tt_to_tcg(scales::TT(jd)));
-    }
-    if are(from, to, TCG, TT) {
-        return of_tt(scales::tt_tcg::tcg_to_tt(scales::TCG(jd)));
-    }
-    through_tai(from, to, jd, size, months, seconds)
-}
-
-// The date in scale `to` of a date in scale `from`. Refusals as the single calls have them, the first that comes; for the same scale 9.
-pub(crate) fn convert_by_arrays<'a>(
-    from: u32,
-    to: u32,
-    jd: JulianDate,
-    size: usize,
-    months: &'a [i32; 16],
-    seconds: &'a [i32; 16],
-) -> JulianAnswer
-    ensures { julian_outcome result ≡ way_of (rows_in size months.now seconds.now) from to jd }
+// The date in scale `to` of a date in scale `from`, where no day is read and the way is not one formula. Refusals as the single calls have them, the first that
+// comes; for the same scale 9.
+pub(crate) fn convert_by_formulas(from: u32, to: u32, jd: JulianDate) -> JulianAnswer
+    requires { (reads_day from to ≡ false) × (is_short from to ≡ false) }
+    ensures { (rows : List Row) → julian_outcome result ≡ way_of rows from to jd }
 {
     if from == to {
         return julian::finite_jd(jd);
     }
-    between(from, to, jd, size, months, seconds)
+    match into_tai_by_formula(from, jd) {
+        JulianAnswer::Refused(n) => JulianAnswer::Refused(n),
+        JulianAnswer::Date(tai) => out_of_tai_by_formula(to, tai),
+    }
 }

@@ -5,3 +5,4 @@ pub mod RoundTrip
 pub mod CalendarDates
 pub mod Refusals
 pub mod Cases
+pub mod Weeks

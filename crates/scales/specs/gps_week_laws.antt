@@ -2,3 +2,4 @@
 pub mod NearDate
 pub mod OnCalendar
 pub mod Decisions
+pub mod Weeks

@@ -11,21 +11,21 @@ use crate::{GPS, GpsAnswer};
 use julian::{JulianAnswer, JulianDate};
 
 // A week, counted from 1980-01-06 0h GPS, and the milliseconds of it that have passed.
-#[derive(Drop)]
+#[derive(Clone, Copy)]
 pub struct WeekTime {
     pub week: u32,
     pub millis: u32,
 }
 
 // A week and its milliseconds, or the number of the refusal.
-#[derive(Drop)]
+#[derive(Clone, Copy)]
 pub enum WeekAnswer {
     At(WeekTime),
     Refused(u32),
 }
 
 // A week, or the number of the refusal.
-#[derive(Drop)]
+#[derive(Clone, Copy)]
 pub enum FullWeekAnswer {
     Week(u32),
     Refused(u32),

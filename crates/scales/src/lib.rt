@@ -1,5 +1,7 @@
 // Eight time scales, and the sixteen conversions between them that read no table. Each scale is a type of its own around a Julian date, so that a date
 // counted in one can't be given where another is due.
+#![tactic(auto)]
+
 ghost use Rattle.std.specs.Prelude.{◌≡◌};
 ghost use Rattle.julian.specs.JulianDate.{julian_outcome};
 ghost use Rattle.scales.specs.Scales.{tai_outcome, ut1_outcome, tt_outcome, gps_outcome, tcg_outcome, tcb_outcome, tdb_outcome};
@@ -15,35 +17,35 @@ pub mod tt_tdb;
 pub mod ut1_tai;
 
 // Coordinated Universal Time.
-#[derive(Drop)]
+#[derive(Clone, Copy)]
 pub struct UTC(pub JulianDate);
 
 // International Atomic Time.
-#[derive(Drop)]
+#[derive(Clone, Copy)]
 pub struct TAI(pub JulianDate);
 
 // Universal Time, by the Earth's rotation.
-#[derive(Drop)]
+#[derive(Clone, Copy)]
 pub struct UT1(pub JulianDate);
 
 // Terrestrial Time.
-#[derive(Drop)]
+#[derive(Clone, Copy)]
 pub struct TT(pub JulianDate);
 
 // GPS time.
-#[derive(Drop)]
+#[derive(Clone, Copy)]
 pub struct GPS(pub JulianDate);
 
 // Geocentric Coordinate Time.
-#[derive(Drop)]
+#[derive(Clone, Copy)]
 pub struct TCG(pub JulianDate);
 
 // Barycentric Coordinate Time.
-#[derive(Drop)]
+#[derive(Clone, Copy)]
 pub struct TCB(pub JulianDate);
 
 // Barycentric Dynamical Time.
-#[derive(Drop)]
+#[derive(Clone, Copy)]
 pub struct TDB(pub JulianDate);
 
 impl UTC {
@@ -159,49 +161,49 @@ impl TDB {
 }
 
 // A date of the scale, or the number of the refusal.
-#[derive(Drop)]
+#[derive(Clone, Copy)]
 pub enum UtcAnswer {
     Date(UTC),
     Refused(u32),
 }
 
-#[derive(Drop)]
+#[derive(Clone, Copy)]
 pub enum TaiAnswer {
     Date(TAI),
     Refused(u32),
 }
 
-#[derive(Drop)]
+#[derive(Clone, Copy)]
 pub enum Ut1Answer {
     Date(UT1),
     Refused(u32),
 }
 
-#[derive(Drop)]
+#[derive(Clone, Copy)]
 pub enum TtAnswer {
     Date(TT),
     Refused(u32),
 }
 
-#[derive(Drop)]
+#[derive(Clone, Copy)]
 pub enum GpsAnswer {
     Date(GPS),
     Refused(u32),
 }
 
-#[derive(Drop)]
+#[derive(Clone, Copy)]
 pub enum TcgAnswer {
     Date(TCG),
     Refused(u32),
 }
 
-#[derive(Drop)]
+#[derive(Clone, Copy)]
 pub enum TcbAnswer {
     Date(TCB),
     Refused(u32),
 }
 
-#[derive(Drop)]
+#[derive(Clone, Copy)]
 pub enum TdbAnswer {
     Date(TDB),
     Refused(u32),

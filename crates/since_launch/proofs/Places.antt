@@ -123,7 +123,8 @@ unfolding millis_from_to place_at finite_jd onward since_launch
 from-launch from to e p h g = go (finite_parts from) refl g
   where
     go : (b : Bool) → finite_parts from ≡ b → onward (cond b (answer from) (refusal 9)) place_in ≡ answer p
-        → since_launch p e ≡ cond (b && finite_parts to) (onward (place_in from) (λ p. onward (place_in to) (λ q. count_of (units_of p) (units_of q)))) (refusal 9)
+        → since_launch p e ≡ cond (b && finite_parts to) (onward (place_in from) (λ p. onward (place_in to) (λ q. count_of (units_of p) (units_of q))))
+        (refusal 9)
     go true f i =
         let t = finite-is to e h in
         rw (t.0, i) (ap (since_launch p) (sym t.1) ∙ ap (λ (o : Outcome Place). onward o (λ q. count_of (units_of p) (units_of q))) (place-finite to t.0))

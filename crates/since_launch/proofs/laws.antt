@@ -12,3 +12,5 @@ pub mod WeeksTai
 pub mod RunBytes
 pub mod Runs
 pub mod Cases
+-- SinceLaunch: what is asked of the milliseconds, in one place.
+pub mod SinceLaunch

@@ -25,8 +25,8 @@ millis_outcome (M.Refused number) = refusal number
 
 -- ---- a date's place
 
--- the days since day -68570, the first that an answered date can lie on (`day-range` of julian::day_number), and the units of the fraction, cut down where it lies
--- between two: on the grid they are all of it
+-- the days since day -68570, the first that an answered date can lie on (`day-range` of julian::day_number), and the units of the fraction, cut down where it
+-- lies between two: on the grid they are all of it
 unfoldable pub place_of : DayNumber → Place
 place_of n = record { days = from_zero (n.day +ℤ pos 68570); units = grid_units n.fraction }
 

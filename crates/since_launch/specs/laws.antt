@@ -7,3 +7,5 @@ pub mod RunDone
 -- OwnMillis: milliseconds that stamps were made of.
 pub mod OwnMillis
 pub mod GridDates
+-- SinceLaunch: what is asked of the milliseconds.
+pub mod SinceLaunch

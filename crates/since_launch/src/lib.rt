@@ -1,4 +1,6 @@
-// Whole milliseconds from the launch to a stamp of the same uniform scale, and to each stamp of a run.
+// Whole milliseconds from the launch to a stamp of the same uniform scale. For one stamp, and for each of a run.
+#![tactic(auto)]
+
 ghost use Rattle.std.specs.Prelude.{◌≡◌, ◌+◌, ◌*◌, ◌≤◌, cond, eqb, length};
 ghost use Rattle.time_of_day.specs.HalfEven.{grid_units};
 ghost use Rattle.julian.specs.JulianDate.{julian};
@@ -11,28 +13,28 @@ ghost use Rattle.since_launch.specs.Asked.{PlaceWithin, AllPlaced, RoomForRun, M
 use julian::{JulianAnswer, JulianDate};
 
 // Whole milliseconds, or the number of the refusal.
-#[derive(Drop)]
+#[derive(Clone, Copy)]
 pub enum MillisAnswer {
     Millis(u64),
     Refused(u32),
 }
 
 // How many stamps are refused, or the number of the refusal of the whole call.
-#[derive(Drop)]
+#[derive(Clone, Copy)]
 pub enum RunMillis {
     Written(usize),
     Refused(u32),
 }
 
 // A date's place in units of 2^-52 day: the days since day -68570, before which no date is answered, and the units since midnight.
-#[derive(Drop)]
+#[derive(Clone, Copy)]
 struct Place {
     days: u64,
     units: u64,
 }
 
 // A date's place, or the number of the refusal.
-#[derive(Drop)]
+#[derive(Clone, Copy)]
 enum PlaceAnswer {
     At(Place),
     Refused(u32),

@@ -1,5 +1,7 @@
 // SOFA's published check values, over the C interface: as ERFA's test program has them, compared within SOFA's tolerances. SOFA's status is the sign of the
 // code that a call returns.
+#![tactic(auto)]
+
 mod calendar_checks;
 mod scale_checks;
 mod tally;

@@ -1,5 +1,5 @@
 // What was compared, and how much of it was outside SOFA's tolerance.
-#[derive(Drop)]
+#[derive(Clone, Copy)]
 pub(crate) struct Tally {
     pub compared: u64,
     pub outside: u64,

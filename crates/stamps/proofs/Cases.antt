@@ -32,8 +32,7 @@ abbrev empty : List ℕ
 empty = 0 ∷ 0 ∷ 0 ∷ 0 ∷ 0 ∷ 0 ∷ 0 ∷ 0 ∷ []
 
 -- its listing in sentences begins `utc listing 0 refused 0`
-pub empty-header : line_of (Sentences 8) fixed (answer 0) empty 0 ≡ 117 ∷ 116 ∷ 99 ∷ 32 ∷ 108 ∷ 105 ∷ 115 ∷ 116 ∷ 105 ∷ 110 ∷ 103 ∷ 32 ∷ 48 ∷ 32 ∷ 114 ∷ 101
-    ∷ 102 ∷ 117 ∷ 115 ∷ 101 ∷ 100 ∷ 32 ∷ 48 ∷ 10 ∷ []
+pub empty-header : line_of (Sentences 8) fixed (answer 0) empty 0 ≡ ascii_bytes "utc listing 0 refused 0\n"
 unfolding line_of header refused_in digits_in
 empty-header = refl
 

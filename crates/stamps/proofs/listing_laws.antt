@@ -8,3 +8,4 @@ pub mod Numerals
 pub mod Sentences
 pub mod Written
 pub mod ThreeStamps
+pub mod Asked

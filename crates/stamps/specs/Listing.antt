@@ -42,8 +42,8 @@ line_room (Sentences n) = 64
 
 -- `refused` and the number, or the number's sentence, which names the field of the values that is at fault
 unfoldable pub reported : Reporting → ℕ → Values → List ℕ
-reported Numbers k values = refused_word ++ numeral k
-reported (Sentences n) k values = render (record { number = k; named = offending k values })
+reported Numbers k v = refused_word ++ numeral k
+reported (Sentences n) k v = render (record { number = k; named = offending k v })
 
 -- the conversion of stamp i of n: its text, or a refusal
 unfoldable pub text_at : List Row → List ℕ → ℕ → ℕ → Outcome (List ℕ)

@@ -8,8 +8,8 @@ use Rattle.stamps.specs.declared.Reporting.TheVariants.{Numbers, Sentences}
 use Rattle.stamps.specs.Listing.{block_values}
 
 unfoldable pub Wide : Reporting → Values → Type 0
-Wide Numbers values = Unit
-Wide (Sentences n) values = OfWidth values
+Wide Numbers v = Unit
+Wide (Sentences n) v = OfWidth v
 
 -- of a block
 abbrev pub InWidth : Reporting → List ℕ → Type 0

@@ -2,3 +2,5 @@
 pub mod LineEnds
 pub mod NotFinite
 pub mod Writer
+-- Asked: what is asked of a listing.
+pub mod Asked

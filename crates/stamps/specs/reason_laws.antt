@@ -2,3 +2,5 @@
 pub mod Reader
 pub mod Printable
 pub mod Groups
+-- Named: which field a sentence names, and what the second listing prints.
+pub mod Named

@@ -1,4 +1,6 @@
 // The stamp block and its listing, where refused stamps are counted.
+#![tactic(auto)]
+
 mod listing;
 mod place;
 mod reported;
@@ -10,7 +12,7 @@ use julian::JulianDate;
 pub use listing::{next_part, next_part_by_rows};
 
 // The number of stamps, or the number of the refusal.
-#[derive(Drop)]
+#[derive(Clone, Copy)]
 pub enum BlockAnswer {
     Stamps(usize),
     Refused(u32),
@@ -18,14 +20,14 @@ pub enum BlockAnswer {
 
 // How a listing reports a refusal: by its number, or by its sentence. Of a refused block the sentence may name how many bytes came in all, of which the block
 // has the first.
-#[derive(Drop)]
+#[derive(Clone, Copy)]
 pub enum Reporting {
     Numbers,
     Sentences(u64),
 }
 
 // What `next_part` put into the scratch: how many bytes, which line comes next, and whether the listing ends here.
-#[derive(Drop)]
+#[derive(Clone, Copy)]
 pub struct Part {
     pub written: usize,
     pub line: usize,
@@ -33,7 +35,7 @@ pub struct Part {
 }
 
 // A part of the listing, or the number of the refusal.
-#[derive(Drop)]
+#[derive(Clone, Copy)]
 pub enum LinesAnswer {
     Lines(Part),
     Refused(u32),

@@ -1,5 +1,7 @@
 // The bill of a crew's standby by quarter hours, in exact TAI. From document 02, item 11. Whole numbers only: a UTC time is counted in exact TAI, by the
 // announced table.
+#![tactic(auto)]
+
 ghost use Rattle.std.specs.Prelude.{◌≡◌, ◌+◌, ◌*◌, ◌≤◌, ◌<◌};
 ghost use Rattle.refusals.specs.Outcome.{answer, onward};
 ghost use Rattle.leap_table.specs.rows.Announced.{rows_of, table_of};
@@ -17,7 +19,7 @@ use leap_table::rows::AnnouncedRows;
 const LIMIT: u64 = 1_000_000;
 
 // A date and a time of its day in UTC, to the millisecond.
-#[derive(Drop)]
+#[derive(Clone, Copy)]
 pub struct UtcTime {
     pub year: i32,
     pub month: u8,
@@ -29,7 +31,7 @@ pub struct UtcTime {
 }
 
 // The started quarter hours, and what each of the two owners pays, in the rate's cents.
-#[derive(Drop)]
+#[derive(Clone, Copy)]
 pub struct Bill {
     pub quarters: u64,
     pub first: u64,
@@ -37,21 +39,21 @@ pub struct Bill {
 }
 
 // A bill, or the number of the refusal.
-#[derive(Drop)]
+#[derive(Clone, Copy)]
 pub enum BillAnswer {
     Billed(Bill),
     Refused(u32),
 }
 
 // Whole TAI seconds from 0h TAI of Modified Julian Date 0, and milliseconds. In milliseconds alone the last years would not fit 64 bits.
-#[derive(Drop)]
+#[derive(Clone, Copy)]
 struct Instant {
     seconds: u64,
     millis: u32,
 }
 
 // An instant, or the number of the refusal.
-#[derive(Drop)]
+#[derive(Clone, Copy)]
 enum InstantAnswer {
     At(Instant),
     Refused(u32),

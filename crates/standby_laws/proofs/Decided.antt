@@ -73,7 +73,8 @@ module _ (rows : List Row) (t : UtcTime) where
   pub time-decided : TimeDecision rows t
   time-decided = go (lt_z t.year (pos 1972)) refl next refl
     where
-      at : (p : lt_z t.year (pos 1972) ≡ false) (d : CalendarDate) → next ≡ answer d → (b : Bool) → in_its_day t (last_minute rows t d) ≡ b → TimeDecision rows t
+      at : (p : lt_z t.year (pos 1972) ≡ false) (d : CalendarDate) → next ≡ answer d → (b : Bool) → in_its_day t (last_minute rows t d) ≡ b
+          → TimeDecision rows t
       at p d e true q = given p d e q (sym (T.time-fits rows t d q ∙ T.on-date rows t p d e))
       at p d e false q = no_time p d e q (sym (T.time-refused rows t d q ∙ T.on-date rows t p d e))
 

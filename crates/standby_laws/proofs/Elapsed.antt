@@ -1,12 +1,10 @@
 -- WHAT IS BILLED IS ELAPSED TIME: under every table that is taken, next midnight is 1,000 times 86,400 and the day's leap milliseconds after midnight, and a
 -- time of the day is after midnight by what the clock shows; so the exact TAI from one time to another is the sum of the days between them. Assumes nothing.
 use mathlib.Core.Path.{◌≡◌, refl, ap, sym, ◌∙◌}
-use mathlib.Core.Bool.{true}
 use mathlib.Core.List.{List}
-use Prim.Native.Nat.{ℕ, suc, ◌+◌, ◌*◌, ◌≤◌}
+use Prim.Native.Nat.{ℕ, ◌+◌, ◌*◌}
 use native.Mathlib.Omega.{arith}
 use lib.IntN.{ℤ, pos}
-use lib.ListN.{get_or}
 use lib.Ieee.{Float}
 use Rattle.refusals.specs.Outcome.{answer}
 use Rattle.calendar.specs.declared.CalendarDate.{CalendarDate}
@@ -23,8 +21,8 @@ use Rattle.leap_table.proofs.offsets.WholeSeconds.{late}
 use Rattle.leap_days.specs.Tables.{seconds_of_row, StepLeap, no_row, row_up, row_down}
 use Rattle.leap_days.proofs.TableLeaps.{leap-is-step}
 use Rattle.standby.specs.declared.UtcTime.{UtcTime}
-use Rattle.standby.specs.Times.{offset_on_date, offset_after, last_minute, in_its_day, tai_ms, instant}
-use Rattle.standby.specs.Elapsed.{at0h, day_start, date_start, clock_ms}
+use Rattle.standby.specs.Times.{offset_on_date, offset_after, in_its_day, tai_ms, instant}
+use Rattle.standby.specs.Elapsed.{at0h, day_start, date_start}
 use Rattle.standby.proofs.Times.{on-date, time-fits}
 use Rattle.standby.proofs.Elapsed.{by-clock, next-from, next_midnight}
 use Rattle.standby_laws.specs.Elapsed.{ElapsedBy, no_leap, leap-second, second_less, DayElapsed, ByClock}

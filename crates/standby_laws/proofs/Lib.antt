@@ -8,3 +8,4 @@ pub mod Exact
 pub mod Dates
 pub mod Order
 pub mod Elapsed
+pub mod Asked

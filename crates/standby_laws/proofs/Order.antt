@@ -1,9 +1,9 @@
 -- 26 IS OF INSTANTS: for times that are not refused the order of the exact TAI is that of the seven fields, leap seconds and those left out among them, so the
 -- end is before the start exactly where its fields are. Assumes nothing.
-use mathlib.Core.Path.{◌≡◌, refl, ap, sym, subst, ◌∙◌}
+use mathlib.Core.Path.{◌≡◌, refl, ap, sym, ◌∙◌}
 use mathlib.Core.Bool.{Bool, true, false, true≢false, cond, ◌&&◌}
 use mathlib.Core.List.{List, [], ◌∷◌}
-use Prim.Native.Nat.{ℕ, ◌+◌, ◌-◌, ◌*◌, ◌≤◌, ◌<◌}
+use Prim.Native.Nat.{ℕ, ◌+◌, ◌*◌, ◌≤◌, ◌<◌}
 use native.Mathlib.Omega.{arith}
 use lib.Dec.{ltb, leb, eqb}
 use lib.IntN.{pos, nat_abs}
@@ -202,7 +202,8 @@ module _ (table : AnnouncedRows) (rows : List Row) (taken : table_of table ≡ a
             ap (λ (x : CalendarDate). whole_seconds rows x.year x.month) s
 
         go : (t : Bool) → eqb (mjd_day a + 1) (mjd_day b) ≡ t
-            → 1000 * (86400 * mjd_day a + time_seconds a + offset_on_date rows a) + a.millis < 1000 * (86400 * mjd_day b + time_seconds b + offset_on_date rows b) +
+            → 1000 * (86400 * mjd_day a + time_seconds a + offset_on_date rows a) + a.millis < 1000 *
+            (86400 * mjd_day b + time_seconds b + offset_on_date rows b) +
             b.millis
         go true e = omega (
           arith,
@@ -236,7 +237,8 @@ module _ (table : AnnouncedRows) (rows : List Row) (taken : table_of table ≡ a
       ap (λ (x : CalendarDate). less_by (nat_abs x.year ∷ x.month ∷ x.day ∷ clock a) (seven_fields b)) s
       ∙ date-level (nat_abs b.year) b.month b.day (clock a) (clock b)
       ∙ time-order a b (last_minute rows a p.after) (last_minute rows b q.after) p.time q.time
-      ∙ shifted (in_millis a) (in_millis b) (1000 * (86400 * mjd_day a + offset_on_date rows a)) (tai_ms rows a) (tai_ms rows b) (omega arith) (omega (arith, e, o))
+      ∙ shifted (in_millis a) (in_millis b) (1000 * (86400 * mjd_day a + offset_on_date rows a)) (tai_ms rows a) (tai_ms rows b) (omega arith)
+      (omega (arith, e, o))
     where
       shifted : (x y c u v : ℕ) → u ≡ c + x → v ≡ c + y → ltb x y ≡ ltb u v
       shifted x y c u v eu ev = go (ltb x y) refl

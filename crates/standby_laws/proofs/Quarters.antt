@@ -1,6 +1,6 @@
 -- THE QUARTERS: the least number of 900 s that holds the time, and never fewer for a later end. Assumes nothing.
 use mathlib.Core.Path.{◌≡◌}
-use Prim.Native.Nat.{ℕ, ◌+◌, ◌-◌, ◌*◌, ◌≤◌}
+use Prim.Native.Nat.{ℕ, ◌+◌, ◌*◌, ◌≤◌}
 use native.Mathlib.Omega.{arith}
 use Rattle.standby.specs.Bills.{quarters, quarters_between}
 

@@ -5,3 +5,5 @@ pub mod Meaning
 pub mod Verdict
 pub mod Fields
 pub mod Elapsed
+-- Asked: what is asked of a bill, sentence by sentence.
+pub mod Asked

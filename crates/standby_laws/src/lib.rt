@@ -1,1 +1,2 @@
 // What a standby bill means, to the cent. Laws only.
+#![tactic(auto)]

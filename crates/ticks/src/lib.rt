@@ -1,4 +1,6 @@
-// Ticks between marker passes, as TAI milliseconds. Lists are bytes: eight for a number, the lowest first.
+// Between marker passes: ticks in milliseconds, readings in millimetres. Lists are bytes: eight for a number, the lowest first.
+#![tactic(auto)]
+
 ghost use Rattle.std.specs.Prelude.{◌≡◌, ◌++◌, ◌+◌, ◌-◌, ◌*◌, ◌/◌, ◌<◌, ◌≤◌, length, drop};
 ghost use Rattle.std.proofs.lemmas.List.Edits.{sets};
 ghost use Rattle.numerals.specs.little_endian.LittleEndian.{eight_bytes};
@@ -14,7 +16,7 @@ pub mod judging;
 pub mod places;
 
 // The number of bytes written, or the number of the refusal.
-#[derive(Drop)]
+#[derive(Clone, Copy)]
 pub enum TicksAnswer {
     Written(usize),
     Refused(u32),

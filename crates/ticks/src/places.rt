@@ -8,7 +8,7 @@ ghost use Rattle.ticks.specs.places.Asked.{HasReading, ReadingPut, HasReadings, 
 use crate::judging::number_at;
 
 // How many readings have no place, or the number of the refusal.
-#[derive(Drop)]
+#[derive(Clone, Copy)]
 pub enum PlacesAnswer {
     Written(usize),
     Refused(u32),
@@ -32,7 +32,7 @@ fn refused_by(passes: &[u8], places: &[u8], millis: &[u8], count: usize, room: u
 }
 
 // The number of a reading, and its neighbour, from which the next is sought.
-#[derive(Drop)]
+#[derive(Clone, Copy)]
 struct Placed {
     number: u8,
     near: usize,

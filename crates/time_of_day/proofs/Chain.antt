@@ -1,4 +1,5 @@
--- The float chain of `millis_of`, before it is rounded to a whole number: 1000 * (86400 * (f + f * l / 86400)), in units of 2 ^ -1074, for f = F / L below 1 and
+-- The float chain of `millis_of`, before it is rounded to a whole number: 1000 * (86400 * (f + f * l / 86400)), in units of 2 ^ -1074, for f = F / L below 1
+-- and
 -- l = (B - C) / E at most 1 in size. It is within 305445864 * 2 ^ -53 of the exact product. U is 2 ^ -53 in units: every step's error is a multiple of it.
 -- Assumes nothing.
 use mathlib.Core.Path.{◌≡◌, refl, sym, subst, subst₂}

@@ -12,6 +12,7 @@ pub mod ByCount
 pub mod EvenRule
 pub mod EvenFloat
 pub mod EvenExact
+pub mod EvenWays
 pub mod EvenGrid
 pub mod EvenCases
 pub mod Cases

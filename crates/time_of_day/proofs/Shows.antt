@@ -61,7 +61,8 @@ module _ (c e F D k : ℕ) (x : Float) (s : Leap x) (h : F ≤ D) (near : (W E :
   unfolding shown_at
   shown-within = go (ltb k (day_end (whole_leap x))) (ltb→lt k (day_end (whole_leap x))) (nltb→le k (day_end (whole_leap x)))
     where
-      go : (b : Bool) → (T b → k < day_end (whole_leap x)) → (T (not b) → day_end (whole_leap x) ≤ k) → ShownWithin c e F D x (cond b (At (time_of k)) NextMidnight)
+      go : (b : Bool) → (T b → k < day_end (whole_leap x)) → (T (not b) → day_end (whole_leap x) ≤ k) → ShownWithin c e F D x
+          (cond b (At (time_of k)) NextMidnight)
       go true t n = at-time (t tt)
       go false t n = at_end (n tt)
 

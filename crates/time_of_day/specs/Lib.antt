@@ -6,3 +6,4 @@ pub mod HalfEven
 pub mod Nearest
 pub mod ExactTime
 pub mod EvenPromise
+pub mod EvenWays

@@ -1,9 +1,11 @@
-// The time of day that a text shows, to the millisecond: its types, its definitions and its laws. The code is that of the texts, in `utc::shown`.
+// Types, definitions and laws of the time that a text shows. The code is that of the texts, in `utc::shown`.
+#![tactic(auto)]
+
 ghost use Rattle.std.specs.Prelude.{◌≡◌};
 ghost use Rattle.time_of_day.specs.TimeShown.{from_zero};
 
 // A time of day to the millisecond; in a leap second `second` is 60.
-#[derive(Drop)]
+#[derive(Clone, Copy)]
 pub struct TimeOfDay {
     pub hour: u32,
     pub minute: u32,
@@ -12,7 +14,7 @@ pub struct TimeOfDay {
 }
 
 // A time of the day itself, or the midnight that ends it.
-#[derive(Drop)]
+#[derive(Clone, Copy)]
 pub enum TimeShown {
     At(TimeOfDay),
     NextMidnight,

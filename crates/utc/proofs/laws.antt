@@ -35,3 +35,5 @@ pub mod UnixClock
 pub mod NewDecided
 pub mod TextDecided
 pub mod Witnesses
+-- Calls: the texts and the calls on UTC, as the mission and document 02 ask.
+pub mod Calls

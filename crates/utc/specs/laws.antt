@@ -12,3 +12,5 @@ pub mod RunTexts
 -- Ladder: an order of refusals. Ladders: those of the calls that read TAI-UTC.
 pub mod Ladder
 pub mod Ladders
+-- Calls: what is asked of the texts and of the calls on UTC, call by call.
+pub mod Calls

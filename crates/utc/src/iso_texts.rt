@@ -23,7 +23,7 @@ use scales::UTC;
 use time_of_day::{TimeOfDay, TimeShown};
 
 // Which form of text a text call writes by.
-#[derive(Drop)]
+#[derive(Clone, Copy)]
 pub enum NamedForm {
     Standard,
     HalfEven,
@@ -31,7 +31,7 @@ pub enum NamedForm {
 }
 
 // How many bytes were written and the rule of the day, or the number of the refusal.
-#[derive(Drop)]
+#[derive(Clone, Copy)]
 pub enum TextByRule {
     Written(usize, Rule),
     Refused(u32),
@@ -45,7 +45,7 @@ const MIDNIGHT: TimeOfDay = TimeOfDay {
 };
 
 // What a text is written by: the calendar's day, the fraction of it, its leap and its rule; or the number of the refusal.
-#[derive(Drop)]
+#[derive(Clone, Copy)]
 pub(crate) enum DayAnswer {
     Day(CalendarDate, f64, f64, Rule),
     Refused(u32),

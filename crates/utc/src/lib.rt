@@ -1,4 +1,6 @@
-// UTC from Unix time and from calendar fields. From scales/utc/mod.rs.
+// UTC texts, and UTC of Unix time and of calendar fields. From scales/utc/mod.rs.
+#![tactic(auto)]
+
 ghost use Rattle.std.specs.Prelude.{◌≡◌, ◌<◌};
 ghost use Rattle.scales.specs.Scales.{utc_outcome};
 ghost use Rattle.julian.specs.DayFraction.{fraction_outcome};

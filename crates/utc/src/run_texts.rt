@@ -16,21 +16,21 @@ use scales::UTC;
 mod kept_day;
 
 // How many stamps are refused, or the number of the refusal of the whole call.
-#[derive(Drop)]
+#[derive(Clone, Copy)]
 pub enum RunTextsAnswer {
     Written(usize),
     Refused(u32),
 }
 
 // What stands beside a stamp's text: its length, 0 where it is refused, and its number, 0 where it is not.
-#[derive(Drop)]
+#[derive(Clone, Copy)]
 struct Beside {
     length: u8,
     number: u8,
 }
 
 // What stands beside a stamp's text, and the day that is kept for the next stamp.
-#[derive(Drop)]
+#[derive(Clone, Copy)]
 struct StampDone {
     beside: Beside,
     kept: KeptDay,

@@ -12,7 +12,7 @@ pub use expanded::put_text_expanded;
 use time_of_day::TimeOfDay;
 
 // How many bytes were written, or the number of the refusal.
-#[derive(Drop)]
+#[derive(Clone, Copy)]
 pub enum TextAnswer {
     Written(usize),
     Refused(u32),
@@ -61,7 +61,7 @@ fn put_basic(year: u32, date: CalendarDate, time: TimeOfDay, out: &mut [u8]) -> 
     if out.len() < 23 {
         return TextAnswer::Refused(refusals::NO_ROOM);
     }
-    let n = bytes::copy(&all[3..], out);
+    let n = numerals::place::copy(&all[3..], out);
     TextAnswer::Written(n)
 }
 
@@ -82,7 +82,7 @@ fn put_wide(
     if out.len() < 26 - skip {
         return TextAnswer::Refused(refusals::NO_ROOM);
     }
-    let n = bytes::copy(&all[skip..], out);
+    let n = numerals::place::copy(&all[skip..], out);
     TextAnswer::Written(n)
 }
 

@@ -1,8 +1,19 @@
-// Lists the stamp block on standard input, with refusals by number. Proved here: the program is safe and ends. That the parts are the
-// listing is a theorem (stamps::listing_laws); that they go out in order is tested by what the program prints.
+// Lists the stamp block on standard input, with refusals by number.
+//
+//   utc_listing < BLOCK > LISTING
+//
+// A block is two sizes of 4 bytes, all first parts and all second parts as 64-bit floats, the lowest byte first. The first line counts the stamps and the
+// refused ones, and each stamp has a line: its index and its UTC text, or `refused` and a number. A block that is refused has one line alone. The program
+// lends no rows.
+//
+// Proved here: the program is safe and ends. That the parts are the listing is a theorem (stamps::listing_laws); that they go out in order is tested by what
+// the program prints.
+#![tactic(auto)]
+
 ghost use Rattle.std.specs.Prelude.{◌≡◌, length};
 
 use stamps::Reporting;
+use std::io::Write;
 
 // One byte more than the longest block, 8 + 16 * 4000 bytes, so that a longer input is noticed.
 const BLOCK_SPACE: usize = 64009;
@@ -14,35 +25,32 @@ fn block_space() -> [u8; BLOCK_SPACE]
 }
 
 // What standard error is told. A message that standard error does not take is lost.
-fn tell_unread() {
-    libc::write(2, b"utc_listing: the input can't be read\n");
+fn tell<W: Write>(errors: &mut W, message: &[u8]) {
+    block_io::write_text(errors, message);
 }
 
-fn tell_left_over(len: usize) {
+fn tell_left_over<W: Write>(errors: &mut W, len: usize) {
     if len == BLOCK_SPACE {
-        libc::write(
-            2,
+        tell(
+            errors,
             b"utc_listing: the input is longer than any block, and its end was not read\n",
         );
     }
 }
 
-fn tell_unwritten() {
-    libc::write(2, b"utc_listing: the listing can't be written\n");
-}
-
 // The program lends no rows. Where the output takes no more, the program says so and ends: what it wrote until then has its last line cut short, or ends with a
 // whole line.
-fn main() {
+fn main(rt: HostRuntime) {
     let mut space = block_space();
-    let kept = block_io::read_block(&mut space);
+    let mut errors = rt.stderr();
+    let kept = block_io::read_block(&mut rt.stdin(), &mut space);
     if kept.failed {
-        tell_unread();
+        tell(&mut errors, b"utc_listing: the input can't be read\n");
     }
     let len = kept.bytes;
-    tell_left_over(len);
-    let sent = block_io::write_listing(Reporting::Numbers, &space[..len]);
+    tell_left_over(&mut errors, len);
+    let sent = block_io::write_listing(&mut rt.stdout(), Reporting::Numbers, &space[..len]);
     if !sent.all {
-        tell_unwritten();
+        tell(&mut errors, b"utc_listing: the listing can't be written\n");
     }
 }

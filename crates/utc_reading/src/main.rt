@@ -1,10 +1,19 @@
-// Reads UTC texts from standard input, one a line, and answers each by a line: its index and the text of its date, or `refused` and the number. A line ends
-// with byte 10, which is no part of the text; a last line without one counts where it has a byte. The program lends no rows. Proved here: the program is safe,
-// and ends where its input does; what answers a text is proved of `readings::answer_line`; that the lines go out in order is tested by what the program prints.
+// Reads UTC texts from standard input, one a line, and answers each by a line.
+//
+//   utc_reading < TEXTS > ANSWERS
+//
+// An answer is the text's index and the text of its date, or `refused` and the number. A line ends with byte 10, which is no part of the text; a last line
+// without one counts where it has a byte. The program lends no rows.
+//
+// Proved here: the program is safe, and ends where its input does; what answers a text is proved of `readings::answer_line`; that the lines go out in order is
+// tested by what the program prints.
+#![tactic(auto)]
+
+use std::io::Read;
 use utc::text::TextAnswer;
 
 // Where the reading stands.
-#[derive(Drop)]
+#[derive(Clone, Copy)]
 struct At {
     // the index of the line that is being read
     index: u64,
@@ -85,18 +94,18 @@ fn take_end(line: &[u8], at: At) -> At {
 }
 
 // A read that fails counts as the end of the input.
-fn read_some(line: &mut [u8], at: At) -> At {
+fn read_some<R: Read>(input: &mut R, line: &mut [u8], at: At) -> At {
     let mut space = io::buffer();
-    let got = libc::read(0, &mut space);
-    let n = io::count(got, &space);
-    if n == 0 {
-        return take_end(line, at);
+    match input.read(&mut space) {
+        Err(_) => take_end(line, at),
+        Ok(0) => take_end(line, at),
+        Ok(n) => take_bytes(&space[..n], line, at),
     }
-    take_bytes(&space[..n], line, at)
 }
 
 // A proved loop has to end, and nothing says that an input does: so the turns are counted, from a number that no run uses up.
-fn main() {
+fn main(rt: HostRuntime) {
+    let mut input = rt.stdin();
     let mut line = io::buffer();
     let mut at = At {
         index: 0,
@@ -105,7 +114,7 @@ fn main() {
     };
     let mut turns = u64::MAX;
     while turns > 0 && at.more {
-        at = read_some(&mut line, at);
+        at = read_some(&mut input, &mut line, at);
         turns -= 1;
     }
 }

@@ -31,6 +31,7 @@ module _ (rows : List Row) (d : JulianDate) where
   unfolding utc_to_tai_by_rule rule_of_date
   utc-to-tai-forgets = go (julian_to_calendar big small) refl
     where
-      go : (w : Outcome CalendarFields) → julian_to_calendar big small ≡ w → forget (pass_on (utc_to_tai rows d) (rule_of_date rows big small)) ≡ utc_to_tai rows d
+      go : (w : Outcome CalendarFields) → julian_to_calendar big small ≡ w → forget (pass_on (utc_to_tai rows d) (rule_of_date rows big small))
+          ≡ utc_to_tai rows d
       go (answer c) e = passed_forgets _ _ _ (went _ e)
       go (refusal k) e = refused-forgets _ _ k (no_date k e)

@@ -22,3 +22,4 @@ pub mod AllTwenty
 pub mod AnnouncedCalls
 pub mod ShortDay
 pub mod PassedRules
+pub mod Asked

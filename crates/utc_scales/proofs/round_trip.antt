@@ -57,6 +57,8 @@ pub mod Steady
 -- The rounds of TAI to UTC:
 -- Residuals: their arithmetic.
 pub mod Residuals
+-- Picoseconds: their bound in picoseconds.
+pub mod Picoseconds
 -- Round: one round on floats.
 pub mod Round
 -- Rounds: the three.

@@ -8,3 +8,4 @@ pub mod Limits
 pub mod Near
 pub mod NearLeap
 pub mod NearCases
+pub mod Sofa

@@ -4,3 +4,5 @@ pub mod Claims
 pub mod Twenty
 pub mod ShortTable
 pub mod Published
+-- Asked: what demand 1 and document 02, items 5 and 8, ask of the twenty.
+pub mod Asked

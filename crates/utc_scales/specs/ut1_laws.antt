@@ -2,3 +2,4 @@
 pub mod Ut1
 pub mod Back
 pub mod Near
+pub mod Sofa

@@ -16,7 +16,7 @@ ghost use Rattle.utc_scales.specs.days.DateRule.{rule_on};
 use julian::{FractionAnswer, JulianAnswer, JulianDate};
 use leap_table::offsets::SecondsByRule;
 
-#[derive(Drop)]
+#[derive(Clone, Copy)]
 pub struct Parts {
     pub larger: f64,
     pub smaller: f64,

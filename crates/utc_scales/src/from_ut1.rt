@@ -22,7 +22,7 @@ use months::{KnownMonth, MonthAnswer, month_of_date, month_with};
 use scales::{UT1, UTC, UtcAnswer};
 
 // What a scanned day shows: its month and TAI-UTC, with no step from the day before; or DUT1 near its step.
-#[derive(Drop)]
+#[derive(Clone, Copy)]
 enum DayScan {
     NoStep(KnownMonth),
     Step(f64),

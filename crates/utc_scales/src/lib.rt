@@ -1,4 +1,6 @@
 // UTC with TAI and with UT1: the four conversions that read the leap table.
+#![tactic(auto)]
+
 pub mod days;
 pub mod from_ut1;
 mod table;

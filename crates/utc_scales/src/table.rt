@@ -8,7 +8,7 @@ ghost use Rattle.utc_scales.specs.Known.{read_on, RightKnown};
 use leap_table::offsets::{DayByRule, DayOffsets, Rule};
 
 // The offsets of a day and its rule, looked up.
-#[derive(Drop)]
+#[derive(Clone, Copy)]
 pub(crate) struct KnownDay {
     pub day: i64,
     pub offsets: DayOffsets,
@@ -16,7 +16,7 @@ pub(crate) struct KnownDay {
 }
 
 // What has been looked up before.
-#[derive(Drop)]
+#[derive(Clone, Copy)]
 pub(crate) enum Known {
     Nothing,
     Day(KnownDay),

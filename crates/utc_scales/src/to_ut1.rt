@@ -18,7 +18,7 @@ use leap_table::rows::AnnouncedRows;
 use scales::{TAI, UT1, UTC, Ut1Answer};
 
 // A date with the rule of its offset, or the number of the refusal.
-#[derive(Drop)]
+#[derive(Clone, Copy)]
 pub enum Ut1ByRule {
     Date(UT1, Rule),
     Refused(u32),

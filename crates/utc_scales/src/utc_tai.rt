@@ -20,21 +20,21 @@ use leap_table::rows::AnnouncedRows;
 use scales::{TAI, UTC, UtcAnswer};
 
 // The smaller part of a date, and the day that was looked up for it.
-#[derive(Drop)]
+#[derive(Clone, Copy)]
 pub(crate) struct KnownPart {
     pub part: f64,
     pub known: KnownDay,
 }
 
 // The same, or the number of the refusal.
-#[derive(Drop)]
+#[derive(Clone, Copy)]
 pub(crate) enum PartAnswer {
     Part(KnownPart),
     Refused(u32),
 }
 
 // A date with the rule of its offset, or the number of the refusal.
-#[derive(Drop)]
+#[derive(Clone, Copy)]
 pub enum TaiByRule {
     Date(TAI, Rule),
     Refused(u32),

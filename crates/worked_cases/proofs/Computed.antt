@@ -2,7 +2,8 @@
 use mathlib.Core.Path.{◌≡◌, sym, ◌∙◌}
 use lib.Ieee.{round, of_bits, of_int, add, sub, mul, div, neg, lt, le, eq, to_signed}
 use Rattle.refusals.specs.Outcome.{Outcome, onward}
-use Rattle.constants.specs.Constants.{seconds_per_day, mjd_zero_point, unix_epoch_jd, nanoseconds_per_second, tcb_rate_lb, tdb_offset1977, tt_tai_offset, mjd1977_jan1}
+use Rattle.constants.specs.Constants.{seconds_per_day, mjd_zero_point, unix_epoch_jd, nanoseconds_per_second, tcb_rate_lb, tdb_offset1977, tt_tai_offset}
+use Rattle.constants.specs.Constants.{mjd1977_jan1}
 use Rattle.floats.specs.Whole.{abs, to_whole, nearest_int}
 use Rattle.numerals.specs.little_endian.LittleEndian.{four_at, u32_at}
 use Rattle.calendar.specs.Calendar.{next, leap_size, lengths, days_in_month}
@@ -38,11 +39,13 @@ use Rattle.julian.specs.shifts.Shifts.{days_of, changed, converted}
 
 unfoldable pub computed : Call → Outcome Value
 unfolding answer_by call_outcome divided_date onward
-    calendar_to_julian from_calendar Julian.at_time rounded_sum mjd_of mjd_number civil_count valid_date next_of next days_in_month leap_size lengths day_number_and_fraction
+    calendar_to_julian from_calendar Julian.at_time rounded_sum mjd_of mjd_number civil_count valid_date next_of next days_in_month leap_size lengths
+    day_number_and_fraction
     mjd_zero_point seconds_per_day unix_epoch_jd nanoseconds_per_second tcb_rate_lb tdb_offset1977 tt_tai_offset mjd1977_jan1
     day_fraction time_in_day second_limit midnight_plus utc_from_calendar unix_day second_of_unix_day second_with_nanos
     fixed month_number reached seconds_of start_of rate_of by_row offset_by offset_at in_day tai_utc_offset day_offsets leap_of leap_at_end_of_day
-    finite_jd finite_arg Scales.answer_of converted changed map_smaller_part parts_of put_back first_is_larger tcb_to_tdb since days_of tdb0 tt_days jd1977 utc_to_ut1
+    finite_jd finite_arg Scales.answer_of converted changed map_smaller_part parts_of put_back first_is_larger tcb_to_tdb since days_of tdb0 tt_days jd1977
+    utc_to_ut1
     shown_by count_by shown_at from_zero time_of day_end Millis.whole_leap Millis.millis_of Millis.fraction_seconds
     day_text_by shown_text_by next_midnight_text_by utc_text year_text text_written buffer_after written buffer_holds block_of u32_at four_at
     abs to_whole nearest_int round of_bits of_int add sub mul div neg lt le eq to_signed

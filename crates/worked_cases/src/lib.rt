@@ -1,1 +1,2 @@
-// The customer's worked cases, the sixteen starred ones as one table under one theorem. Laws only.
+// The customer's worked cases. The sixteen starred ones are one table under one theorem. Laws only.
+#![tactic(auto)]

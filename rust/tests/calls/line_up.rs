@@ -34,3 +34,21 @@ fn every_stamp_has_a_line() {
     assert_eq!(number(lines_in_order(stamps, &mut [0; 7], 3, 0)), 12);
     assert_eq!(lines_in_order(Stamps::new(&[], &[]), &mut [], 0, 0), Ok(vec![]));
 }
+
+/// A block of two stamps in GPS time, of which one is not finite, and behind it a block that is cut.
+#[test]
+fn listing_of_three_runs() {
+    use celestial_time_proved::{listing::listing_of_runs, Table};
+    let mut run = vec![2, 0, 0, 0, 2, 0, 0, 0];
+    for part in [2457754.5, f64::NAN, 0.25, 0.5] {
+        run.extend_from_slice(&part.to_le_bytes());
+    }
+    run.push(1);
+    let listing = listing_of_runs(Some(&run), None, None, &Table::NONE, 0, false).unwrap();
+    let due = "line up 1 runs\ngps 2 not finite 1 refused 0 left out 0 block 1 refused 14\n\
+               gps 0 2017-01-01T05:59:42.000\ngps 1 refused 9\nlined up 1 without text 0\n";
+    assert_eq!(String::from_utf8(listing.text).unwrap(), due);
+    assert_eq!(listing.look, 0);
+    let told = listing_of_runs(Some(&run), None, None, &Table::NONE, 0, true).unwrap();
+    assert!(String::from_utf8(told.text).unwrap().contains("refused 9: "));
+}

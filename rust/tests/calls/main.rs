@@ -21,6 +21,13 @@ mod weeks;
 use celestial_time_proved::scales::TimeScale;
 use celestial_time_proved::{JulianDate, Row, Table, TimeResult};
 
+#[test]
+fn the_version_is_the_crates() {
+    let parts = [env!("CARGO_PKG_VERSION_MAJOR"), env!("CARGO_PKG_VERSION_MINOR"), env!("CARGO_PKG_VERSION_PATCH")];
+    let number = parts.iter().fold(0, |sum, part| sum * 1000 + part.parse::<i64>().unwrap());
+    assert_eq!(celestial_time_proved::version(), number);
+}
+
 /// The number that a call refuses by.
 fn number<T>(answer: TimeResult<T>) -> u32 {
     match answer {

@@ -1,5 +1,5 @@
 use crate::{at, made_up, number, parts};
-use celestial_time_proved::runs::{convert_run, formula_run, texts_of_run, Dates, Stamps};
+use celestial_time_proved::runs::{convert_run, dates_of_texts, formula_run, texts_of_run, Dates, Stamps};
 use celestial_time_proved::scales::gps::GPS;
 use celestial_time_proved::scales::tai::TAI;
 use celestial_time_proved::scales::tcb::TCB;
@@ -141,6 +141,36 @@ fn refused_texts_of_a_run() {
     assert_eq!(refused(Stamps::new(&jd1, &jd2), 53, 2, 2), 11);
     assert_eq!(refused(Stamps::new(&jd1, &jd2), 54, 1, 2), 11);
     assert_eq!(refused(Stamps::new(&jd1, &jd2), 54, 2, 1), 11);
+}
+
+#[test]
+fn dates_of_a_run_of_texts() {
+    let written =
+        ["2016-12-31T23:59:60.5", "2016-12-31T23:59:61", "2017-01-01T00:00:00Z", "2026-12-31T23:59:59", "never"];
+    let (mut texts, table) = (vec![99; 27 * 5], made_up(36));
+    for (i, text) in written.iter().enumerate() {
+        texts[27 * i..27 * i + text.len()].copy_from_slice(text.as_bytes());
+    }
+    let lengths = written.map(|text| text.len() as u8);
+    let run = answered::<UTC>(6, 6, |dates| dates_of_texts(&texts, &lengths, &table, dates));
+    assert_eq!((run.code, run.numbers), (Ok(3), vec![0, 4, 0, 4, 15, 99]));
+    assert_eq!(run.jd1, [2457753.5, FILL, 2457754.5, FILL, FILL, FILL]);
+    assert_eq!(run.jd2, [86400.5 / 86401.0, FILL, 0.0, FILL, FILL, FILL]);
+}
+
+#[test]
+fn refused_dates_of_texts() {
+    let refused = |texts: usize, lengths: usize, places: usize, numbers: usize| {
+        let run = answered::<UTC>(places, numbers, |dates| {
+            dates_of_texts(&vec![32; texts], &vec![27; lengths], &Table::NONE, dates)
+        });
+        assert!(run.jd1.iter().chain(&run.jd2).all(|part| *part == FILL) && run.numbers.iter().all(|byte| *byte == 99));
+        number(run.code)
+    };
+    assert_eq!(refused(26, 0, 0, 0), 14);
+    assert_eq!(refused(27, 2, 0, 0), 12);
+    assert_eq!(refused(54, 2, 1, 2), 11);
+    assert_eq!(refused(54, 2, 2, 1), 11);
 }
 
 #[test]

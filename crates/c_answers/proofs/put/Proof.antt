@@ -5,16 +5,13 @@ use borrow.Author.Rules.{rules}
 use Rattle.c_answers.proofs.put.Statement.{statement}
 use Rattle.c_answers.proofs.put.Tie as tie
 
-returns : tie.Need-returns
-returns c = too_short c.before.before.before.before.args.all.now c.before.before.before.before.args.out.now _ c.before.if1.true
-    (code-back c.refused.type-inv ∙ c.refused.ensures)
+returns : tie.Need-returns-then-out-all
+returns c = too_short c.args.all.now c.args.out.now _ c.if-out-all.true
+    (code-back c.refused.type_inv ∙ c.refused.ensures)
 
-returns-2 : tie.Need-returns-2
+returns-2 : tie.Need-returns
 returns-2 c =
-    let p = c.before.before in
-    let i = p.before.before in
-    let s = i.before.before.before in
-    copied s.args.all.now s.args.out.now _ _ p.copy.ensures.0 s.requires p.copy.ensures.1 i.if1.false
+    copied c.args.all.now c.args.out.now _ _ c.copy.ensures.0 c.requires c.copy.ensures.1 c.if-out-all.false
 
 pub put_spec : {M : Type 1} → statement M
 put_spec =

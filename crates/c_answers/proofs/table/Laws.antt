@@ -9,8 +9,8 @@ use lib.Dec.{eqb, leb}
 use lib.ListN.{length, get_or, replicate}
 use borrow.Author.Tests.{eq-eqb, eqb-true}
 use Rattle.refusals.specs.Outcome.{Outcome, answer, refusal, onward}
-use Rattle.numerals.specs.little_endian.LittleEndian.{four_at, u32_at, signed32, i32_at}
-use Rattle.leap_table.specs.rows.Table.{Row, row, fixed}
+use Rattle.numerals.specs.little_endian.LittleEndian.{four_at, u32_at, four_bytes, signed32, i32_at}
+use Rattle.leap_table.specs.rows.Table.{Row, fixed, last_month, last_seconds}
 use Rattle.leap_table.specs.rows.Announced.{least, rows_to, announced_size, table_of, Decision, sizes, order, step, taken, unless_refused}
 use Rattle.leap_table.proofs.rows.Tables.{least-right}
 use Rattle.leap_table.proofs.rows.TableLaws.{table-decided}
@@ -92,7 +92,8 @@ module _ (s s' : List ℕ) (same_length : length s ≡ length s') where
           (same_number 0 (λ i l. ap (λ (n : ℕ). get_or s n 0) (zeroth i) ∙ h i (omega arith) ∙ ap (λ (n : ℕ). get_or s' n 0) (sym (zeroth i))))
           (same_number 4 (λ i l. h (4 + i) (omega arith)))
           (λ i l. place_of s 8 16 i (omega (arith, least-right (u32_at s 0) 16)) ∙ read 8 i (λ j k. (g (4 * i + j) (within (least (u32_at s 0) 16) i j l k)).0))
-          (λ i l. place_of s 72 16 i (omega (arith, least-right (u32_at s 0) 16)) ∙ read 72 i (λ j k. (g (4 * i + j) (within (least (u32_at s 0) 16) i j l k)).1))
+          (λ i l. place_of s 72 16 i (omega (arith, least-right (u32_at s 0) 16)) ∙ read 72 i
+          (λ j k. (g (4 * i + j) (within (least (u32_at s 0) 16) i j l k)).1))
         where
           zeroth : (i : ℕ) → 0 + i ≡ i
           zeroth i = omega arith
@@ -106,26 +107,30 @@ pub no_rows_bytes : table_bytes (replicate 136 0) ≡ answer fixed
 unfolding u32_at four_at
 no_rows_bytes = lends_none (replicate 136 0) refl refl refl
 
--- ---- closed cases: a row of January 2027 with 38 s; its month start read with a sign; its seconds; the length before the sizes
-abbrev pub row_bytes : ℕ → ℕ → ℕ → ℕ → ℕ → List ℕ
-row_bytes size a b c seconds = 1 ∷ 0 ∷ 0 ∷ 0 ∷ size ∷ 0 ∷ 0 ∷ 0 ∷ a ∷ b ∷ c ∷ c ∷ (replicate 60 0 ++ (seconds ∷ 0 ∷ 0 ∷ 0 ∷ replicate 60 0))
+-- ---- closed cases: a row ten years after the last fixed one, with a second more; its month start read with a sign; its seconds; the length before the sizes
+abbrev pub row_bytes : ℕ → ℕ → ℕ → List ℕ
+row_bytes size month seconds = four_bytes 1 ++ (four_bytes size ++ (four_bytes month ++ (replicate 60 0 ++ (four_bytes seconds ++ replicate 60 0))))
 
-pub one-row : table_bytes (row_bytes 1 0x04 0x5f 0 38) ≡ answer (fixed ++ (row 2027 1 380000000 0 0 ∷ []))
+abbrev ten_years : ℕ
+ten_years = last_month + 120
+
+pub one-row : table_bytes (row_bytes 1 ten_years (last_seconds + 1))
+    ≡ answer (fixed ++ (record { month = ten_years; units = 10000000 * (last_seconds + 1); start = 0; rate = 0 } ∷ []))
 unfolding table_bytes of_length table_of announced_size rows_to fixed signed_from signed32 u32_at four_at
 one-row = refl
 
-pub month-below-zero : table_bytes (row_bytes 1 0xff 0xff 0xff 38) ≡ refusal 21
+pub month-below-zero : table_bytes (row_bytes 1 0xffff_ffff (last_seconds + 1)) ≡ refusal 21
 unfolding table_bytes of_length table_of announced_size rows_to fixed signed_from signed32 u32_at four_at
 month-below-zero = refl
 
-pub two-seconds : table_bytes (row_bytes 1 0x04 0x5f 0 39) ≡ refusal 22
+pub two-seconds : table_bytes (row_bytes 1 ten_years (last_seconds + 2)) ≡ refusal 22
 unfolding table_bytes of_length table_of announced_size rows_to fixed signed_from signed32 u32_at four_at
 two-seconds = refl
 
-pub unequal_sizes : table_bytes (row_bytes 2 0x04 0x5f 0 38) ≡ refusal 20
+pub unequal_sizes : table_bytes (row_bytes 2 ten_years (last_seconds + 1)) ≡ refusal 20
 unfolding table_bytes of_length table_of announced_size rows_to fixed signed_from signed32 u32_at four_at
 unequal_sizes = refl
 
-pub one-byte-more : table_bytes (row_bytes 2 0x04 0x5f 0 38 ++ (0 ∷ [])) ≡ refusal 14
+pub one-byte-more : table_bytes (row_bytes 2 ten_years (last_seconds + 1) ++ (0 ∷ [])) ≡ refusal 14
 unfolding table_bytes of_length
 one-byte-more = refl

@@ -1,5 +1,5 @@
 -- What is written is read back: a record from its 136 bytes. Assumes nothing.
-use Prim.Native.Nat.{ℕ, zero, suc, ◌+◌, ◌-◌, ◌*◌, ◌/◌, ◌%◌, ◌<◌}
+use Prim.Native.Nat.{ℕ, zero, suc, ◌+◌, ◌*◌, ◌/◌, ◌%◌, ◌<◌}
 use native.Mathlib.Omega.{arith}
 use native.Mathlib.Nat.{not-suc-le-zero, div-div-eq-div-mul}
 use mathlib.Core.Path.{◌≡◌, refl, sym, ap, subst, ◌∙◌}
@@ -43,7 +43,8 @@ unfolding four_at
 later-four n rest at at' e =
     let p : (j : ℕ) → get_or (four_bytes n ++ rest) (at + j) 0 ≡ get_or rest (at' + j) 0
     = λ j. ap (λ (m : ℕ). get_or (four_bytes n ++ rest) m 0) (moved at at' j e) ∙ get_or-append-add (four_bytes n) rest (at' + j) 0 in
-    let q : get_or (four_bytes n ++ rest) at 0 ≡ get_or rest at' 0 = ap (λ (m : ℕ). get_or (four_bytes n ++ rest) m 0) e ∙ get_or-append-add (four_bytes n) rest at' 0 in
+    let q : get_or (four_bytes n ++ rest) at 0 ≡ get_or rest at' 0 = ap (λ (m : ℕ). get_or (four_bytes n ++ rest) m 0) e ∙ get_or-append-add
+    (four_bytes n) rest at' 0 in
     λ i. q i + 256 * p 1 i + 65536 * p 2 i + 16777216 * p 3 i
   where
     moved : (a b j : ℕ) → a ≡ 4 + b → a + j ≡ 4 + (b + j)
@@ -71,7 +72,7 @@ unfolding u32_at
 in_place l k at e h f = simp (le-leb (at + 4) (length (in_fours l)) (omega (arith, fours_length l))) (ap (four_at (in_fours l)) e ∙ number-at l k h f)
 
 -- ---- the patterns of an array
-at_map : (l : List ℤ) (i : ℕ) → i < length l → get_or (map pattern32 l) i 0 ≡ pattern32 (get_or l i (pos 0))
+pub at_map : (l : List ℤ) (i : ℕ) → i < length l → get_or (map pattern32 l) i 0 ≡ pattern32 (get_or l i (pos 0))
 at_map [] i h = absurd (not-suc-le-zero h)
 at_map (z ∷ l) zero h = refl
 at_map (z ∷ l) (suc i) h = at_map l i (omega arith)

@@ -11,7 +11,7 @@ use lib.ListN.{length, get_or, set, length-set}
 use lib.Seq.{get_or-set_same, get_or-set_other}
 use borrow.Author.Count.{below_more}
 use borrow.Author.Tests.{eq-eqb, ne_eqb, eqb-true, leb-true, leb-false}
-use Rattle.refusals.specs.Outcome.{Outcome, answer}
+use Rattle.refusals.specs.Outcome.{Outcome, answer, refusal}
 use Rattle.numerals.specs.little_endian.LittleEndian.{u32_at, i32_at}
 use Rattle.leap_table.specs.declared.rows.AnnouncedRows.{AnnouncedRows}
 use Rattle.leap_table.specs.rows.Table.{Row, fixed}
@@ -19,7 +19,7 @@ use Rattle.leap_table.specs.rows.Announced.{least, announced_size, rows_of, rows
 use Rattle.leap_table.proofs.rows.Tables.{least-right}
 use Rattle.leap_table.proofs.rows.TableLaws.{spare-unread}
 use Rattle.leap_table.proofs.rows.ByParts.{least-low, rows_in_lem}
-use Rattle.leap_table.proofs.rows.TablesTaken.{table_none, none_rows, when_taken}
+use Rattle.leap_table.proofs.rows.TablesTaken.{sizes-differ, sizes-large, table_none, none_rows, when_taken}
 use Rattle.c_answers.specs.table.TableBytes.{signed_from, record_in, of_length, table_bytes, size_in, ReadFrom}
 
 -- ---- the numbers of an array by their places
@@ -139,6 +139,18 @@ arrays_of_bytes s m l p q = ap (of_length (length s)) (same-table s (announced_t
 pub read-14 : (s : List ℕ) (rows : List Row) → (length s ≡ 136 → ⊥) → unless_refused 14 rows ≡ table_bytes s
 unfolding table_bytes of_length
 read-14 s rows h = rw (ne_eqb (length s) 136 h)
+
+-- sizes that differ, and sizes above 16, are refused whatever the rows are
+module _ (s : List ℕ) (a b : ℕ) (rows : List Row) (p : a ≡ u32_at s 0) (q : b ≡ u32_at s 4) (h : length s ≡ 136) where
+  by-sizes : refusal 20 ≡ table_of (record_in s) → unless_refused 20 rows ≡ table_bytes s
+  unfolding table_bytes
+  by-sizes e = e ∙ of_length_136 (length s) (table_of (record_in s)) h
+
+  pub read-two-sizes : (a ≡ b → ⊥) → unless_refused 20 rows ≡ table_bytes s
+  read-two-sizes e = by-sizes (sizes-differ (record_in s) (λ g. e (p ∙ g ∙ sym q)))
+
+  pub read-large : a ≡ b → 16 < a → unless_refused 20 rows ≡ table_bytes s
+  read-large e g = by-sizes (sizes-large (record_in s) (sym p ∙ e ∙ q) (subst (λ (k : ℕ). 16 < k) p g))
 
 module _ (s : List ℕ) (a b : ℕ) (m l : List ℤ) (p : a ≡ u32_at s 0) (q : b ≡ u32_at s 4) (h : length s ≡ 136) where
   pub read-judged : (size number : ℕ) → size ≡ least a 16 → ((i : ℕ) → i < size → get_or m i (pos 0) ≡ i32_at s (8 + 4 * i))

@@ -20,5 +20,5 @@ fits c = record { sfits = lowered c.args.n 2432076 (2 ^ 63) (omega (arith, c.req
 returns : tie.Need-returns
 returns c = to_z-of_z (subst (λ (z : ℤ). SFits w64 z) (sym (diff c)) (fits c)) ∙ diff c
 
-pub count-to-mjd-spec : {M : Type 1} → statement M
-count-to-mjd-spec = tie.close (tie.spec (λ c. search rules) (λ c. subst (λ (z : ℤ). SFits w64 z) (sym (diff c)) (fits c)) returns)
+pub count_to_mjd_spec : {M : Type 1} → statement M
+count_to_mjd_spec = tie.close (tie.spec (λ c. search rules) (λ c. subst (λ (z : ℤ). SFits w64 z) (sym (diff c)) (fits c)) returns)

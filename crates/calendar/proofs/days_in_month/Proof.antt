@@ -10,22 +10,22 @@ use Rattle.calendar.proofs.Accepted.{month-days, below_one}
 use Rattle.calendar.proofs.days_in_month.Statement.{statement}
 use Rattle.calendar.proofs.days_in_month.Tie as tie
 
-returns : tie.Need-returns
+returns : tie.Need-returns-then-month-lt1
 returns c =
     let s = c.before in
-    below_one s.args.year s.args.month (lt_left s.args.month _ true s.ranges.month c.if1.true)
+    below_one s.args.year s.args.month (lt_left s.args.month _ true s.ranges.month c.if-month-lt1.true)
 
-cast-month-length : tie.Need-overflow-cast-month-length
+cast-month-length : tie.Need-overflow_cast-month
 cast-month-length c =
     let s = c.before in
-    to-unsigned s.args.month s.ranges.month (lt_left s.args.month _ false s.ranges.month c.if1.false)
+    to-unsigned s.args.month s.ranges.month (lt_left s.args.month _ false s.ranges.month c.if-month-lt1.false)
 
-returns-2 : tie.Need-returns-2
+returns-2 : tie.Need-returns
 returns-2 c =
     let s = c.before.before in
-    c.month-length.ensures
+    c.month_length.ensures
     ∙ (λ i. month_length (to_z-of_z s.ranges.year i) (nat_abs (to_z-of_z s.ranges.month i)))
-    ∙ sym (month-days s.args.year s.args.month (lt_left s.args.month _ false s.ranges.month c.before.if1.false))
+    ∙ sym (month-days s.args.year s.args.month (lt_left s.args.month _ false s.ranges.month c.before.if-month-lt1.false))
 
-pub days-in-month-spec : {M : Type 1} → statement M
-days-in-month-spec = tie.close (tie.spec returns cast-month-length (λ c κs. search rules) returns-2)
+pub days_in_month_spec : {M : Type 1} → statement M
+days_in_month_spec = tie.close (tie.spec returns cast-month-length (λ c κs. search rules) returns-2)

@@ -14,10 +14,10 @@ use Rattle.calendar.proofs.Signs.{quot_fits, rem_zero}
 use Rattle.calendar.proofs.is_leap_year.Statement.{statement}
 use Rattle.calendar.proofs.is_leap_year.Tie as tie
 
-rem-if2 : tie.Need-nonzero-rem-if2
+rem-if2 : tie.Need-nonzero_rem-year-then-year-eq0
 rem-if2 c = (omega arith, quot_fits c.before.args.year 100 c.before.ranges.year)
 
-rem-result : tie.Need-nonzero-rem-result
+rem-result : tie.Need-nonzero_rem-result
 rem-result c = (omega arith, quot_fits c.before.before.args.year 400 c.before.before.ranges.year)
 
 abbrev Zero : ℤ → ℕ → Bool
@@ -56,18 +56,18 @@ module _ (z : ℤ) (f : SFits w32 z) where
   unfolding leap_size
   not-four p = rem_zero z 4 f ∙ other _ _ (eqb (nat_abs z % 100) 0) (four (nat_abs z) (is 4 p)) (is 4 p)
 
-returns : tie.Need-returns
+returns : tie.Need-returns-then-year-ne0
 returns c =
-    yes-common c.before.before.args.year c.before.before.ranges.year (eq-eqb _ 0 c.before.if1.true)
-    (ne_eqb _ 0 c.if2.true)
+    yes-common c.before.before.args.year c.before.before.ranges.year (eq-eqb _ 0 c.before.if-year-eq0.true)
+    (ne_eqb _ 0 c.if-year-ne0.true)
 
-returns-2 : tie.Need-returns-2
+returns-2 : tie.Need-returns-else-year-ne0
 returns-2 c =
-    at-century c.before.before.args.year c.before.before.ranges.year (eq-eqb _ 0 c.before.if1.true)
-    (eq-eqb _ 0 c.if2.false)
+    at-century c.before.before.args.year c.before.before.ranges.year (eq-eqb _ 0 c.before.if-year-eq0.true)
+    (eq-eqb _ 0 c.if-year-ne0.false)
 
-returns-3 : tie.Need-returns-3
-returns-3 c = not-four c.before.args.year c.before.ranges.year (ne_eqb _ 0 c.if1.false)
+returns-3 : tie.Need-returns-else-year-eq0
+returns-3 c = not-four c.before.args.year c.before.ranges.year (ne_eqb _ 0 c.if-year-eq0.false)
 
-pub is-leap-year-spec : {M : Type 1} → statement M
-is-leap-year-spec = tie.close (tie.spec (λ c. (omega arith, quot_fits c.args.year 4 c.ranges.year)) rem-if2 rem-result returns returns-2 returns-3)
+pub is_leap_year_spec : {M : Type 1} → statement M
+is_leap_year_spec = tie.close (tie.spec (λ c. (omega arith, quot_fits c.args.year 4 c.ranges.year)) rem-if2 rem-result returns returns-2 returns-3)

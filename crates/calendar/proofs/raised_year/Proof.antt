@@ -17,18 +17,18 @@ small : (c : tie.Start) → (up c).r < 2 ^ 63
 small c = omega (arith, (up c).high)
 
 same : (c : tie.Start) → to_z w64 (of_z w64 (to_z w32 (of_z w32 c.args.year))) ≡ c.args.year
-same c = ap (λ (z : ℤ). to_z w64 (of_z w64 z)) (to_z-of_z c.ranges.year) ∙ to_z-of_z (sfits_widen tt c.ranges.year)
+same c = ap (λ (z : ℤ). to_z w64 (of_z w64 z)) (to_z-of_z {w = w32} c.ranges.year) ∙ to_z-of_z {w = w64} (sfits_widen {w = w32} {w' = w64} tt c.ranges.year)
 
 is : (c : tie.Start) → to_z w64 (of_z w64 (to_z w64 (of_z w64 (to_z w32 (of_z w32 c.args.year))) +ℤ pos 4800)) ≡ pos (up c).r
 is c = sum_is _ c.args.year 4800 (up c).r (same c) (up c).is (small c)
 
-cast-result : tie.Need-overflow-cast-result
+cast-result : tie.Need-overflow_cast-result
 cast-result c = subst (λ (z : ℤ). SFits w64 z) (sym (to_z-of_z c.ranges.year)) (sfits_widen tt c.ranges.year)
 
-add-result : tie.Need-overflow-add-result
+add-result : tie.Need-overflow_add-result
 add-result c = sum_fits _ c.args.year 4800 (up c).r (same c) (up c).is (small c)
 
-cast-result-2 : tie.Need-overflow-cast-result-2
+cast-result-2 : tie.Need-overflow_cast-result-2
 cast-result-2 c = cast_fits _ (up c).r (is c) (record { fits = omega (arith, (up c).high) })
 
 returns : tie.Need-returns
@@ -36,5 +36,5 @@ returns c =
     subst (λ (q : ℤ). (pos (nat_abs q) ≡ c.args.year +ℤ pos 4800) × (1 ≤ nat_abs q) × (nat_abs q < 4294967296)) (sym (is c))
     (sym (up c).is, omega (arith, (up c).low), omega (arith, (up c).high))
 
-pub raised-year-spec : {M : Type 1} → statement M
-raised-year-spec = tie.close (tie.spec cast-result add-result cast-result-2 returns)
+pub raised_year_spec : {M : Type 1} → statement M
+raised_year_spec = tie.close (tie.spec cast-result add-result cast-result-2 returns)

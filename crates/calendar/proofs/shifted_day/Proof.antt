@@ -19,10 +19,10 @@ small c = omega (arith, (up c).high)
 is : (c : tie.Start) → to_z w64 (of_z w64 (to_z w64 (of_z w64 c.args.jd) +ℤ pos 68569)) ≡ pos (up c).r
 is c = sum_is _ c.args.jd 68569 (up c).r (to_z-of_z c.ranges.jd) (up c).is (small c)
 
-add-result : tie.Need-overflow-add-result
+add-result : tie.Need-overflow_add-result
 add-result c = sum_fits _ c.args.jd 68569 (up c).r (to_z-of_z c.ranges.jd) (up c).is (small c)
 
-cast-result : tie.Need-overflow-cast-result
+cast-result : tie.Need-overflow_cast-result
 cast-result c = cast_fits _ (up c).r (is c) (record { fits = omega (arith, (up c).high) })
 
 returns : tie.Need-returns
@@ -30,5 +30,5 @@ returns c =
     subst (λ (q : ℤ). (pos (nat_abs q) ≡ c.args.jd +ℤ pos 68569) × (nat_abs q ≤ 1000068569)) (sym (is c))
     (sym (up c).is, omega (arith, (up c).high))
 
-pub shifted-day-spec : {M : Type 1} → statement M
-shifted-day-spec = tie.close (tie.spec add-result cast-result returns)
+pub shifted_day_spec : {M : Type 1} → statement M
+shifted_day_spec = tie.close (tie.spec add-result cast-result returns)

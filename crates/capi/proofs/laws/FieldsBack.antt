@@ -1,7 +1,7 @@
--- A week, a text that was read and a bill are read back from their bytes, each field at its offset and under its name; what is asked of a field is that it has
--- its type's width. Assumes nothing.
-use Prim.Native.Nat.{ℕ, ◌<◌}
-use mathlib.Core.Path.{◌≡◌}
+-- A week, a text that was read, a bill and a run's size are read back from their bytes, each field at its offset and under its name; what is asked of a field
+-- is that it has its type's width. Assumes nothing.
+use Prim.Native.Nat.{◌<◌}
+use mathlib.Core.Bool.{true}
 use lib.Dec.{T}
 use lib.Ieee.{binary64, fits}
 use mir.Syntax.{w32}
@@ -12,12 +12,15 @@ use Rattle.scales.specs.declared.gps_weeks.WeekTime.{WeekTime}
 use Rattle.parsing.specs.declared.ParsedDateTime.{ParsedDateTime}
 use Rattle.parsing.specs.declared.ParsedUtc.{ParsedUtc}
 use Rattle.standby.specs.declared.Bill.{Bill}
+use Rattle.line_listing.specs.declared.taken.RunSize.{RunSize}
 use Rattle.c_answers.specs.Fields.{julian_bytes}
 use Rattle.c_answers.proofs.FieldsBack.{float_back, year-back}
 use Rattle.capi.specs.WeekBytes.{week_bytes}
 use Rattle.capi.specs.ReaderFields.{parsed_bytes, parsed_utc_bytes}
 use Rattle.capi.specs.BillBytes.{bill_bytes}
-use Rattle.capi.specs.laws.FieldsBack.{WeekBack, ReaderBack, UtcReaderBack, BillBack}
+use Rattle.capi.specs.RunSizeDelivery.{size_bytes}
+use Rattle.capi.specs.SummaryDelivery.{run_record}
+use Rattle.capi.specs.laws.FieldsBack.{WeekBack, ReaderBack, UtcReaderBack, BillBack, SizeBack}
 
 pub week-back : (t : WeekTime) → t.week < 4294967296 → t.millis < 4294967296 → WeekBack t (week_bytes t)
 unfolding week_bytes u32_at four_at
@@ -26,6 +29,13 @@ week-back t h k = record { week = read-written-4 t.week h; millis = read-written
 pub bill-back : (b : Bill) → b.quarters < 18446744073709551616 → b.first < 18446744073709551616 → b.second < 18446744073709551616 → BillBack b (bill_bytes b)
 unfolding bill_bytes u64_at four_at
 bill-back b h k l = record { quarters = read-written b.quarters h; first = read-written b.first k; second = read-written b.second l }
+
+pub size_back : (z : RunSize) → z.stamps < 18446744073709551616 → z.blocks < 18446744073709551616 → z.refused < 4294967296 → SizeBack z (size_bytes z)
+unfolding size_bytes run_record u64_at u32_at four_at
+size_back z h k l = record {
+  stamps = read-written z.stamps h;
+  run = λ i. record { named = true; block = read-written z.blocks k i; refused = read-written-4 z.refused l i };
+}
 
 -- a text's fields by their types' widths
 pub record OfWidth (p : ParsedDateTime) : Type 0 where

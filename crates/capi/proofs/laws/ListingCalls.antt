@@ -35,7 +35,8 @@ use Rattle.capi.specs.ListingPart.{listing_part, first_listing, second_listing}
 use Rattle.capi.specs.laws.ListingCalls.{Listed, begun, next}
 
 -- ---- what one call delivers to a buffer that holds a line
-module _ (how : Reporting) (rows : List Row) (s : List ℕ) (line : ℕ) (w : InWidth how s) {before after : List ℕ} {r : ℤ} (enough : line_room how ≤ length before)
+module _ (how : Reporting) (rows : List Row) (s : List ℕ) (line : ℕ) (w : InWidth how s) {before after : List ℕ} {r : ℤ}
+    (enough : line_room how ≤ length before)
     (d : Delivered (listing_part how rows s line (length before)) before r after) where
   -- the number of the part's bytes: never a refusal
   pub returns_count : r ≡ pos (length (part_text how rows s line (length before)))
@@ -92,7 +93,8 @@ unfolding lines_from
 some-by how rows s line zero h = omega arith
 some-by how rows s line (suc k) h = omega arith
 
-some-lines : (how : Reporting) (rows : List Row) (s : List ℕ) (line room : ℕ) → 0 < length (part_text how rows s line room) → 1 ≤ part_lines how rows s line room
+some-lines : (how : Reporting) (rows : List Row) (s : List ℕ) (line room : ℕ) → 0 < length (part_text how rows s line room)
+    → 1 ≤ part_lines how rows s line room
 unfolding part_text
 some-lines how rows s line room h = some-by how rows s line (part_lines how rows s line room) h
 

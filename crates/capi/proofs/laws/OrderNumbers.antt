@@ -20,7 +20,8 @@ number_of : (P N Q M : ℕ) → ByExactSums P N Q M (order_number (order_of (P +
 unfolding order_of order_number
 number_of P N Q M = go (ltb (P + M) (Q + N)) (ltb (Q + N) (P + M)) refl refl
   where
-    go : (x y : Bool) → ltb (P + M) (Q + N) ≡ x → ltb (Q + N) (P + M) ≡ y → ByExactSums P N Q M (order_number (cond x comes_before (cond y comes_after same_sum)))
+    go : (x y : Bool) → ltb (P + M) (Q + N) ≡ x → ltb (Q + N) (P + M) ≡ y → ByExactSums P N Q M
+        (order_number (cond x comes_before (cond y comes_after same_sum)))
     go true y e f = smaller (ltb-true (P + M) (Q + N) e)
     go false true e f = greater (ltb-true (Q + N) (P + M) f)
     go false false e f = level (omega (arith, ltb-false (P + M) (Q + N) e, ltb-false (Q + N) (P + M) f))

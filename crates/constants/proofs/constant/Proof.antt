@@ -9,14 +9,15 @@ use Rattle.constants.specs.Constants.{ratio, tcg_rate_ratio, tcb_rate_ratio, in_
 use Rattle.constants.proofs.constant.Statement.{statement}
 use Rattle.constants.proofs.constant.Tie as tie
 
-returns : tie.Need-returns
-unfolding in_order seconds_per_day nanoseconds_per_second days_per_julian_year mjd_zero_point j2000_jd unix_epoch_jd gps_to_tai_offset_seconds tt_tai_offset tcg_rate_lg tcb_rate_lb
+returns : tie.Need-returns-then-i-lt15
+unfolding in_order seconds_per_day nanoseconds_per_second days_per_julian_year mjd_zero_point j2000_jd unix_epoch_jd gps_to_tai_offset_seconds tt_tai_offset
+    tcg_rate_lg tcb_rate_lb
     tdb_offset1977 mjd1977_jan1 tcg_reference_epoch ratio tcg_rate_ratio tcb_rate_ratio of_bits round neg add sub div
 returns c = refl
 
-returns-2 : tie.Need-returns-2
+returns-2 : tie.Need-returns-else-i-lt15
 unfolding in_order div of_bits
-returns-2 c = sym (get_or-eq_default in_order nan c.if1.false)
+returns-2 c = sym (get_or-eq_default in_order nan c.if-i-lt15.false)
 
-pub constant-spec : {M : Type 1} → statement M
-constant-spec = tie.close (tie.spec (λ c. search rules) (λ c. search rules) returns returns-2)
+pub constant_spec : {M : Type 1} → statement M
+constant_spec = tie.close (tie.spec (λ c. search rules) (λ c. search rules) returns returns-2)

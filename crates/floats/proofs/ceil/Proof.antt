@@ -5,5 +5,5 @@ use Rattle.floats.proofs.Below.{turned}
 use Rattle.floats.proofs.ceil.Statement.{statement}
 use Rattle.floats.proofs.ceil.Tie as tie
 
-pub ceil-spec : {M : Type 1} → statement M
-ceil-spec = tie.close (tie.spec (λ c κs. search rules) (λ c. ap neg c.floor.ensures ∙ turned c.before.args.x))
+pub ceil_spec : {M : Type 1} → statement M
+ceil_spec = tie.close (tie.spec (λ c κs. search rules) (λ c. ap neg c.floor.ensures ∙ turned c.before.args.x))

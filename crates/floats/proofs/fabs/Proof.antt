@@ -54,15 +54,15 @@ abs-no-nan nan h = h
 abs-no-nan (inf s) h = tt
 abs-no-nan (fin s m e) h = tt
 
-returns : tie.Need-returns
-returns c = nan_stays c.before.args.x (differs_from_itself c.before.args.x (yes c.if1.true))
+returns : tie.Need-returns-then-x
+returns c = nan_stays c.before.args.x (differs_from_itself c.before.args.x (yes c.if-x.true))
 
-float-from-bits-result : tie.Need-float-from-bits-result
+float-from-bits-result : tie.Need-float_from_bits-result
 float-from-bits-result c =
     let x = c.before.args.x in
     subst (λ (z : Bool). T (not z)) (sym (nan_bits_is binary64 (bit_and (to_bits binary64 x) (2 ^ 63 - 1))))
-    (subst (λ (v : Float). T (not (is_nan v))) (sym (is x (yes c.before.well_formed.0.1))) (abs-no-nan x (equals_itself x c.if1.false)))
+    (subst (λ (v : Float). T (not (is_nan v))) (sym (is x (yes c.before.well_formed.0.1))) (abs-no-nan x (equals_itself x c.if-x.false)))
 
-pub fabs-spec : {M : Type 1} → statement M
-fabs-spec = tie.close (tie.spec returns (λ c. equals_itself c.before.args.x c.if1.false) float-from-bits-result
+pub fabs_spec : {M : Type 1} → statement M
+fabs_spec = tie.close (tie.spec returns (λ c. equals_itself c.before.args.x c.if-x.false) float-from-bits-result
     (λ c. is c.before.args.x (yes c.before.well_formed.0.1)))

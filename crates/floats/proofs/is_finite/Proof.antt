@@ -8,5 +8,5 @@ returns : tie.Need-returns
 unfolding of_bits
 returns c = less-itself c.args.x
 
-pub is-finite-spec : {M : Type 1} → statement M
-is-finite-spec = tie.close (tie.spec returns)
+pub is_finite_spec : {M : Type 1} → statement M
+is_finite_spec = tie.close (tie.spec returns)

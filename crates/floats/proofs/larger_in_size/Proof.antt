@@ -9,8 +9,8 @@ use Rattle.floats.proofs.larger_in_size.Tie as tie
 returns : tie.Need-returns
 returns c =
     let s = c.before.before.args in
-    ap (λ (v : Float). lt v c.before.size_of.result) c.size-of2.ensures ∙ ap (λ (v : Float). lt (size s.y) v) c.before.size_of.ensures
+    ap (λ (v : Float). lt v c.before.size_of.result) c.size_of-2.ensures ∙ ap (λ (v : Float). lt (size s.y) v) c.before.size_of.ensures
     ∙ larger-in-size s.x s.y
 
-pub larger-in-size-spec : {M : Type 1} → statement M
-larger-in-size-spec = tie.close (tie.spec (λ c κs. search rules) (λ c κs. search rules) returns)
+pub larger_in_size_spec : {M : Type 1} → statement M
+larger_in_size_spec = tie.close (tie.spec (λ c κs. search rules) (λ c κs. search rules) returns)

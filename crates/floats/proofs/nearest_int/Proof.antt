@@ -11,26 +11,26 @@ first p q a b c h = sym (ap (λ (t : Bool). cond t a (cond q b c)) h)
 other : (p q r : Bool) (a b c : Float) → p ≡ false → q ≡ r → cond r b c ≡ cond p a (cond q b c)
 other p q r a b c h k = sym (ap (λ (t : Bool). cond t a (cond q b c)) h ∙ ap (λ (t : Bool). cond t b c) k)
 
-returns : tie.Need-returns
+returns : tie.Need-returns-then-fabs
 unfolding of_bits nearest_int
 returns c =
     let a = c.before.before.args.a in
     first (lt (abs a) half) (lt a nought) nought (to_whole upward (sub binary64 a half)) (to_whole downward (add binary64 a half))
-    (ap (λ (v : Float). lt v half) (sym c.before.fabs.ensures) ∙ c.if1.true)
+    (ap (λ (v : Float). lt v half) (sym c.before.fabs.ensures) ∙ c.if-fabs.true)
 
-returns-2 : tie.Need-returns-2
+returns-2 : tie.Need-returns-then-a
 unfolding of_bits nearest_int
 returns-2 c =
     let b = c.before in
     let e = b.before in
-    c.ceil.ensures ∙ other _ _ true _ _ _ (ap (λ (v : Float). lt v half) (sym e.before.fabs.ensures) ∙ e.if1.false) b.if2.true
+    c.ceil.ensures ∙ other _ _ true _ _ _ (ap (λ (v : Float). lt v half) (sym e.before.fabs.ensures) ∙ e.if-fabs.false) b.if-a.true
 
-returns-3 : tie.Need-returns-3
+returns-3 : tie.Need-returns-else-a
 unfolding of_bits nearest_int
 returns-3 c =
     let b = c.before in
     let e = b.before in
-    c.floor.ensures ∙ other _ _ false _ _ _ (ap (λ (v : Float). lt v half) (sym e.before.fabs.ensures) ∙ e.if1.false) b.if2.false
+    c.floor.ensures ∙ other _ _ false _ _ _ (ap (λ (v : Float). lt v half) (sym e.before.fabs.ensures) ∙ e.if-fabs.false) b.if-a.false
 
-pub nearest-int-spec : {M : Type 1} → statement M
-nearest-int-spec = tie.close (tie.spec (λ c κs. search rules) (λ c κs. search rules) (λ c κs. search rules) returns returns-2 returns-3)
+pub nearest_int_spec : {M : Type 1} → statement M
+nearest_int_spec = tie.close (tie.spec (λ c κs. search rules) (λ c κs. search rules) (λ c κs. search rules) returns returns-2 returns-3)

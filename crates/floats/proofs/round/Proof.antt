@@ -16,59 +16,59 @@ x c = c.args.x
 held : (c : tie.Start) → T (fits binary64 (x c))
 held c = yes c.well_formed.0.1
 
-number : (c : tie.Else1) → T (not (is_nan (x c.before)))
-number c = equals_itself (x c.before) c.if1.false
+number : (c : tie.Else-x) → T (not (is_nan (x c.before)))
+number c = equals_itself (x c.before) c.if-x.false
 
-returns : tie.Need-returns
-returns c = nan_stays away (x c.before) (differs_from_itself (x c.before) (yes c.if1.true))
+returns : tie.Need-returns-then-x
+returns c = nan_stays away (x c.before) (differs_from_itself (x c.before) (yes c.if-x.true))
 
-float-from-bits-result : tie.Need-float-from-bits-result
+float-from-bits-result : tie.Need-float_from_bits-result
 float-from-bits-result c =
     let n = c.before.before in
     low-no-nan (x n.before) (held n.before) (number n)
 
-add-result : tie.Need-overflow-add-result
+add-result : tie.Need-overflow_add-result
 add-result c =
     let n = c.before.before.before in
     record {
-      fits = sum_lt (x n.before) (held n.before) (number n) c.if4.false c.before.before.if2.false _
-          (unit_half_lt _ c.if4.false c.before.before.if2.false);
+      fits = sum_lt (x n.before) (held n.before) (number n) c.if-e-lt-ONE.false c.before.before.if-e-ge-ALL_WHOLE.false _
+          (unit_half_lt _ c.if-e-lt-ONE.false c.before.before.if-e-ge-ALL_WHOLE.false);
     }
 
-float-from-bits-result-2 : tie.Need-float-from-bits-result-2
+float-from-bits-result-2 : tie.Need-float_from_bits-result-else-e-lt-ONE
 float-from-bits-result-2 c =
     let n = c.before.before.before in
-    mid_no_nan (x n.before) (held n.before) (number n) c.if4.false c.before.before.if2.false _
-    (unit_half_lt _ c.if4.false c.before.before.if2.false)
+    mid_no_nan (x n.before) (held n.before) (number n) c.if-e-lt-ONE.false c.before.before.if-e-ge-ALL_WHOLE.false _
+    (unit_half_lt _ c.if-e-lt-ONE.false c.before.before.if-e-ge-ALL_WHOLE.false)
 
-returns-2 : tie.Need-returns-2
+returns-2 : tie.Need-returns-then-e-ge-ALL_WHOLE
 returns-2 c =
     let n = c.before in
-    high (x n.before) (held n.before) (number n) away away-one c.if2.true
+    high (x n.before) (held n.before) (number n) away away-one c.if-e-ge-ALL_WHOLE.true
 
-returns-3 : tie.Need-returns-3
+returns-3 : tie.Need-returns-then-e-lt-HALF
 returns-3 c =
     let n = c.before.before in
-    low (x n.before) (held n.before) (number n) away away-same 1021 (lit≤ tt) under-half c.if3.true
+    low (x n.before) (held n.before) (number n) away away-same 1021 (lit≤ tt) under-half c.if-e-lt-HALF.true
 
-returns-4 : tie.Need-returns-4
+returns-4 : tie.Need-returns-then-b-lt9223372036854775808
 returns-4 c =
     let n = c.before.before.before.before in
-    half_up (x n.before) (held n.before) (number n) c.before.before.if3.false c.before.if4.true c.if5.true
+    half_up (x n.before) (held n.before) (number n) c.before.before.if-e-lt-HALF.false c.before.if-e-lt-ONE.true c.if-b-lt9223372036854775808.true
 
-returns-5 : tie.Need-returns-5
+returns-5 : tie.Need-returns-else-b-lt9223372036854775808
 returns-5 c =
     let n = c.before.before.before.before in
-    half_down (x n.before) (held n.before) (number n) c.before.before.if3.false c.before.if4.true c.if5.false
+    half_down (x n.before) (held n.before) (number n) c.before.before.if-e-lt-HALF.false c.before.if-e-lt-ONE.true c.if-b-lt9223372036854775808.false
 
-returns-6 : tie.Need-returns-6
+returns-6 : tie.Need-returns-else-e-lt-ONE
 returns-6 c =
     let n = c.before.before.before in
-    let lo = c.if4.false in
-    let hi = c.before.before.if2.false in
+    let lo = c.if-e-lt-ONE.false in
+    let hi = c.before.before.if-e-ge-ALL_WHOLE.false in
     mid (x n.before) (held n.before) (number n) lo hi _ (unit_half_lt _ lo hi) away away-same
     (taken-nearer _ lo hi (2 ^ 52 + digits (to_bits binary64 (x n.before))))
 
-pub round-spec : {M : Type 1} → statement M
-round-spec = tie.close (tie.spec returns (λ c. number c) float-from-bits-result (λ c. search rules) (λ c. search rules) (λ c. search rules) add-result
+pub round_spec : {M : Type 1} → statement M
+round_spec = tie.close (tie.spec returns (λ c. number c) float-from-bits-result (λ c. search rules) (λ c. search rules) (λ c. search rules) add-result
     (λ c. search rules) (λ c. search rules) float-from-bits-result-2 returns-2 returns-3 returns-4 returns-5 returns-6)

@@ -5,13 +5,13 @@ use Rattle.floats.specs.Size.{size}
 use Rattle.floats.proofs.size_of.Statement.{statement}
 use Rattle.floats.proofs.size_of.Tie as tie
 
-returns : tie.Need-returns
+returns : tie.Need-returns-then-x-y
 unfolding size
-returns c = let x = c.before.args.x in sym (ap (λ (b : Bool). cond b x (neg x)) c.if1.true)
+returns c = let x = c.before.args.x in sym (ap (λ (b : Bool). cond b x (neg x)) c.if-x-y.true)
 
-returns-2 : tie.Need-returns-2
+returns-2 : tie.Need-returns-else-x-y
 unfolding size
-returns-2 c = let x = c.before.args.x in sym (ap (λ (b : Bool). cond b x (neg x)) c.if1.false)
+returns-2 c = let x = c.before.args.x in sym (ap (λ (b : Bool). cond b x (neg x)) c.if-x-y.false)
 
-pub size-of-spec : {M : Type 1} → statement M
-size-of-spec = tie.close (tie.spec returns returns-2)
+pub size_of_spec : {M : Type 1} → statement M
+size_of_spec = tie.close (tie.spec returns returns-2)

@@ -6,8 +6,8 @@ use Rattle.floats.proofs.Patterns.{nan-bits}
 use Rattle.floats.proofs.to_bits.Statement.{statement}
 use Rattle.floats.proofs.to_bits.Tie as tie
 
-returns : tie.Need-returns
-returns c = nan-bits c.before.args.x (differs_from_itself c.before.args.x (yes c.if1.true))
+returns : tie.Need-returns-then-x
+returns c = nan-bits c.before.args.x (differs_from_itself c.before.args.x (yes c.if-x.true))
 
-pub to-bits-spec : {M : Type 1} → statement M
-to-bits-spec = tie.close (tie.spec returns (λ c. equals_itself c.before.args.x c.if1.false) (λ c. search rules))
+pub to_bits_spec : {M : Type 1} → statement M
+to_bits_spec = tie.close (tie.spec returns (λ c. equals_itself c.before.args.x c.if-x.false) (λ c. search rules))

@@ -34,37 +34,37 @@ x c = c.args.x
 held : (c : tie.Start) → T (fits binary64 (x c))
 held c = yes c.well_formed.0.1
 
-number : (c : tie.Else1) → T (not (is_nan (x c.before)))
-number c = equals_itself (x c.before) c.if1.false
+number : (c : tie.Else-x) → T (not (is_nan (x c.before)))
+number c = equals_itself (x c.before) c.if-x.false
 
-returns : tie.Need-returns
-returns c = nan_stays cut (x c.before) (differs_from_itself (x c.before) (yes c.if1.true))
+returns : tie.Need-returns-then-x
+returns c = nan_stays cut (x c.before) (differs_from_itself (x c.before) (yes c.if-x.true))
 
-float-from-bits-result : tie.Need-float-from-bits-result
+float-from-bits-result : tie.Need-float_from_bits-result
 float-from-bits-result c =
     let n = c.before.before in
     low-no-nan (x n.before) (held n.before) (number n)
 
-float-from-bits-result-2 : tie.Need-float-from-bits-result-2
+float-from-bits-result-2 : tie.Need-float_from_bits-result-else-e-lt-ONE
 float-from-bits-result-2 c =
     let n = c.before.before in
-    middle-no-nan (x n.before) (held n.before) (number n) c.if3.false c.before.if2.false
+    middle-no-nan (x n.before) (held n.before) (number n) c.if-e-lt-ONE.false c.before.if-e-ge-ALL_WHOLE.false
 
-returns-2 : tie.Need-returns-2
+returns-2 : tie.Need-returns-then-e-ge-ALL_WHOLE
 returns-2 c =
     let n = c.before in
-    high (x n.before) (held n.before) (number n) cut cut-one c.if2.true
+    high (x n.before) (held n.before) (number n) cut cut-one c.if-e-ge-ALL_WHOLE.true
 
-returns-3 : tie.Need-returns-3
+returns-3 : tie.Need-returns-then-e-lt-ONE
 returns-3 c =
     let n = c.before.before in
-    low (x n.before) (held n.before) (number n) cut cut-same 1022 (lit≤ tt) (λ s a. div-eq_of_lt) c.if3.true
+    low (x n.before) (held n.before) (number n) cut cut-same 1022 (lit≤ tt) (λ s a. div-eq_of_lt) c.if-e-lt-ONE.true
 
-returns-4 : tie.Need-returns-4
+returns-4 : tie.Need-returns-else-e-lt-ONE
 returns-4 c =
     let n = c.before.before in
-    middle (x n.before) (held n.before) (number n) c.if3.false c.before.if2.false
+    middle (x n.before) (held n.before) (number n) c.if-e-lt-ONE.false c.before.if-e-ge-ALL_WHOLE.false
 
-pub trunc-spec : {M : Type 1} → statement M
-trunc-spec = tie.close (tie.spec returns (λ c. number c) float-from-bits-result (λ c. search rules) (λ c. search rules) (λ c. search rules)
+pub trunc_spec : {M : Type 1} → statement M
+trunc_spec = tie.close (tie.spec returns (λ c. number c) float-from-bits-result (λ c. search rules) (λ c. search rules) (λ c. search rules)
     float-from-bits-result-2 returns-2 returns-3 returns-4)

@@ -11,43 +11,43 @@ use Rattle.julian.proofs.Midnights.{mjd-fits, mjd-in-float, midnight-refused, mi
 use Rattle.julian.proofs.calendar_to_julian.Statement.{statement}
 use Rattle.julian.proofs.calendar_to_julian.Tie as tie
 
-int-to-float-new : tie.Need-int-to-float-new
+int-to-float-new : tie.Need-int_to_float-mjd
 unfolding mjd_outcome
 int-to-float-new c =
-    let a = c.before.before.before.before in
-    let s = a.before in
-    let n = c.before.before.mjd.given.0.0 in
+    let a = c in
+    let s = a in
+    let n = c.in-Mjd.mjd in
     let e : mjd_of s.args.year s.args.month s.args.day ≡ answer n =
-    sym (λ i. mjd_of (to_z-of_z s.ranges.year i) (to_z-of_z s.ranges.month i) (to_z-of_z s.ranges.day i)) ∙ sym a.modified-julian-day.ensures
-    ∙ ap mjd_outcome c.before.before.mjd.given.1 in
+    sym (λ i. mjd_of (to_z-of_z s.ranges.year i) (to_z-of_z s.ranges.month i) (to_z-of_z s.ranges.day i)) ∙ sym a.modified_julian_day.ensures
+    ∙ ap mjd_outcome c.in-Mjd.is in
     rw (to_z-of_z (mjd-fits s.args.year s.args.month s.args.day n s.ranges.year e))
     (mjd-in-float s.args.year s.args.month s.args.day n s.ranges.year e)
 
-returns : tie.Need-returns
+returns : tie.Need-returns-in-Refused
 unfolding julian_outcome mjd_outcome
 returns c =
-    let a = c.before.before.before in
-    let s = a.before in
-    sym (midnight-refused s.args.year s.args.month s.args.day c.before.number.given.0.0
-    (sym (λ i. mjd_of (to_z-of_z s.ranges.year i) (to_z-of_z s.ranges.month i) (to_z-of_z s.ranges.day i)) ∙ sym a.modified-julian-day.ensures
-    ∙ ap mjd_outcome c.before.number.given.1))
+    let a = c in
+    let s = a in
+    sym (midnight-refused s.args.year s.args.month s.args.day c.in-Refused.number
+    (sym (λ i. mjd_of (to_z-of_z s.ranges.year i) (to_z-of_z s.ranges.month i) (to_z-of_z s.ranges.day i)) ∙ sym a.modified_julian_day.ensures
+    ∙ ap mjd_outcome c.in-Refused.is))
 
-returns-2 : tie.Need-returns-2
+returns-2 : tie.Need-returns-in-Mjd
 unfolding julian_outcome mjd_outcome
 returns-2 c =
-    let a = c.before.before.before.before.before in
-    let s = a.before in
-    let n = c.before.before.before.mjd.given.0.0 in
+    let a = c in
+    let s = a in
+    let n = c.in-Mjd.mjd in
     let e : mjd_of s.args.year s.args.month s.args.day ≡ answer n =
-    sym (λ i. mjd_of (to_z-of_z s.ranges.year i) (to_z-of_z s.ranges.month i) (to_z-of_z s.ranges.day i)) ∙ sym a.modified-julian-day.ensures
-    ∙ ap mjd_outcome c.before.before.before.mjd.given.1 in
+    sym (λ i. mjd_of (to_z-of_z s.ranges.year i) (to_z-of_z s.ranges.month i) (to_z-of_z s.ranges.day i)) ∙ sym a.modified_julian_day.ensures
+    ∙ ap mjd_outcome c.in-Mjd.is in
     cc (
       mjd-zero-point,
       to_z-of_z (mjd-fits s.args.year s.args.month s.args.day n s.ranges.year e),
       midnight-given s.args.year s.args.month s.args.day n e,
     )
 
-pub calendar-to-julian-spec : {M : Type 1} → statement M
-calendar-to-julian-spec =
+pub calendar_to_julian_spec : {M : Type 1} → statement M
+calendar_to_julian_spec =
     tie.close
     (tie.spec (λ c κs. search rules) (λ c. search rules) (λ c. search rules) int-to-float-new (λ c κs. search rules) returns returns-2)

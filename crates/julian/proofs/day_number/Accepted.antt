@@ -31,7 +31,8 @@ swap : (s t : Bool) (X Y : ℕ) → SumInRange (plus-of s X + plus-of t Y) (minu
     → SumInRange (plus-of t Y + plus-of s X) (minus-of t Y + minus-of s X)
 swap s t X Y r = record { high = omega (arith, r.high); low = omega (arith, r.low) }
 
-large : (x y : Float) (s t : Bool) (X Y A B : ℕ) → HasValue x s X L → HasValue y t Y L → Rep X → Rep Y → Whole (nearest_int x) s X A → Whole (nearest_int y) t Y B
+large : (x y : Float) (s t : Bool) (X Y A B : ℕ) → HasValue x s X L → HasValue y t Y L → Rep X → Rep Y → Whole (nearest_int x) s X A → Whole
+    (nearest_int y) t Y B
     → SumInRange (plus-of s X + plus-of t Y) (minus-of s X + minus-of t Y) → 2 ^ 49 * L ≤ X → 2 ^ 49 * L ≤ Y → AcceptedSum x y
 large x y s t X Y A B vx vy rx ry wx wy r hx hy = go (on-grid x s X vx rx hx) (on-grid y t Y vy ry hy)
   where

@@ -123,7 +123,8 @@ zero_in s a e = ap (λ (n : ℕ). in_julian_range (round binary64 s n (2 ^ 52)))
 same_test : {z z' : Float} {P N : ℕ} → Rounds binary64 z P N (2 ^ 52) → Rounds binary64 z' P N (2 ^ 52) → in_julian_range z ≡ in_julian_range z'
 same_test {z} {z'} {P} {N} r r' = ap in_julian_range r.eq ∙ go r.sign r'.sign r.size r'.size r.is r'.is ∙ ap in_julian_range (sym r'.eq)
   where
-    go : (s t : Bool) (a b : ℕ) → Signed s a P N → Signed t b P N → in_julian_range (round binary64 s a (2 ^ 52)) ≡ in_julian_range (round binary64 t b (2 ^ 52))
+    go : (s t : Bool) (a b : ℕ) → Signed s a P N → Signed t b P N → in_julian_range (round binary64 s a (2 ^ 52)) ≡ in_julian_range
+        (round binary64 t b (2 ^ 52))
     go false false a b i j = ap (λ (n : ℕ). in_julian_range (round binary64 false n (2 ^ 52))) (plain a b i j)
       where
         plain : (a b : ℕ) → a + N ≡ P → b + N ≡ P → a ≡ b

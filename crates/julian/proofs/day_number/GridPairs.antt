@@ -39,7 +39,8 @@ module _ (x y : Float) (fx : T (fits binary64 x)) (fy : T (fits binary64 y)) (e 
   unfolding fraction_passed L
   grid_pair = go vx.sign vy.sign vx.size vy.size vx.has vy.has vx.is vy.is
     where
-      go : (s t : Bool) (P Q : ℕ) → HasValue x s P S → HasValue y t Q S → Signed s P p n → Signed t Q q m → Exactly p n q m (day_number x y) (fraction_passed x y)
+      go : (s t : Bool) (P Q : ℕ) → HasValue x s P S → HasValue y t Q S → Signed s P p n → Signed t Q q m → Exactly p n q m (day_number x y)
+          (fraction_passed x y)
       go s t P Q v w i j =
           let a = whole x s (P * C) fx (has-scale x s P S C v) in
           let b = whole y t (Q * C) fy (has-scale y t Q S C w) in

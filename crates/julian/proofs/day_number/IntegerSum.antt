@@ -52,7 +52,8 @@ bounded D h e8 e p n q m i k j l up more down units two eight ep small below ove
     two' i j u w k l d o = omega arith
 
 -- the casts saturate, and the sum stays: of two signs, min (A, 2 ^ 63 - 1) - min (B, 2 ^ 63) is between A - B and -1
-pub sums : (a b : ℤ) (s t : Bool) (A B up more down : ℕ) → plus_z a ≡ sat_plus s A → minus_z a ≡ sat_minus s A → plus_z b ≡ sat_plus t B → minus_z b ≡ sat_minus t B
+pub sums : (a b : ℤ) (s t : Bool) (A B up more down : ℕ) → plus_z a ≡ sat_plus s A → minus_z a ≡ sat_minus s A → plus_z b ≡ sat_plus t B → minus_z b
+    ≡ sat_minus t B
     → up ≤ 2 → more ≤ 1 → down ≤ 1 → Bounded (plus-of s A + plus-of t B + up + more) (minus-of s A + minus-of t B + down) → Sums a b up more down
 sums a b false false A B up more down e1 e2 e3 e4 h1 h2 h3 k =
     record {

@@ -82,7 +82,8 @@ module _ (f g : Float) (ff : T (fits binary64 f)) (fg : T (fits binary64 g)) (P 
 
           last : (u : ℕ) → (add_fraction 0 kahan_start f).carry ≡ 0 + u → (p n a b : ℕ) → p + a + (0 + 0 + N + u * L) ≤ n + b + (H + 0 + P) + Z
               → n + b + (H + 0 + P) ≤ p + a + (0 + 0 + N + u * L) + Z
-              → (v : ℕ) × ((add_fraction (add_fraction 0 kahan_start f).carry (add_fraction 0 kahan_start f).kahan g).carry ≡ (add_fraction 0 kahan_start f).carry +
+              → (v : ℕ) × ((add_fraction (add_fraction 0 kahan_start f).carry (add_fraction 0 kahan_start f).kahan g).carry ≡
+              (add_fraction 0 kahan_start f).carry +
               v) × Tot (add_fraction (add_fraction 0 kahan_start f).carry (add_fraction 0 kahan_start f).kahan g) v (p + a + Q) (n + b + M) Z
               → (up : ℕ) × ((add_fraction (add_fraction 0 kahan_start f).carry (add_fraction 0 kahan_start f).kahan g).carry ≡ up)
               × Tot (add_fraction (add_fraction 0 kahan_start f).carry (add_fraction 0 kahan_start f).kahan g) up (H + P + Q) (N + M) (2 * Z)

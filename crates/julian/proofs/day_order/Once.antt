@@ -219,7 +219,8 @@ module _ (c : ℕ) (s g : Float) where
   corr = add binary64 nought (compensation s g temp)
 
   tested : ((le one temp ≡ true) ×
-      (add_fraction c (record { sum = s; correction = nought }) g ≡ record { carry = c + 1; kahan = record { sum = sub binary64 temp one; correction = corr } }))
+      (add_fraction c (record { sum = s; correction = nought }) g
+      ≡ record { carry = c + 1; kahan = record { sum = sub binary64 temp one; correction = corr } }))
       ⊎ ((le one temp ≡ false) × (add_fraction c (record { sum = s; correction = nought }) g ≡
       record { carry = c; kahan = record { sum = temp; correction = corr } }))
   unfolding add_fraction

@@ -8,5 +8,5 @@ returns : tie.Need-returns
 unfolding exact_sum two_sum_error
 returns c = refl
 
-pub exact-sum-spec : {M : Type 1} → statement M
-exact-sum-spec = tie.close (tie.spec returns)
+pub exact_sum_spec : {M : Type 1} → statement M
+exact_sum_spec = tie.close (tie.spec returns)

@@ -10,25 +10,25 @@ use Rattle.julian.specs.Calendar.{calendar_outcome, julian_to_calendar}
 use Rattle.julian.proofs.julian_to_calendar.Statement.{statement}
 use Rattle.julian.proofs.julian_to_calendar.Tie as tie
 
-returns : tie.Need-returns
+returns : tie.Need-returns-in-Refused
 unfolding calendar_outcome julian_to_calendar day_outcome onward
 returns c =
-    let a = c.before.before.before in
-    let e : day_number_and_fraction a.before.args.jd1 a.before.args.jd2 ≡ refusal c.before.number.given.0.0 =
-    sym a.day-number-and-fraction.ensures ∙ ap day_outcome c.before.number.given.1 in
+    let a = c in
+    let e : day_number_and_fraction a.args.jd1 a.args.jd2 ≡ refusal c.in-Refused.number =
+    sym a.day_number_and_fraction.ensures ∙ ap day_outcome c.in-Refused.is in
     rw e
 
-returns-2 : tie.Need-returns-2
+returns-2 : tie.Need-returns-in-Day
 unfolding calendar_outcome julian_to_calendar day_outcome onward
 returns-2 c =
-    let a = c.before.before.before.before.before in
-    let found = c.before.before.before.found.given.0.0 in
-    let e : day_number_and_fraction a.before.args.jd1 a.before.args.jd2 ≡ answer found =
-    sym a.day-number-and-fraction.ensures ∙ ap day_outcome c.before.before.before.found.given.1 in
-    let f : SFits w64 found.day = record { sfits = c.before.struct_told.given.0.1 } in
-    rw (e, c.gregorian-date.ensures, to_z-of_z f)
+    let a = c in
+    let found = c.in-Day.found in
+    let e : day_number_and_fraction a.args.jd1 a.args.jd2 ≡ answer found =
+    sym a.day_number_and_fraction.ensures ∙ ap day_outcome c.in-Day.is in
+    let f : SFits w64 found.day = record { sfits = c.struct_told-1.given.0.1 } in
+    rw (e, c.gregorian_date-date.ensures, to_z-of_z f)
 
-pub julian-to-calendar-spec : {M : Type 1} → statement M
-julian-to-calendar-spec =
+pub julian_to_calendar_spec : {M : Type 1} → statement M
+julian_to_calendar_spec =
     tie.close
     (tie.spec (λ c κs. search rules) (λ c. search rules) (λ c. search rules) (λ c κs. search rules) returns returns-2)

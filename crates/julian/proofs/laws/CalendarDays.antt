@@ -1,5 +1,5 @@
 -- What `julian_to_calendar` answers: on the grid the date of the exact day and the exact fraction, the same for every division of one date; off it within 2^-51
--- day; and no refusal but 6. Assumes nothing.
+-- day; a part that is not finite is 6, and there is no other refusal. Assumes nothing.
 use mathlib.Core.Path.{◌≡◌, refl, sym, ap, ◌∙◌, subst}
 use Prim.Native.Nat.{ℕ, ◌+◌, ◌≤◌}
 use native.Mathlib.Omega.{arith}
@@ -11,6 +11,7 @@ use lib.Signed.{lt_z}
 use lib.Ieee.{Float, binary64, fits}
 use borrow.Author.Tests.{le-ltb, ltb-true, ltb-false}
 use Rattle.refusals.specs.Outcome.{Outcome, answer, refusal, onward}
+use Rattle.refusals.proofs.Onward.{stopped}
 use Rattle.rounding.specs.Value.{Val, Under52, L, InUnit}
 use Rattle.rounding.proofs.Casts.{plus_z, minus_z, one_side, add_pair, sub_pair}
 use Rattle.rounding.proofs.Value.{val-move}
@@ -29,11 +30,13 @@ use Rattle.julian.proofs.day_number.Answer.{answered, refused}
 use Rattle.julian.proofs.day_number.Ranges.{day-range, fraction-range}
 use Rattle.julian.proofs.day_number.ExactDay.{exact-day, exact, alike}
 use Rattle.julian.proofs.day_number.OffGrid.{day-near}
+use Rattle.julian.proofs.day_number.NotFinite.{not_finite}
 use Rattle.julian.specs.declared.JulianDate.{JulianDate}
 use Rattle.julian.specs.Worth.{SmallParts}
 use Rattle.julian.specs.declared.CalendarFields.{CalendarFields}
 use Rattle.julian.specs.Calendar.{fields, julian_to_calendar}
 use Rattle.julian.specs.laws.CalendarAnswers.{FieldsInRange, DateOfDay, by_calendar, before_first, NearDate, DayPlusFraction}
+use Rattle.julian.specs.laws.Calls.{CalendarRefuses}
 
 -- ---- the fields of an answered day, and back
 
@@ -60,6 +63,11 @@ day-of x y f e = go (day_number_and_fraction x y) refl e
     go (refusal n) h k = let z : ◌≡◌ {A = ℕ} 0 1 = cc in absurd (omega arith)
 
 -- ---- document 01: "`julian_to_calendar` gives only 6"
+
+-- A PART THAT IS NOT FINITE is 6
+pub calendar-not-finite : (x y : Float) → CalendarRefuses x y
+unfolding julian_to_calendar
+calendar-not-finite x y h = stopped _ (not_finite x y h)
 
 pub only-six : (x y : Float) (n : ℕ) → julian_to_calendar x y ≡ refusal n → n ≡ 6
 unfolding julian_to_calendar onward

@@ -21,7 +21,8 @@ use Rattle.julian.specs.Calendar.{calendar_to_julian, at_time, from_calendar}
 -- ---- refusals of `from_calendar`, which knows no leap second: 60.0; and the date before the time
 
 pub no_leap_second : from_calendar (pos 2015) 12 31 23 59 (decimal 60 0) ≡ refusal 4
-unfolding from_calendar at_time calendar_to_julian onward mjd_of mjd_number civil_count valid_date days_in_month leap_size lengths day_fraction time_in_day second_limit add
+unfolding from_calendar at_time calendar_to_julian onward mjd_of mjd_number civil_count valid_date days_in_month leap_size lengths day_fraction time_in_day
+    second_limit add
     lt le eq round
 no_leap_second = refl
 
@@ -128,7 +129,8 @@ j1900_of_year = refl
 -- ---- 18:45 on 2000-01-01 is 0.78125 of the day, and 45:18 is no time: hour and minute in their order
 
 pub quarter_to_seven : from_calendar (pos 2000) 1 1 18 45 (decimal 0 0) ≡ answer (julian (decimal 24515445 1) (decimal 78125 5))
-unfolding from_calendar at_time calendar_to_julian rounded_sum mjd_zero_point seconds_per_day onward mjd_of mjd_number civil_count valid_date days_in_month leap_size lengths
+unfolding from_calendar at_time calendar_to_julian rounded_sum mjd_zero_point seconds_per_day onward mjd_of mjd_number civil_count valid_date days_in_month
+    leap_size lengths
     day_fraction time_in_day second_limit of_int add mul div lt le eq round
 quarter_to_seven = refl
 
@@ -165,7 +167,8 @@ difference-is-no-order = (refl, refl)
 
 -- ---- sums: 1.0 and 0.5; half a day more to 0.5 and 0.75 carries a day; 43,200 s are half a day
 
-pub rounded-sum : rounded_sum (julian (of_bits binary64 0x3ff0_0000_0000_0000) (of_bits binary64 0x3fe0_0000_0000_0000)) ≡ of_bits binary64 0x3ff8_0000_0000_0000
+pub rounded-sum : rounded_sum (julian (of_bits binary64 0x3ff0_0000_0000_0000) (of_bits binary64 0x3fe0_0000_0000_0000))
+    ≡ of_bits binary64 0x3ff8_0000_0000_0000
 unfolding rounded_sum add sub neg round of_bits
 rounded-sum = refl
 

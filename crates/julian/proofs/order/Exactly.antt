@@ -23,6 +23,7 @@ use Rattle.julian.specs.Worth.{Worth, SmallParts}
 use Rattle.julian.proofs.Equality.{SumAndError, sums-of, small-sums, equal-sums}
 use Rattle.julian.specs.order.Order.{Order, comes_before, same_sum, comes_after, sooner, date_order, comparison, order_of, not_after, is_equal}
 use Rattle.julian.specs.order.Order.{PartNotFinite, first_not_finite, second_not_finite}
+use Rattle.julian.specs.order.Places.{has_place}
 
 -- ---- the error is finite only where the parts and the sum are
 pub finite-error : (d : JulianDate) → T (finite (sums d).error) → T (finite d.jd1) × (T (finite d.jd2) × T (finite (sums d).sum))
@@ -156,6 +157,14 @@ not_finite_first d e h = nine d e (inl (not_finite_error d h))
 
 pub not_finite_second : (d e : JulianDate) → PartNotFinite e → comparison d e ≡ refusal 9
 not_finite_second d e h = nine d e (inr (not_finite_error e h))
+
+not_true : (b : Bool) → (T b → ⊥) → b ≡ false
+not_true true h = absurd (h tt)
+not_true false h = refl
+
+-- NO PLACE: a date with a part that is not finite has none in the order
+pub place-not-finite : (d : JulianDate) → PartNotFinite d → has_place d ≡ false
+place-not-finite d h = not_true (has_place d) (not_finite_error d h)
 
 -- ---- hence it is a total order of the exact sums
 -- every date whose two-sum is finite has an exact sum

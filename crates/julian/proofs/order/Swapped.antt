@@ -54,7 +54,8 @@ unfolding sooner
 sooner-once s t p = by_tests (lt s.sum t.sum) (lt t.sum s.sum) (lt s.error t.error) (lt t.error s.error) (lt_once s.sum t.sum)
     (lt_once s.error t.error) p
 
-swap_by : (a b : Bool) → (a ≡ true → b ≡ false) → cond b comes_before (cond a comes_after same_sum) ≡ swapped (cond a comes_before (cond b comes_after same_sum))
+swap_by : (a b : Bool) → (a ≡ true → b ≡ false) → cond b comes_before (cond a comes_after same_sum) ≡ swapped
+    (cond a comes_before (cond b comes_after same_sum))
 unfolding swapped
 swap_by true true f = absurd (true≢false (f refl))
 swap_by true false f = refl

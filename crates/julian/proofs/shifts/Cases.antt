@@ -32,7 +32,8 @@ a-day-earlier = refl
 -- the same by 86,400 s
 by-seconds : converted_by plus (bits 0x40f5_1800_0000_0000) (julian (bits 0x4142_b42c_8000_0000) (bits 0x3fd0_0000_0000_0000)) ≡ answer
     (julian (bits 0x4142_b42c_8000_0000) (bits 0x3ff4_0000_0000_0000))
-unfolding converted_by finite_both finite_offset finite_arg onward finite_jd changed map_smaller_part put_back parts_of first_is_larger days_of seconds_per_day plus abs lt
+unfolding converted_by finite_both finite_offset finite_arg onward finite_jd changed map_smaller_part put_back parts_of first_is_larger days_of seconds_per_day
+    plus abs lt
     add div
     round of_bits
 by-seconds = refl

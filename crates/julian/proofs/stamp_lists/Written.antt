@@ -12,7 +12,8 @@ use Rattle.julian.specs.stamp_lists.Stamps.{stamp_of}
 
 module _ (js ks : List ℕ) (i : ℕ) (h : i < length js) (k : i < length ks) (small : get_or js i 0 < 18446744073709551616)
     (low : get_or ks i 0 < 18446744073709551616) where
-  pub stamp-of-lists : stamp_of (all_bytes eight_bytes js) (all_bytes eight_bytes ks) i ≡ julian (of_bits binary64 (get_or js i 0)) (of_bits binary64 (get_or ks i 0))
+  pub stamp-of-lists : stamp_of (all_bytes eight_bytes js) (all_bytes eight_bytes ks) i ≡ julian (of_bits binary64 (get_or js i 0))
+      (of_bits binary64 (get_or ks i 0))
   unfolding stamp_of
   stamp-of-lists = ap (λ (n : ℕ). julian (of_bits binary64 n) (of_bits binary64 (u64_at (all_bytes eight_bytes ks) (8 * i)))) (number-there js i h small)
       ∙ ap (λ (n : ℕ). julian (of_bits binary64 (get_or js i 0)) (of_bits binary64 n)) (number-there ks i k low)

@@ -7,40 +7,40 @@ use Rattle.julian.specs.DayFraction.{time_in_day}
 use Rattle.julian.proofs.time_in_day.Statement.{statement}
 use Rattle.julian.proofs.time_in_day.Tie as tie
 
-returns : tie.Need-returns
+returns : tie.Need-returns-then-hour-gt23
 unfolding time_in_day
-returns c = rw (lt-leb c.before.before.args.hour 23 c.if1.true)
+returns c = rw (lt-leb c.args.hour 23 c.if-hour-gt23.true)
 
-returns-2 : tie.Need-returns-2
+returns-2 : tie.Need-returns-then-minute-gt59
 unfolding time_in_day
-returns-2 c = rw (le-leb c.before.before.before.args.hour 23 c.before.if1.false, lt-leb c.before.before.before.args.minute 59 c.if2.true)
+returns-2 c = rw (le-leb c.args.hour 23 c.if-hour-gt23.false, lt-leb c.args.minute 59 c.if-minute-gt59.true)
 
-returns-3 : tie.Need-returns-3
+returns-3 : tie.Need-returns-then-not-is_finite
 unfolding time_in_day
 returns-3 c = rw (
-  le-leb c.before.before.before.before.before.args.hour 23 c.before.before.before.if1.false,
-  le-leb c.before.before.before.before.before.args.minute 59 c.before.before.if2.false,
-  sym c.before.is_finite.ensures ∙ not-true c.before.is_finite.result c.if3.true,
+  le-leb c.args.hour 23 c.if-hour-gt23.false,
+  le-leb c.args.minute 59 c.if-minute-gt59.false,
+  sym c.is_finite.ensures ∙ c.if-not-is_finite.true,
 )
 
-returns-4 : tie.Need-returns-4
+returns-4 : tie.Need-returns-then-second
 unfolding time_in_day of_bits
 returns-4 c = rw (
-  le-leb c.before.before.before.before.before.before.args.hour 23 c.before.before.before.before.if1.false,
-  le-leb c.before.before.before.before.before.before.args.minute 59 c.before.before.before.if2.false,
-  sym c.before.before.is_finite.ensures ∙ not-false c.before.before.is_finite.result c.before.if3.false,
-  c.if4.true,
-  c.before.before.before.before.before.second-limit.ensures,
+  le-leb c.args.hour 23 c.if-hour-gt23.false,
+  le-leb c.args.minute 59 c.if-minute-gt59.false,
+  sym c.is_finite.ensures ∙ c.if-not-is_finite.false,
+  c.if-second.true,
+  c.second_limit-limit.ensures,
 )
 
-returns-5 : tie.Need-returns-5
+returns-5 : tie.Need-returns-else-second
 unfolding time_in_day of_bits
 returns-5 c = rw (
-  le-leb c.before.before.before.before.before.before.args.hour 23 c.before.before.before.before.if1.false,
-  le-leb c.before.before.before.before.before.before.args.minute 59 c.before.before.before.if2.false,
-  sym c.before.before.is_finite.ensures ∙ not-false c.before.before.is_finite.result c.before.if3.false,
-  c.if4.false,
+  le-leb c.args.hour 23 c.if-hour-gt23.false,
+  le-leb c.args.minute 59 c.if-minute-gt59.false,
+  sym c.is_finite.ensures ∙ c.if-not-is_finite.false,
+  c.if-second.false,
 )
 
-pub time-in-day-spec : {M : Type 1} → statement M
-time-in-day-spec = tie.close (tie.spec (λ c κs. search rules) returns returns-2 (λ c κs. search rules) returns-3 returns-4 returns-5)
+pub time_in_day_spec : {M : Type 1} → statement M
+time_in_day_spec = tie.close (tie.spec (λ c κs. search rules) returns returns-2 (λ c κs. search rules) returns-3 returns-4 returns-5)

@@ -7,7 +7,7 @@ ghost use Rattle.julian.specs.shifts.Shifts.{plus, minus, changed};
 
 use crate::{JulianAnswer, JulianDate};
 
-#[derive(Drop)]
+#[derive(Clone, Copy)]
 pub struct Parts {
     pub larger: f64,
     pub smaller: f64,

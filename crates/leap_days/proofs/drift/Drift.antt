@@ -50,7 +50,8 @@ day_test false s st r w s' st' r' j = one_day s st r w s' st' r' (qint j) (qint 
 
 unfoldable pub days_test : Float → Float → Float → Bool → Float → Float → Float → ℕ → ℕ → Bool
 unfolding day_test mjd_number civil_count lengths leap_size
-days_test s st r w s' st' r' y m = every (λ d. day_test (ltb (suc d) (lengths (leap_size y) m)) s st r w s' st' r' (mjd_number (pos y) (pos m) (pos (suc d)))) 31
+days_test s st r w s' st' r' y m = every (λ d. day_test (ltb (suc d) (lengths (leap_size y) m)) s st r w s' st' r' (mjd_number (pos y) (pos m) (pos (suc d))))
+    31
 
 unfoldable pub rows_test : Row → Row → ℕ → ℕ → Bool
 unfolding days_test seconds_of start_of rate_of round
@@ -59,7 +60,8 @@ rows_test r r' y m = days_test (seconds_of r) (start_of r) (rate_of r) (eqb r'.r
 -- month i of 1960 to 1971
 unfoldable pub month_test : ℕ → Bool
 unfolding rows_test fixed reached
-month_test i = rows_test (get_or fixed (reached (starts fixed) (23520 + i) - 1) none) (get_or fixed (reached (starts fixed) (23521 + i) - 1) none) (1960 + i / 12)
+month_test i = rows_test (get_or fixed (reached (starts fixed) (23520 + i) - 1) none) (get_or fixed (reached (starts fixed) (23521 + i) - 1) none)
+    (1960 + i / 12)
     (i % 12 + 1)
 
 -- in parts, each within the prover's limit of steps

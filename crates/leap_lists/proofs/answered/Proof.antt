@@ -8,5 +8,5 @@ returns : tie.Need-returns
 unfolding answered
 returns c = search rules
 
-pub answered-spec : {M : Type 1} → statement M
-answered-spec = tie.close (tie.spec returns)
+pub answered_spec : {M : Type 1} → statement M
+answered_spec = tie.close (tie.spec returns)

@@ -7,13 +7,13 @@ use mathlib.Core.Path.{refl, sym, ◌∙◌}
 use Rattle.leap_lists.proofs.behind.Statement.{statement}
 use Rattle.leap_lists.proofs.behind.Tie as tie
 
-returns : tie.Need-returns
+returns : tie.Need-returns-then-end-text
 returns c = record { rest = refl; later = λ h. omega arith; not_before = omega arith; within = omega arith }
 
-returns-2 : tie.Need-returns-2
+returns-2 : tie.Need-returns
 returns-2 c =
-    let t = c.before.args.text.now in
-    let n = c.before.args.end in
+    let t = c.args.text.now in
+    let n = c.args.end in
     let h : length t ≤ n = omega arith in
     let g : length t ≤ n + 1 = omega arith in
     record {
@@ -23,5 +23,5 @@ returns-2 c =
       within = omega arith;
     }
 
-pub behind-spec : {M : Type 1} → statement M
-behind-spec = tie.close (tie.spec (λ c. search rules) returns returns-2)
+pub behind_spec : {M : Type 1} → statement M
+behind_spec = tie.close (tie.spec (λ c. search rules) returns returns-2)

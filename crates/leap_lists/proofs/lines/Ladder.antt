@@ -51,7 +51,8 @@ module _ (most at : ℕ) (t : List ℕ) where
   unfolding last_number
   last_none e = rw (byte_here t at, e)
 
-  module _ (from : ℕ) (r : Run) (b : line_blank false (get_or t at 0) ≡ true) (f : drop from t ≡ behind_blanks false (drop at t)) (k : DigitsAt most from t r) where
+  module _ (from : ℕ) (r : Run) (b : line_blank false (get_or t at 0) ≡ true) (f : drop from t ≡ behind_blanks false (drop at t))
+      (k : DigitsAt most from t r) where
     last_is : last_number most (drop at t) ≡ number_then (first_digits most (drop from t)) (drop r.end t)
     unfolding last_number
     last_is =

@@ -38,7 +38,8 @@ no_blank_first : (r : Bool) (c : ℕ) (cs : List ℕ) → line_blank r c ≡ fal
 unfolding behind_blanks
 no_blank_first r c cs e = rw e
 
-pub blank_skipped : (r : Bool) (t : List ℕ) (i : ℕ) → i < length t → line_blank r (get_or t i 0) ≡ true → behind_blanks r (drop i t) ≡ behind_blanks r (drop (i + 1) t)
+pub blank_skipped : (r : Bool) (t : List ℕ) (i : ℕ) → i < length t → line_blank r (get_or t i 0) ≡ true
+    → behind_blanks r (drop i t) ≡ behind_blanks r (drop (i + 1) t)
 blank_skipped r t i h e = ap (behind_blanks r) (byte_first t i h) ∙ blank_first r (get_or t i 0) (drop (i + 1) t) e
 
 pub blanks-stop : (r : Bool) (t : List ℕ) (i : ℕ) → i < length t → line_blank r (get_or t i 0) ≡ false → drop i t ≡ behind_blanks r (drop i t)

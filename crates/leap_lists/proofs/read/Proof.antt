@@ -14,79 +14,70 @@ use Rattle.leap_lists.proofs.Reading.{fault_there, no_fault, from_first, all_rea
 use Rattle.leap_lists.proofs.read.Statement.{statement}
 use Rattle.leap_lists.proofs.read.Tie as tie
 
-abbrev invariant-loop : tie.invariant-loop
+abbrev invariant-loop : tie.invariant-loop-at
 invariant-loop text held₀ line₀ at₀ held line at =
     (at ≤ length text) × (line ≤ at) × (held.second < 2147483648) × (read_from held line (lines_of (drop at text)) ≡ read_of text)
 
-abbrev decreases-loop : tie.decreases-loop
+abbrev decreases-loop : tie.decreases-loop-at
 decreases-loop text held₀ line₀ at₀ held line at = length text - at
 
-loop-holds : tie.Need-loop-init invariant-loop decreases-loop
+loop-holds : tie.Need-loop-at-init invariant-loop decreases-loop
 loop-holds c =
-    let h = c.none-held.ensures in
-    let t = c.before.before.args.text.now in
+    let h = c.none_held-held.ensures in
+    let t = c.args.text.now in
     (omega arith, omega arith, rw h small_start, ap (λ (x : Held). read_from x 0 (lines_of t)) h ∙ from_first t)
 
-fault-requires : tie.Need-fault-requires invariant-loop decreases-loop
-fault-requires c κs = (c.before.before.before.before.loop.invariant.2, c.read-line.ensures.1)
+fault-requires : tie.Need-fault-number-requires invariant-loop decreases-loop
+fault-requires c κs = (c.loop-at.invariant.2, c.read_line-found.ensures.1)
 
-returns : tie.Need-returns invariant-loop decreases-loop
+returns : tie.Need-returns-then-number-ne0 invariant-loop decreases-loop
 returns c =
-    let f = c.before.before in
-    let e = f.before.before.before in
-    let l = e.before.before in
-    let t = l.before.before.before.args.text.now in
-    let h : l.loop.at < length t = omega arith in
-    let k = f.fault.ensures ∙ ap (line_fault l.loop.held) f.before.read-line.ensures.0 in
+    let t = c.args.text.now in
+    let h : c.loop-at.at < length t = omega arith in
+    let k = c.fault-number.ensures ∙ ap (line_fault c.loop-at.held) c.read_line-found.ensures.0 in
     c.refused.ensures
-    ∙ sym (ap (read_from l.loop.held l.loop.line) (lines-on t l.loop.at e.line-end.result h e.line-end.ensures.0 (e.line-end.result + 1) refl)
-    ∙ fault_there l.loop.held l.loop.line _ _ f.fault.result c.before.if1.true k)
-    ∙ l.loop.invariant.3
+    ∙ sym (ap (read_from c.loop-at.held c.loop-at.line)
+    (lines-on t c.loop-at.at c.line_end-end.result h c.line_end-end.ensures.0 (c.line_end-end.result + 1) refl)
+    ∙ fault_there c.loop-at.held c.loop-at.line _ _ c.fault-number.result c.if-number-ne0.true k)
+    ∙ c.loop-at.invariant.3
 
-with-line-requires : tie.Need-with-line-requires invariant-loop decreases-loop
-with-line-requires c κs = (sym c.before.fault.ensures ∙ c.if1.false, c.before.before.read-line.ensures.1)
+with-line-requires : tie.Need-with_line-held-requires invariant-loop decreases-loop
+with-line-requires c κs = (sym c.fault-number.ensures ∙ c.if-number-ne0.false, c.read_line-found.ensures.1)
 
 -- the next line begins further on
-onward : (c : tie.After-behind invariant-loop decreases-loop) → c.before.before.before.before.before.before.before.before.loop.at < c.behind.result
+onward : (c : tie.After-behind-at invariant-loop decreases-loop) → c.loop-at.at < c.behind-at.result
 onward c =
-    let e = c.before.before.before.before.before.before in
-    let l = e.before.before in
-    further l.before.before.before.args.text.now l.loop.at e.line-end.result c.behind.result (omega arith)
-    (omega (arith, e.line-end.ensures.0)) c.behind.ensures
+    further c.args.text.now c.loop-at.at c.line_end-end.result c.behind-at.result (omega arith)
+    (omega (arith, c.line_end-end.ensures.0)) c.behind-at.ensures
 
-loop-less : tie.Need-loop-smaller invariant-loop decreases-loop
-loop-less c = omega (arith, onward c, c.behind.ensures.within)
+loop-less : tie.Need-loop-at-smaller invariant-loop decreases-loop
+loop-less c = omega (arith, onward c, c.behind-at.ensures.within)
 
-loop-again : tie.Need-loop-preserved invariant-loop decreases-loop
+loop-again : tie.Need-loop-at-preserved invariant-loop decreases-loop
 loop-again c =
-    let w = c.before in
-    let f = w.before.before in
-    let e = f.before.before.before in
-    let l = e.before.before in
-    let t = l.before.before.before.args.text.now in
-    let h : l.loop.at < length t = omega arith in
-    let k = f.before.read-line.ensures.0 in
-    let fault = ap (line_fault l.loop.held) (sym k) ∙ sym f.fault.ensures ∙ w.before.if1.false in
-    let next = w.with-line.ensures ∙ ap (with_line l.loop.held) k in (
-      c.behind.ensures.within,
-      omega (arith, onward c, l.loop.invariant.1),
-      rw w.with-line.ensures (small-second l.loop.held f.before.read-line.result l.loop.invariant.2 f.before.read-line.ensures.1),
-      ap (λ (x : Held). read_from x (l.loop.line + 1) (lines_of (drop c.behind.result t))) next
-          ∙ sym (no_fault l.loop.held l.loop.line _ (lines_of (drop c.behind.result t)) fault)
-          ∙ sym (ap (read_from l.loop.held l.loop.line)
-          (lines-on t l.loop.at e.line-end.result h e.line-end.ensures.0 c.behind.result c.behind.ensures.rest))
-          ∙ l.loop.invariant.3,
+    let t = c.args.text.now in
+    let h : c.loop-at.at < length t = omega arith in
+    let k = c.read_line-found.ensures.0 in
+    let fault = ap (line_fault c.loop-at.held) (sym k) ∙ sym c.fault-number.ensures ∙ c.if-number-ne0.false in
+    let next = c.with_line-held.ensures ∙ ap (with_line c.loop-at.held) k in (
+      c.behind-at.ensures.within,
+      omega (arith, onward c, c.loop-at.invariant.1),
+      rw c.with_line-held.ensures (small-second c.loop-at.held c.read_line-found.result c.loop-at.invariant.2 c.read_line-found.ensures.1),
+      ap (λ (x : Held). read_from x (c.loop-at.line + 1) (lines_of (drop c.behind-at.result t))) next
+          ∙ sym (no_fault c.loop-at.held c.loop-at.line _ (lines_of (drop c.behind-at.result t)) fault)
+          ∙ sym (ap (read_from c.loop-at.held c.loop-at.line)
+          (lines-on t c.loop-at.at c.line_end-end.result h c.line_end-end.ensures.0 c.behind-at.result c.behind-at.ensures.rest))
+          ∙ c.loop-at.invariant.3,
     )
 
-returns-2 : tie.Need-returns-2 invariant-loop decreases-loop
+returns-2 : tie.Need-returns invariant-loop decreases-loop
 returns-2 c =
-    let l = c.before.before in
-    let t = l.before.before.before.args.text.now in
-    c.answered.ensures ∙ all_read l.loop.held l.loop.line t l.loop.at (omega arith) ∙ l.loop.invariant.3
+    let t = c.args.text.now in
+    c.answered.ensures ∙ all_read c.loop-at.held c.loop-at.line t c.loop-at.at (omega arith) ∙ c.loop-at.invariant.3
 
 pub read_spec : {M : Type 1} → statement M
 read_spec =
     tie.close
-    (tie.spec invariant-loop decreases-loop (λ c κs. search rules) loop-holds (λ c κs. search rules) (λ c. omega (arith, c.line-end.ensures.0)) (λ c. omega (arith, c.line-end.ensures.0))
-    (λ c. omega (arith, c.line-end.ensures.1)) (λ c κs. search rules) fault-requires (λ c. search rules) (λ c κs. search rules) returns with-line-requires
-    (λ c κs. search rules) loop-less loop-again (λ c κs. search rules) returns-2)
+    (tie.spec invariant-loop decreases-loop (λ c κs. search rules) loop-holds (λ c κs. search rules) (λ c. omega (arith, c.line_end-end.ensures.0))
+    (λ c. omega (arith, c.line_end-end.ensures.0)) (λ c. omega (arith, c.line_end-end.ensures.1)) (λ c κs. search rules) fault-requires (λ c. search rules)
+    (λ c κs. search rules) returns with-line-requires (λ c κs. search rules) loop-less loop-again (λ c κs. search rules) returns-2)

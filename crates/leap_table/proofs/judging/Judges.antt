@@ -1,17 +1,7 @@
 -- A date by itself and after another, as the code tests them; and the dates of a list one after the other. Assumes nothing.
-use Prim.Native.Nat.{ℕ, zero, suc, ◌+◌, ◌-◌, ◌≤◌, ◌<◌}
-use native.Mathlib.Omega.{arith}
-use native.Mathlib.Numerals.{add-one}
-use mathlib.Core.Path.{◌≡◌, refl, sym, ap, ◌∙◌}
-use mathlib.Core.Bool.{Bool, true, false, cond, ◌||◌}
-use mathlib.Core.List.{List, [], ◌∷◌}
-use lib.IntN.{ℤ, pos, negsuc, nat_abs}
+use Rattle.std.proofs.Common.{◌≡◌, ℕ, zero, suc, ◌+◌, ◌-◌, ◌<◌, ◌≤◌, Bool, true, false, cond, ◌||◌, List, [], ◌∷◌, length, ℤ, pos, negsuc, nat_abs, sym, refl}
+use Rattle.std.proofs.Common.{ap, ◌∙◌, add-one, arith, to_z-of_z, w32, SFits, to_z, of_z, ltb-false, le-ltb, leb-true}
 use lib.Signed.{lt_z, le_z}
-use lib.ListN.{length}
-use mir.Syntax.{w32}
-use mir.Val.{SFits, to_z, of_z}
-use mir.Facts.{to_z-of_z}
-use borrow.Author.Tests.{ltb-false, le-ltb, leb-true}
 use Rattle.refusals.specs.Outcome.{Outcome, answer, refusal, onward}
 use Rattle.calendar.specs.Calendar.{leap_year, lengths, days_in_month}
 use Rattle.calendar.specs.Refusals.{valid_date}

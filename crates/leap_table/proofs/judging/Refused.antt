@@ -1,11 +1,6 @@
 -- The refusals of a list in their order: the table, a broken triple, too few places, then the dates. Assumes nothing.
-use Prim.Native.Nat.{ℕ, zero, suc, ◌≤◌, ◌<◌}
-use native.Mathlib.Omega.{arith}
-use mathlib.Core.Path.{◌≡◌, refl, sym, ap, ◌∙◌}
-use mathlib.Core.Bool.{Bool, true, false, cond}
-use mathlib.Core.List.{List}
-use lib.ListN.{length}
-use borrow.Author.Tests.{le-leb, lt-leb}
+use Rattle.std.proofs.Common.{◌≡◌, ℕ, zero, suc, ◌<◌, ◌≤◌, Bool, true, false, cond, List, length, sym, refl, ap, ◌∙◌, arith, le-leb}
+use borrow.Author.Tests.{lt-leb}
 use Rattle.refusals.specs.Outcome.{Outcome, refusal, onward}
 use Rattle.leap_table.specs.rows.Table.{Row}
 use Rattle.leap_table.specs.rows.Announced.{rows_of, table_of, unless_refused}
@@ -28,7 +23,8 @@ module _ (dates : List Triple) (places : ℕ) where
   unfolding judged_list
   no-places n e h = rw (lt-leb (length dates) places (omega arith))
 
-  pub by-dates : (n : ℕ) → length dates ≡ n → n ≤ places → (k : ℕ) → unless_refused k tt ≡ judged_all dates → unless_refused k tt ≡ judged_list true dates places
+  pub by-dates : (n : ℕ) → length dates ≡ n → n ≤ places → (k : ℕ) → unless_refused k tt ≡ judged_all dates → unless_refused k tt
+      ≡ judged_list true dates places
   unfolding judged_list
   by-dates n e h k j = j ∙ sym (ap (λ (b : Bool). cond b (judged_all dates) (refusal 11)) (le-leb (length dates) places (omega arith)))
 
@@ -40,5 +36,6 @@ module _ (t : AnnouncedRows) (b : Bool) (dates : List Triple) (places : ℕ) whe
   pub table-away : (k : ℕ) → unless_refused k (rows_of t) ≡ table_of t → (k ≡ 0 → ⊥) → unless_refused k tt ≡ onward (table_of t) next
   table-away k e h = refused-any k tt h ∙ not_taken t k e next h
 
-  pub table_taken : (k : ℕ) → unless_refused k (rows_of t) ≡ table_of t → k ≡ 0 → (o : Outcome Unit) → o ≡ judged_list b dates places → o ≡ onward (table_of t) next
+  pub table_taken : (k : ℕ) → unless_refused k (rows_of t) ≡ table_of t → k ≡ 0 → (o : Outcome Unit) → o ≡ judged_list b dates places → o ≡ onward
+      (table_of t) next
   table_taken k e h o p = p ∙ taken t k e next h

@@ -1,11 +1,5 @@
 -- A number read from the part of a list that holds one date, twelve bytes. Assumes nothing.
-use Prim.Native.Nat.{ℕ, ◌+◌, ◌≤◌}
-use native.Mathlib.Omega.{arith}
-use mathlib.Core.Path.{◌≡◌, ap, ◌∙◌}
-use mathlib.Core.List.{List}
-use lib.ListN.{length, take, drop, length-drop}
-use lib.Seq.{length-take-le}
-use borrow.Author.Tests.{le-leb}
+use Rattle.std.proofs.Common.{◌≡◌, ℕ, ◌+◌, ◌≤◌, List, length, take, drop, ap, ◌∙◌, arith, length-drop, length-take-le, le-leb}
 use Rattle.numerals.specs.little_endian.LittleEndian.{u32_at, i32_at, signed32}
 use Rattle.numerals.proofs.little_endian.Parts.{four}
 

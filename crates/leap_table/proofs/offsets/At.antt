@@ -1,16 +1,8 @@
 -- The offset by the number of rows reached, in its three cases: none, a row that drifts, a row of whole seconds.
 -- Assumes nothing.
-use mathlib.Core.Path.{◌≡◌, ap, sym, ◌∙◌}
-use mathlib.Core.Bool.{Bool, true, false, not, cond}
-use mathlib.Core.List.{List}
-use Prim.Native.Nat.{ℕ, zero, suc, ◌-◌, ◌≤◌, ◌<◌}
-use native.Mathlib.Omega.{arith}
-use native.Mathlib.Nat.{not-suc-le-zero}
-use lib.Dec.{eqb}
-use lib.ListN.{get_or}
-use lib.IntN.{ℤ}
+use Rattle.std.proofs.Common.{◌≡◌, ℕ, zero, suc, ◌-◌, ◌<◌, ◌≤◌, Bool, true, false, cond, not, eqb, List, get_or, ℤ, sym, ap, ◌∙◌, not-suc-le-zero, arith}
+use Rattle.std.proofs.Common.{le-ltb, lt-ltb}
 use lib.Ieee.{Float, binary64, add, sub, mul, of_int}
-use borrow.Author.Tests.{lt-ltb, le-ltb}
 use Rattle.floats.specs.Whole.{nought}
 use Rattle.leap_table.specs.rows.Table.{Row, fixed, starts, reached, none, fixed_rows}
 use Rattle.leap_table.specs.offsets.Offset.{seconds_of, start_of, rate_of, by_row, offset_by, offset_at, row_at}

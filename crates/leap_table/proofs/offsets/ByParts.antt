@@ -1,12 +1,6 @@
 -- The seconds of announced rows, and tables by their parts, as code has them that is lent the two arrays: the seconds depend on the announced seconds
 -- alone, and from 1972 on TAI-UTC is those of the row reached. Assumes nothing.
-use mathlib.Core.Path.{◌≡◌, refl, ap, ◌∙◌}
-use mathlib.Core.Bool.{false}
-use mathlib.Core.List.{List}
-use Prim.Native.Nat.{ℕ, ◌-◌, ◌*◌, ◌^◌, ◌≤◌}
-use native.Mathlib.Omega.{arith}
-use lib.IntN.{ℤ}
-use lib.ListN.{get_or}
+use Rattle.std.proofs.Common.{◌≡◌, ℕ, ◌-◌, ◌*◌, ◌^◌, ◌≤◌, false, List, get_or, ℤ, refl, ap, ◌∙◌, arith}
 use lib.Ieee.{Float, binary64, of_int}
 use lib.Ieee.Scale.{round_same}
 use Rattle.leap_table.specs.declared.rows.AnnouncedRows.{AnnouncedRows}

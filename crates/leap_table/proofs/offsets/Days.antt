@@ -1,12 +1,7 @@
 -- The offsets of a day: refused exactly where there is no next date, with the same number, and else those of the day's month, of the next date's month, and of
 -- the two Modified Julian Dates n and n + 1. Assumes nothing.
-use mathlib.Core.Path.{◌≡◌, refl, ap, sym, ◌∙◌}
-use mathlib.Core.Bool.{Bool, true, false, cond}
-use mathlib.Core.Logic.{◌⊎◌, inl, inr}
-use mathlib.Core.List.{List}
-use Prim.Native.Nat.{ℕ}
-use native.Mathlib.Omega.{arith}
-use lib.IntN.{ℤ, pos, nat_abs, suc_ℤ}
+use Rattle.std.proofs.Common.{◌≡◌, ℕ, Bool, true, false, cond, ◌⊎◌, List, ℤ, pos, nat_abs, sym, refl, ap, ◌∙◌, inl, inr, arith}
+use lib.IntN.{suc_ℤ}
 use lib.Ieee.{Float}
 use Rattle.refusals.specs.Outcome.{Outcome, answer, refusal, onward}
 use Rattle.floats.specs.Whole.{nought, half}

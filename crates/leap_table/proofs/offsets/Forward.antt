@@ -1,12 +1,7 @@
 -- What a walk forward reads of a table: the starts of its rows, one after the other, and nothing past the last.
 -- Assumes nothing.
-use mathlib.Core.Path.{◌≡◌, refl, ap, sym, ◌∙◌}
-use mathlib.Core.List.{List, [], ◌∷◌}
-use Prim.Native.Nat.{ℕ, zero, suc, ◌+◌, ◌-◌, ◌≤◌, ◌<◌}
-use native.Mathlib.Omega.{arith}
-use native.Mathlib.Nat.{not-suc-le-zero, le_of_suc-le-suc}
-use lib.Dec.{eqb}
-use lib.ListN.{length, get_or}
+use Rattle.std.proofs.Common.{◌≡◌, ℕ, zero, suc, ◌+◌, ◌-◌, ◌<◌, ◌≤◌, eqb, List, [], ◌∷◌, length, get_or, sym, refl, ap, ◌∙◌, le_of_suc-le-suc, not-suc-le-zero}
+use Rattle.std.proofs.Common.{arith}
 use lib.Ieee.{Float, round}
 use Rattle.floats.specs.Whole.{nought}
 use Rattle.leap_table.specs.declared.rows.AnnouncedRows.{AnnouncedRows}
@@ -48,7 +43,8 @@ module _ (t : AnnouncedRows) where
       ∙ ap (λ (r : Row). r.month) (sym (fixed-place t (announced_size t) i h))
       ∙ sym (starts-at (rows_of t) i never (omega (arith, len)))
 
-  pub start-announced : (i : ℕ) → fixed_rows ≤ i → i - fixed_rows < announced_size t → (announced_row t (i - fixed_rows)).month ≡ get_or (starts (rows_of t)) i never
+  pub start-announced : (i : ℕ) → fixed_rows ≤ i → i - fixed_rows < announced_size t → (announced_row t (i - fixed_rows)).month ≡ get_or
+      (starts (rows_of t)) i never
   start-announced i l h =
       ap (λ (r : Row). r.month) (sym (announced_place t (announced_size t) (i - fixed_rows) h))
       ∙ ap (λ (k : ℕ). (get_or (rows_of t) k none).month) back

@@ -1,16 +1,9 @@
 -- The Modified Julian Date of a date with a 32-bit year is below 10^12 in size, so that its float is exact and the next day's does not overflow; and what the
 -- calls of the calendar answer. Assumes nothing.
-use mathlib.Core.Path.{◌≡◌, refl, ap, sym, subst, ◌∙◌}
-use mathlib.Core.Bool.{Bool, true, false, cond}
-use Prim.Native.Nat.{ℕ, zero, suc, ◌+◌, ◌-◌, ◌^◌, ◌≤◌, ◌<◌}
-use native.Mathlib.Omega.{arith}
-use lib.Dec.{T, ltb, leb}
-use lib.IntN.{ℤ, pos, negsuc, nat_abs, sub_ℕ, suc_ℤ, ◌+ℤ◌, +ℤ_one}
+use Rattle.std.proofs.Common.{◌≡◌, ℕ, zero, suc, ◌+◌, ◌-◌, ◌^◌, ◌<◌, ◌≤◌, Bool, true, false, cond, T, ltb, leb, ℤ, pos, negsuc, ◌+ℤ◌, nat_abs, sym, refl, ap}
+use Rattle.std.proofs.Common.{◌∙◌, subst, arith, to_z-of_z, w32, w64, SFits, to_z, of_z, ltb-true, lt-ltb, le-leb}
+use lib.IntN.{sub_ℕ, suc_ℤ, +ℤ_one}
 use lib.Ieee.{binary64, in_float}
-use mir.Syntax.{w32, w64}
-use mir.Val.{SFits, to_z, of_z}
-use mir.Facts.{to_z-of_z}
-use borrow.Author.Tests.{le-leb, lt-ltb, ltb-true}
 use Rattle.refusals.specs.Outcome.{answer, refusal}
 use Rattle.calendar.specs.Calendar.{leap_year}
 use Rattle.calendar.specs.Refusals.{next_of}

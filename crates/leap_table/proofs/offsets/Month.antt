@@ -1,16 +1,8 @@
 -- The number of a month, from a signed year.
 -- Assumes nothing.
-use mathlib.Core.Path.{◌≡◌, refl, ap, sym, subst, ◌∙◌}
-use mathlib.Core.Bool.{true, false, true≢false}
-use Prim.Native.Nat.{ℕ, ◌≤◌}
-use native.Mathlib.Omega.{arith}
-use lib.Dec.{T}
-use lib.IntN.{ℤ, pos, negsuc, nat_abs}
+use Rattle.std.proofs.Common.{◌≡◌, ℕ, ◌≤◌, true, false, T, ℤ, pos, negsuc, nat_abs, sym, refl, ap, ◌∙◌, subst, true≢false, arith, to_z-of_z, w32, w64, Fits}
+use Rattle.std.proofs.Common.{SFits, to_z, of_z, ltb-true}
 use lib.Signed.{lt_z, non_neg}
-use mir.Syntax.{w32, w64}
-use mir.Val.{SFits, Fits, to_z, of_z}
-use mir.Facts.{to_z-of_z}
-use borrow.Author.Tests.{ltb-true}
 use Rattle.leap_table.specs.rows.Table.{month_number, month_of}
 
 small : (z : ℤ) → SFits w32 z → nat_abs z ≤ 2147483648

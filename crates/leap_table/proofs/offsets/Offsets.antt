@@ -1,11 +1,6 @@
 -- The offset at a fraction of a day, by its cases: the fraction refused, the date refused, and the offset of the month's row.
 -- Assumes nothing.
-use mathlib.Core.Path.{◌≡◌, refl, ap}
-use mathlib.Core.Bool.{Bool, true, false, not, cond}
-use mathlib.Core.List.{List}
-use Prim.Native.Nat.{ℕ}
-use native.Mathlib.Omega.{arith}
-use lib.IntN.{ℤ, nat_abs}
+use Rattle.std.proofs.Common.{◌≡◌, ℕ, Bool, true, false, cond, List, ℤ, nat_abs, refl, arith}
 use lib.Ieee.{Float, binary64, of_int, le}
 use Rattle.refusals.specs.Outcome.{Outcome, answer, refusal, onward}
 use Rattle.floats.specs.Whole.{nought, half, one}
@@ -13,22 +8,18 @@ use Rattle.calendar.specs.DayCount.{mjd_of}
 use Rattle.leap_table.specs.rows.Table.{Row, month_number}
 use Rattle.leap_table.specs.offsets.Offset.{offset_at, in_day, tai_utc_offset}
 
-flip : (b t : Bool) → not b ≡ t → b ≡ not t
-flip true t e = ap not e
-flip false t e = ap not e
-
 -- ---- the two tests of the code
-pub too_low : (f : Float) → not (le nought f) ≡ true → in_day f ≡ false
+pub too_low : (f : Float) → le nought f ≡ false → in_day f ≡ false
 unfolding in_day
-too_low f e = rw (flip (le nought f) _ e)
+too_low f e = rw e
 
-pub too_high : (f : Float) → not (le nought f) ≡ false → not (le f one) ≡ true → in_day f ≡ false
+pub too_high : (f : Float) → le nought f ≡ true → le f one ≡ false → in_day f ≡ false
 unfolding in_day
-too_high f e g = rw (flip (le nought f) _ e, flip (le f one) _ g)
+too_high f e g = rw (e, g)
 
-pub in-day : (f : Float) → not (le nought f) ≡ false → not (le f one) ≡ false → in_day f ≡ true
+pub in-day : (f : Float) → le nought f ≡ true → le f one ≡ true → in_day f ≡ true
 unfolding in_day
-in-day f e g = rw (flip (le nought f) _ e, flip (le f one) _ g)
+in-day f e g = rw (e, g)
 
 pub in_day_zero : in_day nought ≡ true
 unfolding in_day le
@@ -72,4 +63,5 @@ in_day_of false o x e = let z : ◌≡◌ {A = ℕ} 0 1 = cc in absurd (omega ar
 
 pub offset-in-day : (rows : List Row) (y m d : ℤ) (f x : Float) → tai_utc_offset rows y m d f ≡ answer x → in_day f ≡ true
 unfolding tai_utc_offset
-offset-in-day rows y m d f x e = in_day_of (in_day f) (onward (mjd_of y m d) (λ n. answer (offset_at rows (month_number y (nat_abs m)) (of_int binary64 n) f))) x e
+offset-in-day rows y m d f x e = in_day_of (in_day f) (onward (mjd_of y m d) (λ n. answer (offset_at rows (month_number y (nat_abs m)) (of_int binary64 n) f)))
+    x e

@@ -1,18 +1,11 @@
 -- The dates from 1972 on up to the 27th of a month: the next date is in the same month, and one number of whole seconds is TAI-UTC at the start, the middle and
 -- the end of the day, and at every fraction of it.
 -- Assumes nothing.
-use mathlib.Core.Path.{◌≡◌, refl, ap, sym, ◌∙◌}
-use mathlib.Core.Bool.{Bool, true, false}
-use mathlib.Core.List.{List}
-use Prim.Native.Nat.{ℕ, ◌≤◌}
-use native.Mathlib.Omega.{arith}
-use lib.IntN.{ℤ, pos, negsuc, nat_abs, suc_ℤ}
+use Rattle.std.proofs.Common.{◌≡◌, ℕ, ◌≤◌, Bool, true, false, List, ℤ, pos, negsuc, nat_abs, sym, refl, ap, ◌∙◌, arith, to_z-of_z, w32, SFits, to_z, of_z}
+use Rattle.std.proofs.Common.{ltb-false, leb-true}
+use lib.IntN.{suc_ℤ}
 use lib.Signed.{lt_z, le_z}
 use lib.Ieee.{Float, binary64, of_int, sub, mul}
-use mir.Syntax.{w32}
-use mir.Val.{SFits, to_z, of_z}
-use mir.Facts.{to_z-of_z}
-use borrow.Author.Tests.{ltb-false, leb-true}
 use Rattle.refusals.specs.Outcome.{Outcome, answer, onward}
 use Rattle.floats.specs.Whole.{nought, half}
 use Rattle.calendar.specs.Calendar.{date, leap_year, lengths}
@@ -66,7 +59,8 @@ pub plain-accepted : (y m d : ℤ) → Plain y m d → Accepted y m d
 plain-accepted y m d p = date-accepted y m d (valid y m d p)
 
 -- a call is handed its three numbers read back from their bits
-pub read_plain : (y m d : ℤ) → SFits w32 y → SFits w32 m → SFits w32 d → Plain (to_z w32 (of_z w32 y)) (to_z w32 (of_z w32 m)) (to_z w32 (of_z w32 d)) → Plain y m d
+pub read_plain : (y m d : ℤ) → SFits w32 y → SFits w32 m → SFits w32 d → Plain (to_z w32 (of_z w32 y)) (to_z w32 (of_z w32 m)) (to_z w32 (of_z w32 d))
+    → Plain y m d
 read_plain y m d f g h p = rw (to_z-of_z f, to_z-of_z g, to_z-of_z h) at p
 
 -- and told of these again

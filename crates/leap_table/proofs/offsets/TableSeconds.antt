@@ -1,20 +1,11 @@
 -- A table that is taken, by months: up to the last fixed row's month it is the fixed table, from 1972 on TAI-UTC is 10 to `most_seconds` whole seconds at every
 -- fraction of a day, and from one month to the next it stays or steps by one second, the latter where a row begins.
 -- Assumes nothing.
-use mathlib.Core.Path.{◌≡◌, refl, ap, sym, subst, ◌∙◌}
-use mathlib.Core.Bool.{Bool, true, false, ◌&&◌, ◌||◌}
-use mathlib.Core.Logic.{◌⊎◌}
-use mathlib.Core.List.{List}
-use Prim.Native.Nat.{ℕ, zero, suc, ◌+◌, ◌-◌, ◌*◌, ◌^◌, ◌/◌, ◌≤◌, ◌<◌}
-use native.Mathlib.Omega.{arith}
-use native.Mathlib.Nat.{add-suc}
-use lib.Dec.{T, eqb, ltb, leb, eqb→eq, leb→le}
-use lib.ListN.{length, get_or, drop, length-drop}
-use lib.Seq.{get_or-drop}
+use Rattle.std.proofs.Common.{◌≡◌, ℕ, zero, suc, ◌+◌, ◌-◌, ◌*◌, ◌/◌, ◌^◌, ◌<◌, ◌≤◌, Bool, true, false, ◌&&◌, ◌||◌, T, eqb, ltb, leb, ◌⊎◌, List, length, get_or}
+use Rattle.std.proofs.Common.{drop, sym, refl, ap, ◌∙◌, subst, add-suc, arith, eqb→eq, leb→le, length-drop, get_or-drop, ltb-false, ltb-true}
 use lib.Ieee.{Float, binary64, of_int}
 use lib.Ieee.Scale.{round_same}
 use lib.Ieee.Fits.{and_l, and_r}
-use borrow.Author.Tests.{ltb-true, ltb-false}
 use Rattle.refusals.specs.Outcome.{answer}
 use Rattle.leap_table.specs.declared.rows.AnnouncedRows.{AnnouncedRows}
 use Rattle.leap_table.specs.rows.Table.{Row, fixed, starts, reached, rising, none, fixed_rows, last_month, last_seconds, most_seconds}
@@ -48,7 +39,8 @@ fixed-whole k h l = go (ltb k 14) refl (at whole_test fixed tested k (omega (ari
   where
     go : (b : Bool) → ltb k 14 ≡ b → T
         (b || (eqb (get_or fixed k none).units (10000000 * ((get_or fixed k none).units / 10000000)) &&
-        (leb 10 ((get_or fixed k none).units / 10000000) && leb ((get_or fixed k none).units / 10000000) last_seconds))) → WholeRow (get_or fixed k none) 10 last_seconds
+        (leb 10 ((get_or fixed k none).units / 10000000) && leb ((get_or fixed k none).units / 10000000) last_seconds))) → WholeRow
+        (get_or fixed k none) 10 last_seconds
     go true e t = absurd (omega (arith, ltb-true k 14 e))
     go false e t =
         let s = (get_or fixed k none).units / 10000000 in
@@ -92,7 +84,12 @@ module _ (t : AnnouncedRows) (rows : List Row) (e : table_of t ≡ answer rows) 
   announced_whole i h =
       let (a, b) = announced_seconds_near t rows e i h in
       let g = k.most in
-      record { units = back (seconds_at t i); at_least = omega (arith, back' (seconds_at t i), a, h, g); at_most = omega (arith, back' (seconds_at t i), b, h, g) }
+      record {
+        units = back (seconds_at t i);
+        at_least = omega (arith, back' (seconds_at t i), a, h, g);
+        at_most = omega
+            (arith, back' (seconds_at t i), b, h, g);
+      }
     where
       back' : (s : ℕ) → 10000000 * s / 10000000 ≡ s
       back' s = omega arith
@@ -163,7 +160,8 @@ module _ (t : AnnouncedRows) (rows : List Row) (e : table_of t ≡ answer rows) 
     pub seconds-stay : member (suc n) (starts rows) ≡ false → seconds_in rows (suc n) ≡ seconds_in rows n
     seconds-stay b = ap (λ (j : ℕ). (get_or rows (j - 1) none).units / 10000000) (month-later (starts rows) (table-rises t rows e) n ∙ rw b)
 
-    pub seconds-step : member (suc n) (starts rows) ≡ true → (seconds_in rows (suc n) ≡ seconds_in rows n + 1) ⊎ (seconds_in rows n ≡ seconds_in rows (suc n) + 1)
+    pub seconds-step : member (suc n) (starts rows) ≡ true → (seconds_in rows (suc n) ≡ seconds_in rows n + 1) ⊎
+        (seconds_in rows n ≡ seconds_in rows (suc n) + 1)
     seconds-step b =
         let q : reached (starts rows) (suc n) ≡ suc R = month-later (starts rows) (table-rises t rows e) n ∙ rw b in
         near (seconds_in rows n) (seconds_in rows (suc n))

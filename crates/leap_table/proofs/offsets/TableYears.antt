@@ -1,12 +1,7 @@
 -- From 1972 on no row of a table drifts, whatever is announced: TAI-UTC is the seconds of the row reached, at every fraction of the day.
 -- Assumes nothing.
-use mathlib.Core.Path.{◌≡◌, refl, ap, ◌∙◌}
-use mathlib.Core.Bool.{not}
-use Prim.Native.Nat.{ℕ, ◌-◌, ◌≤◌}
-use native.Mathlib.Omega.{arith}
-use lib.ListN.{get_or}
+use Rattle.std.proofs.Common.{◌≡◌, ℕ, ◌-◌, ◌≤◌, not, get_or, refl, ap, ◌∙◌, arith, le-ltb}
 use lib.Ieee.{Float}
-use borrow.Author.Tests.{le-ltb}
 use Rattle.leap_table.specs.declared.rows.AnnouncedRows.{AnnouncedRows}
 use Rattle.leap_table.specs.rows.Table.{starts, reached, none}
 use Rattle.leap_table.specs.rows.Announced.{announced_size, rows_of}

@@ -1,13 +1,7 @@
 -- The whole seconds of the row reached, counted in the fixed rows from 1972 on and read in the announced ones. Assumes nothing.
-use mathlib.Core.Path.{◌≡◌, refl, ap, sym, ◌∙◌}
-use mathlib.Core.Bool.{Bool, true, false, ◌||◌}
-use Prim.Native.Nat.{ℕ, ◌+◌, ◌-◌, ◌*◌, ◌/◌, ◌≤◌, ◌<◌}
-use native.Mathlib.Omega.{arith}
-use lib.Dec.{T, eqb, ltb, eqb→eq}
-use lib.ListN.{length, get_or}
-use lib.IntN.{ℤ, pos, negsuc}
+use Rattle.std.proofs.Common.{◌≡◌, ℕ, ◌+◌, ◌-◌, ◌*◌, ◌/◌, ◌<◌, ◌≤◌, Bool, true, false, ◌||◌, T, eqb, ltb, length, get_or, ℤ, pos, negsuc, sym, refl, ap, ◌∙◌}
+use Rattle.std.proofs.Common.{arith, eqb→eq, ltb-false, ltb-true, le-ltb, lt-ltb}
 use lib.Signed.{lt_z}
-use borrow.Author.Tests.{ltb-true, ltb-false, lt-ltb, le-ltb}
 use Rattle.leap_table.specs.declared.rows.AnnouncedRows.{AnnouncedRows}
 use Rattle.leap_table.specs.rows.Table.{Row, fixed, starts, reached, month_number, none, fixed_rows}
 use Rattle.leap_table.specs.rows.Announced.{seconds_at, announced_size, rows_of}

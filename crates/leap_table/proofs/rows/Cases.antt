@@ -1,11 +1,7 @@
 -- ANNOUNCED TABLES, by computation: each refusal at its edge, in its order, and tables at both ends of what is taken, with sixteen rows, sixteen seconds up and
 -- down. The rows follow the last fixed one, whichever it is.
 -- Assumes nothing.
-use mathlib.Core.Path.{◌≡◌, refl}
-use mathlib.Core.List.{List, [], ◌∷◌, ◌++◌}
-use Prim.Native.Nat.{ℕ, zero, suc, ◌+◌, ◌-◌, ◌*◌}
-use lib.IntN.{ℤ, pos, negsuc}
-use lib.ListN.{length}
+use Rattle.std.proofs.Common.{◌≡◌, ℕ, zero, suc, ◌+◌, ◌-◌, ◌*◌, List, [], ◌∷◌, ◌++◌, length, ℤ, pos, negsuc, refl}
 use Rattle.refusals.specs.Outcome.{answer, refusal}
 use Rattle.leap_table.specs.declared.rows.AnnouncedRows.{AnnouncedRows}
 use Rattle.leap_table.specs.rows.Table.{Row, fixed, reached, most_rows, last_month, last_seconds, most_seconds}
@@ -95,7 +91,8 @@ pub sixteen-up : table_of (announced 16 16 (months_from 16 later) (seconds-up 16
 unfolding table_of rows_to announced_size fixed
 sixteen-up = refl
 
-pub sixteen-down : table_of (announced 16 16 (months_from 16 later) (seconds-down 16 (last_seconds - 1))) ≡ answer (fixed ++ rows-down 16 later (last_seconds - 1))
+pub sixteen-down : table_of (announced 16 16 (months_from 16 later) (seconds-down 16 (last_seconds - 1))) ≡ answer
+    (fixed ++ rows-down 16 later (last_seconds - 1))
 unfolding table_of rows_to announced_size fixed
 sixteen-down = refl
 

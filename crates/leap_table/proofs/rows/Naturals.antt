@@ -1,16 +1,9 @@
 -- A number of the announced rows counted from 0, as the machine tests and reads it.
 -- Assumes nothing.
-use mathlib.Core.Path.{◌≡◌, refl, ap, sym, ◌∙◌}
-use mathlib.Core.Bool.{Bool, true, false, true≢false, cond}
-use Prim.Native.Nat.{ℕ, ◌≤◌, ◌<◌}
-use native.Mathlib.Omega.{arith}
-use lib.Dec.{T, leb}
-use lib.IntN.{ℤ, pos, negsuc, nat_abs}
+use Rattle.std.proofs.Common.{◌≡◌, ℕ, ◌<◌, ◌≤◌, Bool, true, false, cond, T, leb, ℤ, pos, negsuc, nat_abs, sym, refl, ap, ◌∙◌, true≢false, arith, to_z-of_z, w32}
+use Rattle.std.proofs.Common.{Fits, SFits, to_z, of_z, ltb-true, leb-false, leb-true}
 use lib.Signed.{lt_z, le_z, non_neg}
-use mir.Syntax.{w32}
-use mir.Val.{SFits, Fits, to_z, of_z}
-use mir.Facts.{to_z-of_z}
-use borrow.Author.Tests.{ltb-true, leb-true, leb-false}
+use borrow.Author.Tests.{lt-leb}
 use Rattle.leap_table.specs.rows.Announced.{natural, least}
 
 least-left : (a b : ℕ) → least a b ≤ a
@@ -64,3 +57,8 @@ begun-or-not (pos k) n f = (λ e. omega (arith, leb-true k (least n 2147483647) 
         go : (b : Bool) → leb n 2147483647 ≡ b → n < k
         go true e = omega (arith, h, least-is true e)
         go false e = absurd (omega (arith, h, least-is false e, small (pos k) f))
+
+-- the same by the other test: a month above n cut at that number has not begun
+pub not_begun : (z : ℤ) (n : ℕ) → SFits w32 z → lt_z (pos (least n 2147483647)) z ≡ true → n < natural z
+not_begun (negsuc k) n f e = absurd (true≢false (sym e))
+not_begun (pos k) n f e = (begun-or-not (pos k) n f).1 (lt-leb k (least n 2147483647) (ltb-true (least n 2147483647) k e))

@@ -1,6 +1,5 @@
 -- A table that lends no row, by which a law of every table is one of the fixed table. Assumes nothing.
-use mathlib.Core.Path.{◌≡◌, refl}
-use mathlib.Core.List.{[]}
+use Rattle.std.proofs.Common.{◌≡◌, [], refl}
 use Rattle.refusals.specs.Outcome.{answer}
 use Rattle.leap_table.specs.declared.rows.AnnouncedRows.{AnnouncedRows}
 use Rattle.leap_table.specs.rows.Table.{fixed}

@@ -1,16 +1,10 @@
 -- The look-up in any list of months: what it finds from the end, that it is the last month that has begun, and how it grows from month to month in a list that
 -- rises. Assumes nothing.
-use mathlib.Core.Path.{◌≡◌, refl, ap, sym, subst, ◌∙◌}
-use mathlib.Core.Bool.{Bool, true, false, cond, ◌||◌}
-use mathlib.Core.List.{List, [], ◌∷◌, ◌++◌}
-use Prim.Native.Nat.{ℕ, zero, suc, ◌-◌, ◌≤◌, ◌<◌}
-use native.Mathlib.Omega.{arith}
-use native.Mathlib.Nat.{not-suc-le-zero, le_of_suc-le-suc}
-use lib.Dec.{T, eqb, leb, ltb, ltb→lt}
-use lib.ListN.{length, get_or, drop}
-use lib.Seq.{drop-cons, drop-length}
+use Rattle.std.proofs.Common.{◌≡◌, ℕ, zero, suc, ◌-◌, ◌<◌, ◌≤◌, Bool, true, false, cond, ◌||◌, T, eqb, ltb, leb, List, [], ◌∷◌, ◌++◌, length, get_or, drop, sym}
+use Rattle.std.proofs.Common.{refl, ap, ◌∙◌, subst, le_of_suc-le-suc, not-suc-le-zero, arith, ltb→lt, drop-cons, ne_eqb, eqb-true, le-leb, leb-false, leb-true}
+use lib.Seq.{drop-length}
 use lib.Ieee.Fits.{and_l, and_r}
-use borrow.Author.Tests.{le-leb, lt-leb, leb-true, leb-false, eqb-true, eqb-false, ne_eqb}
+use borrow.Author.Tests.{lt-leb, eqb-false}
 use Rattle.leap_table.specs.rows.Table.{reached, on_top, rising, LastBegun}
 
 top_one : (k : ℕ) (b : Bool) → k ≡ 0 → b ≡ true → on_top k b ≡ 1

@@ -1,12 +1,8 @@
 -- A row's place in a list of its decimals. And what is computed over the fixed table: how many rows it has, that they rise, and that the first 14 drift and no
 -- other. Assumes nothing.
-use mathlib.Core.Path.{◌≡◌, refl, sym, subst, ◌∙◌}
-use mathlib.Core.Bool.{Bool, true, false, not, ◌&&◌, beq}
-use mathlib.Core.List.{List, [], ◌∷◌, map}
-use Prim.Native.Nat.{ℕ, zero, suc, ◌+◌, ◌<◌}
-use native.Mathlib.Nat.{not-suc-le-zero, le_of_suc-le-suc, add-zero, zero-add, add-suc, suc-add}
-use lib.Dec.{T, ltb, eqb}
-use lib.ListN.{length, get_or}
+use Rattle.std.proofs.Common.{◌≡◌, ℕ, zero, suc, ◌+◌, ◌<◌, Bool, true, false, not, ◌&&◌, T, eqb, ltb, List, [], ◌∷◌, map, length, get_or, sym, refl, ◌∙◌, subst}
+use Rattle.std.proofs.Common.{le_of_suc-le-suc, not-suc-le-zero, add-zero, add-suc, suc-add, zero-add}
+use mathlib.Core.Bool.{beq}
 use lib.Ieee.{Float, nan}
 use lib.Ieee.Fits.{and_l, and_r}
 use Rattle.leap_table.specs.rows.Table.{Row, fixed, none, starts, rising, fixed_rows}

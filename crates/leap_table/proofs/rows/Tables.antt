@@ -1,15 +1,11 @@
 -- The rows of a table with announced ones: how many, which row stands at which place, which of them drift, and the look-up from the end.
 -- Assumes nothing.
-use mathlib.Core.Path.{◌≡◌, refl, ap, sym, ◌∙◌}
-use mathlib.Core.Bool.{Bool, true, false, not, cond, ◌&&◌}
-use mathlib.Core.List.{List, [], ◌∷◌, ◌++◌, map-append}
-use Prim.Native.Nat.{ℕ, zero, suc, ◌+◌, ◌-◌, ◌*◌, ◌/◌, ◌≤◌, ◌<◌}
-use native.Mathlib.Omega.{arith}
-use native.Mathlib.Nat.{not-suc-le-zero, add-suc, le_refl}
-use lib.Dec.{eqb, leb, ltb}
-use lib.ListN.{length, get_or, drop, length-append, length-map, length-drop, get_or-append}
+use Rattle.std.proofs.Common.{◌≡◌, ℕ, zero, suc, ◌+◌, ◌-◌, ◌*◌, ◌/◌, ◌<◌, ◌≤◌, Bool, true, false, cond, not, ◌&&◌, eqb, ltb, leb, List, [], ◌∷◌, ◌++◌, length}
+use Rattle.std.proofs.Common.{get_or, drop, sym, refl, ap, ◌∙◌, le_refl, not-suc-le-zero, add-suc, arith, length-append, length-drop, ltb-false, ltb-true}
+use Rattle.std.proofs.Common.{le-ltb, leb-false, leb-true}
+use mathlib.Core.List.{map-append}
+use lib.ListN.{length-map, get_or-append}
 use lib.Seq.{get_or_at, drop-append-le}
-use borrow.Author.Tests.{ltb-true, ltb-false, le-ltb, leb-true, leb-false}
 use Rattle.leap_table.specs.declared.rows.AnnouncedRows.{AnnouncedRows}
 use Rattle.leap_table.specs.rows.Table.{Row, fixed, none, starts, reached, in_turn, rising, fixed_rows, last_month, last_seconds}
 use Rattle.leap_table.specs.rows.Announced.{seconds_at, announced_row, rows_to, least, announced_size, one_apart, one_second, by_seconds}
@@ -63,7 +59,8 @@ module _ (t : AnnouncedRows) where
           → get_or (rows_to t n ++ (announced_row t n ∷ [])) (fixed_rows + k) none ≡ announced_row t k
       go true e more = get_or-append (rows_to t n) (announced_row t n ∷ []) none (fixed_rows + k) (omega (arith, table-length n, ltb-true k n e))
           ∙ more (ltb-true k n e)
-      go false e more = get_or_at (rows_to t n) (announced_row t n) [] none (fixed_rows + k) (table-length n ∙ ap (λ (j : ℕ). fixed_rows + j) (sym (same k n e h)))
+      go false e more = get_or_at (rows_to t n) (announced_row t n) [] none (fixed_rows + k)
+          (table-length n ∙ ap (λ (j : ℕ). fixed_rows + j) (sym (same k n e h)))
           ∙ ap (announced_row t) (sym (same k n e h))
 
   -- the rows of places 0 to 13 drift, and no other

@@ -1,13 +1,7 @@
 -- The call as a whole: its refusals in their order, what is known where nothing is refused, and what the lent list holds. Assumes nothing.
-use Prim.Native.Nat.{ℕ, zero, suc, ◌≤◌}
-use native.Mathlib.Omega.{arith}
-use mathlib.Core.Path.{◌≡◌, refl, sym, ap, subst, ◌∙◌}
-use mathlib.Core.Bool.{Bool, true, false, cond}
-use mathlib.Core.List.{List, ◌++◌, map}
-use lib.Dec.{T, leb}
-use lib.ListN.{length, drop}
+use Rattle.std.proofs.Common.{◌≡◌, ℕ, zero, suc, ◌≤◌, Bool, true, false, cond, T, leb, List, ◌++◌, map, length, drop, sym, refl, ap, ◌∙◌, subst, arith}
+use Rattle.std.proofs.Common.{leb-true}
 use lib.Ieee.{Float}
-use borrow.Author.Tests.{leb-true}
 use Rattle.refusals.specs.Outcome.{Outcome, answer, refusal, onward}
 use Rattle.refusals.proofs.Onward.{came}
 use Rattle.leap_table.specs.rows.Table.{Row, starts, rising}
@@ -53,7 +47,8 @@ module _ (rows : List Row) (dates : List Triple) (places : ℕ) where
   through true x e = go (leb (length dates) places) refl e
     where
       go : (c : Bool) → leb (length dates) places ≡ c → cond c (onward (judged_all dates) (λ _. answer (walked rows dates))) (refusal 11) ≡ answer x → Through
-      go true p q = let (u, v, w) = came (judged_all dates) (λ _. answer (walked rows dates)) x q in record { fits = leb-true (length dates) places p; good = v }
+      go true p q = let (u, v, w) = came (judged_all dates) (λ _. answer (walked rows dates)) x q in record
+          { fits = leb-true (length dates) places p; good = v }
       go false p q = let z : ◌≡◌ {A = ℕ} 0 1 = cc in absurd (omega arith)
   through false x e = let z : ◌≡◌ {A = ℕ} 0 1 = cc in absurd (omega arith)
 
@@ -71,9 +66,11 @@ module _ (t : AnnouncedRows) (b : Bool) (dates : List Triple) (places : ℕ) whe
 
   pub judged-walk : (k : ℕ) → unless_refused k tt ≡ judged → unless_refused k (walked (rows_of t) dates) ≡ whole
   unfolding onward
-  judged-walk k e = by_number k (walked (rows_of t) dates) ∙ ap (λ (o : Outcome Unit). onward o (λ _. answer (walked (rows_of t) dates))) e ∙ go (table_of t) refl
+  judged-walk k e = by_number k (walked (rows_of t) dates) ∙ ap (λ (o : Outcome Unit). onward o (λ _. answer (walked (rows_of t) dates))) e ∙ go
+      (table_of t) refl
     where
-      go : (o : Outcome (List Row)) → table_of t ≡ o → onward (onward o (λ _. judged_list b dates places)) (λ _. answer (walked (rows_of t) dates)) ≡ onward o next
+      go : (o : Outcome (List Row)) → table_of t ≡ o → onward (onward o (λ _. judged_list b dates places)) (λ _. answer (walked (rows_of t) dates))
+          ≡ onward o next
       go (answer rows) p = ap (λ (l : List Row). onward (judged_list b dates places) (λ _. answer (walked l dates))) (sym (when_taken t rows p).all)
           ∙ judged-first rows dates places b
       go (refusal j) p = refl

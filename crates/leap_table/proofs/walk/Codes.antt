@@ -1,11 +1,6 @@
 -- The number of rows compared is far below 2^63, so that a caller from C gets it as it is. Assumes nothing.
-use Prim.Native.Nat.{ℕ, ◌+◌, ◌≤◌}
-use native.Mathlib.Omega.{arith}
-use mathlib.Core.Path.{◌≡◌, sym, ap}
-use mathlib.Core.Bool.{Bool, true, false, cond}
-use mathlib.Core.List.{List, map}
-use lib.Dec.{leb}
-use lib.ListN.{length, length-map}
+use Rattle.std.proofs.Common.{◌≡◌, ℕ, ◌+◌, ◌≤◌, Bool, true, false, cond, leb, List, map, length, sym, ap, arith}
+use lib.ListN.{length-map}
 use Rattle.refusals.specs.Outcome.{answer, refusal, onward}
 use Rattle.refusals.proofs.Onward.{came}
 use Rattle.leap_table.specs.rows.Table.{Row, starts, most_rows}

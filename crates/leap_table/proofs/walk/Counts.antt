@@ -1,12 +1,8 @@
 -- How many rows a walk compares: at most the dates plus the rows of the table, so the dates plus `fixed_rows` in the fixed table and plus `most_rows` in every
 -- table that is taken; and the count in closed form. Assumes nothing.
-use Prim.Native.Nat.{ℕ, zero, suc, ◌+◌, ◌-◌, ◌≤◌, ◌<◌}
-use native.Mathlib.Omega.{arith}
-use mathlib.Core.Path.{◌≡◌, refl, ap, ◌∙◌}
-use mathlib.Core.Bool.{Bool, true, false, cond}
-use mathlib.Core.List.{List, [], ◌∷◌}
-use lib.Dec.{T, leb, leb→le}
-use lib.ListN.{length, length-map, drop, get_or}
+use Rattle.std.proofs.Common.{◌≡◌, ℕ, zero, suc, ◌+◌, ◌-◌, ◌<◌, ◌≤◌, Bool, true, false, cond, T, leb, List, [], ◌∷◌, length, get_or, drop, refl, ap, ◌∙◌, arith}
+use Rattle.std.proofs.Common.{leb→le}
+use lib.ListN.{length-map}
 use lib.Ieee.Fits.{and_l, and_r}
 use native.Mathlib.Decide.{dec_lt}
 use borrow.Author.Tests.{lt-leb}
@@ -40,7 +36,8 @@ compared-most l (n ∷ months) = omega (arith, held-most l n, compared-most (lef
 pub most-by-fixed : (months : List ℕ) → compared (starts fixed) months ≤ length months + fixed_rows
 most-by-fixed months = omega (arith, compared-most (starts fixed) months, length-map fixed (λ (r : Row). r.month), fixed-length)
 
-pub most-by-any : (t : AnnouncedRows) (rows : List Row) → table_of t ≡ answer rows → (months : List ℕ) → compared (starts rows) months ≤ length months + most_rows
+pub most-by-any : (t : AnnouncedRows) (rows : List Row) → table_of t ≡ answer rows → (months : List ℕ) → compared
+    (starts rows) months ≤ length months + most_rows
 most-by-any t rows e months = omega (arith, compared-most (starts rows) months, length-map rows (λ (r : Row). r.month), (lengths t rows e).1)
 
 -- no date compares no row

@@ -1,14 +1,8 @@
 -- WHICH NUMBER EACH WALK GETS, for all lists of dates and all rooms: 14, 11, or that of the first date that does not stand, and an answer else. Assumes
 -- nothing.
-use Prim.Native.Nat.{ℕ, zero, suc, ◌*◌, ◌/◌, ◌%◌, ◌<◌, ◌≤◌}
-use native.Mathlib.Omega.{arith}
-use mathlib.Core.Path.{◌≡◌, refl, sym, ap, ◌∙◌}
-use mathlib.Core.Bool.{Bool, true, false, true≢false, cond}
-use mathlib.Core.List.{List, [], ◌∷◌}
-use lib.Dec.{eqb, leb}
-use lib.IntN.{ℤ}
-use lib.ListN.{length, get_or}
-use borrow.Author.Tests.{eqb-true, eqb-false, leb-true, leb-false}
+use Rattle.std.proofs.Common.{◌≡◌, ℕ, zero, suc, ◌*◌, ◌/◌, ◌%◌, ◌<◌, ◌≤◌, Bool, true, false, cond, eqb, leb, List, [], ◌∷◌, length, get_or, ℤ, sym, refl, ap}
+use Rattle.std.proofs.Common.{◌∙◌, true≢false, arith, eqb-true, leb-false, leb-true}
+use borrow.Author.Tests.{eqb-false}
 use Rattle.refusals.specs.Outcome.{Outcome, answer, refusal, onward}
 use Rattle.refusals.proofs.Onward.{went, stopped}
 use Rattle.numerals.specs.little_endian.LittleEndian.{four_at, u32_at, signed32}

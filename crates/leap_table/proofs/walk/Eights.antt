@@ -1,9 +1,5 @@
 -- Offsets written as bytes, eight places each. Assumes nothing.
-use Prim.Native.Nat.{ℕ, ◌+◌, ◌-◌, ◌*◌, ◌≤◌, ◌<◌}
-use native.Mathlib.Omega.{arith}
-use mathlib.Core.Path.{◌≡◌, refl, ◌∙◌}
-use mathlib.Core.List.{List, [], ◌∷◌, ◌++◌, append_assoc, map}
-use lib.ListN.{length, take, drop}
+use Rattle.std.proofs.Common.{◌≡◌, ℕ, ◌+◌, ◌-◌, ◌*◌, ◌<◌, ◌≤◌, List, [], ◌∷◌, ◌++◌, map, length, take, drop, refl, ◌∙◌, append_assoc, arith}
 use lib.Seq.{sets, sets-eq}
 use lib.Ieee.{Float, binary64, to_bits}
 use Rattle.numerals.specs.little_endian.LittleEndian.{eight_bytes}

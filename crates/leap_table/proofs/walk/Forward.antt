@@ -1,16 +1,11 @@
 -- The rows that a walk passes are those that the definition holds its months against, and in a table that rises the last row passed is the one that the look-up
 -- finds. Assumes nothing.
-use Prim.Native.Nat.{ℕ, zero, suc, ◌+◌, ◌-◌, ◌≤◌, ◌<◌}
-use native.Mathlib.Omega.{arith}
+use Rattle.std.proofs.Common.{◌≡◌, ℕ, zero, suc, ◌+◌, ◌-◌, ◌<◌, ◌≤◌, true, false, cond, T, leb, List, [], ◌∷◌, length, get_or, drop, sym, refl, ap, ◌∙◌, subst}
+use Rattle.std.proofs.Common.{arith, drop-cons, le-leb}
 use native.Mathlib.Decide.{dec_lt}
-use mathlib.Core.Path.{◌≡◌, refl, sym, ap, subst, ◌∙◌}
-use mathlib.Core.Bool.{true, false, cond}
-use mathlib.Core.List.{List, [], ◌∷◌}
-use lib.Dec.{T, leb}
-use lib.ListN.{length, get_or, drop, get_or-eq_default, length-map}
-use lib.Seq.{drop-cons}
+use lib.ListN.{get_or-eq_default, length-map}
 use lib.Ieee.{Float, binary64, add, sub, mul}
-use borrow.Author.Tests.{le-leb, lt-leb}
+use borrow.Author.Tests.{lt-leb}
 use Rattle.leap_table.specs.rows.Table.{Row, starts, reached, rising, most_rows}
 use Rattle.leap_table.specs.offsets.Forward.{never, by_terms}
 use Rattle.leap_table.specs.declared.offsets.walk_rows.RowTerms.{RowTerms}

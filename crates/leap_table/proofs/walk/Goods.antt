@@ -1,14 +1,8 @@
 -- Dates that nothing is refused of are each good, and each has a month that is not before the month of the one before it. Assumes nothing.
-use Prim.Native.Nat.{ℕ, zero, suc, ◌+◌, ◌-◌, ◌*◌, ◌≤◌, ◌<◌}
-use native.Mathlib.Omega.{arith}
-use native.Mathlib.Nat.{le_refl}
+use Rattle.std.proofs.Common.{◌≡◌, ℕ, zero, suc, ◌+◌, ◌-◌, ◌*◌, ◌<◌, ◌≤◌, Bool, true, false, cond, [], ℤ, pos, negsuc, nat_abs, sym, refl, ◌∙◌, subst, le_refl}
+use Rattle.std.proofs.Common.{arith, ltb-false, le-ltb}
 use native.Mathlib.Decide.{dec_lt}
-use mathlib.Core.Path.{◌≡◌, refl, sym, subst, ◌∙◌}
-use mathlib.Core.Bool.{Bool, true, false, cond}
-use mathlib.Core.List.{[]}
-use lib.IntN.{ℤ, pos, negsuc, nat_abs}
 use lib.Signed.{lt_z}
-use borrow.Author.Tests.{ltb-false, le-ltb}
 use Rattle.refusals.specs.Outcome.{Outcome, answer, refusal}
 use Rattle.refusals.proofs.Onward.{came}
 use Rattle.calendar.proofs.Accepted.{date-accepted}
@@ -36,7 +30,8 @@ not_earlier a b e = go (lt_z a.year b.year) refl (lt_z b.year a.year) refl (lt_z
     go false u false v true w z = let y : ◌≡◌ {A = ℕ} 0 1 = cc in absurd (omega arith)
     go false u false v false w z = record { year = u; month = λ h. w }
 
-months_rise : (y y' : ℤ) (m m' : ℕ) → 1 ≤ m → m ≤ 12 → 1 ≤ m' → m' ≤ 12 → lt_z y y' ≡ false → (lt_z y' y ≡ false → m' ≤ m) → month_number y' m' ≤ month_number y m
+months_rise : (y y' : ℤ) (m m' : ℕ) → 1 ≤ m → m ≤ 12 → 1 ≤ m' → m' ≤ 12 → lt_z y y' ≡ false → (lt_z y' y ≡ false → m' ≤ m)
+    → month_number y' m' ≤ month_number y m
 unfolding month_number
 months_rise (pos a) (pos b) m m' l h l' h' p q = go (dec_lt b a)
   where

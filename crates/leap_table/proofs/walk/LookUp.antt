@@ -1,6 +1,5 @@
 -- Each offset is that of document 01's look-up of one date at fraction 0; and the order by which 17 is given is the order of the days. Assumes nothing.
-use mathlib.Core.Path.{◌≡◌}
-use mathlib.Core.List.{List}
+use Rattle.std.proofs.Common.{◌≡◌, List}
 use Rattle.refusals.specs.Outcome.{answer}
 use Rattle.floats.specs.Whole.{nought}
 use Rattle.calendar.specs.DayCount.{mjd_number}

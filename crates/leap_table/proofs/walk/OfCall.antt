@@ -1,16 +1,9 @@
 -- WHAT A CALL WRITES: where a call over the bytes, or the numbers, written from any list of dates is answered, it writes as many offsets as there are dates, at
 -- place i the one that the look-up gives for date i, and leaves the places behind them. Assumes nothing.
-use Prim.Native.Nat.{ℕ, zero, suc, ◌+◌, ◌*◌, ◌/◌, ◌%◌, ◌<◌}
-use native.Mathlib.Omega.{arith}
-use mathlib.Core.Path.{◌≡◌, refl, sym, ap, ◌∙◌}
-use mathlib.Core.Bool.{Bool, true, false, cond}
-use mathlib.Core.List.{List, [], ◌∷◌, map}
-use lib.Dec.{leb}
-use lib.IntN.{pos}
+use Rattle.std.proofs.Common.{◌≡◌, ℕ, zero, suc, ◌+◌, ◌*◌, ◌/◌, ◌%◌, ◌<◌, Bool, true, false, cond, leb, List, [], ◌∷◌, map, length, get_or, take, drop, pos}
+use Rattle.std.proofs.Common.{sym, refl, ap, ◌∙◌, arith, drop_at, eq-eqb}
 use lib.Ieee.{Float}
-use lib.ListN.{length, get_or, take, drop, length-map, get_or-append, get_or-map}
-use lib.Seq.{drop_at}
-use borrow.Author.Tests.{eq-eqb}
+use lib.ListN.{length-map, get_or-append, get_or-map}
 use Rattle.refusals.specs.Outcome.{Outcome, answer, refusal, onward}
 use Rattle.refusals.proofs.Onward.{came}
 use Rattle.numerals.specs.little_endian.Written.{all_bytes}
@@ -74,7 +67,8 @@ date-of-numbers (t ∷ ds) (suc i) d h =
     ∙ date-of-numbers ds i d (omega arith)
 
 -- THE WALK OVER A LIST OF DATES in numbers, of any length
-pub walk_of-numbers : (rows : List Row) (ds : List Triple) (d : Triple) (places : ℕ) → walk_of_numbers rows (triple_numbers ds) places ≡ walk_of rows true ds places
+pub walk_of-numbers : (rows : List Row) (ds : List Triple) (d : Triple) (places : ℕ) → walk_of_numbers rows (triple_numbers ds) places
+    ≡ walk_of rows true ds places
 walk_of-numbers rows ds d places =
     let n = three-each ds in
     let whole : length (triple_numbers ds) % 3 ≡ 0 = omega arith in

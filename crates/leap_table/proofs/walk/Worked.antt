@@ -1,9 +1,5 @@
 -- Lists of dates worked out to the end: what the closed form says of real dates. Assumes nothing.
-use Prim.Native.Nat.{ℕ, ◌+◌}
-use mathlib.Core.Path.{◌≡◌, refl}
-use mathlib.Core.Bool.{true, false}
-use mathlib.Core.List.{[], ◌∷◌}
-use lib.IntN.{pos}
+use Rattle.std.proofs.Common.{◌≡◌, ℕ, ◌+◌, true, false, [], ◌∷◌, pos, refl}
 use Rattle.refusals.specs.Outcome.{answer, refusal, onward}
 use Rattle.leap_table.specs.rows.Table.{fixed, fixed_rows, month_number}
 use Rattle.calendar.specs.Calendar.{leap_size, lengths, days_in_month}

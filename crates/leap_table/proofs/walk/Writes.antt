@@ -1,12 +1,8 @@
 -- Offsets written one after the other into a lent list, as floats or as bytes. Assumes nothing.
-use Prim.Native.Nat.{ℕ, zero, suc, ◌+◌, ◌-◌, ◌*◌, ◌≤◌, ◌<◌}
-use native.Mathlib.Omega.{arith}
-use native.Mathlib.Nat.{mul-zero, mul-suc}
-use mathlib.Core.Path.{◌≡◌, refl, sym, ap, subst, ◌∙◌}
-use mathlib.Core.List.{List, [], ◌∷◌, ◌++◌, append_assoc, map}
-use lib.ListN.{length, take, drop, set, length-append, length-drop, take-append-drop}
+use Rattle.std.proofs.Common.{◌≡◌, ℕ, zero, suc, ◌+◌, ◌-◌, ◌*◌, ◌<◌, ◌≤◌, List, [], ◌∷◌, ◌++◌, map, length, take, drop, set, sym, refl, ap, ◌∙◌, subst}
+use Rattle.std.proofs.Common.{append_assoc, mul-zero, mul-suc, arith, length-append, length-drop, take-append-drop, length-take-le, drop-drop, take_at, drop_at}
 use lib.Ieee.{Float}
-use lib.Seq.{take_at, drop_at, drop-drop, length-take-le, set_split}
+use lib.Seq.{set_split}
 use Rattle.leap_table.specs.declared.judging.Triple.{Triple}
 use Rattle.leap_table.specs.judging.Lists.{dates_from}
 use Rattle.leap_table.proofs.judging.Judges.{next-date, no_date, all-dates}

@@ -1,13 +1,8 @@
 -- DATES AND OFFSETS PLACE BY PLACE: the walk over the bytes that are written from any list of dates is the walk over that list, however long it is, and the
 -- eight bytes at place i of its answer are the offset of date i. Assumes nothing.
-use Prim.Native.Nat.{ℕ, zero, suc, ◌+◌, ◌*◌, ◌/◌, ◌%◌, ◌≤◌, ◌<◌}
-use native.Mathlib.Omega.{arith}
-use mathlib.Core.Path.{◌≡◌, refl, sym, ap, ◌∙◌}
-use mathlib.Core.Bool.{true}
-use mathlib.Core.List.{List, [], ◌∷◌, ◌++◌, map, append-nil}
-use lib.ListN.{length, get_or, take, drop}
+use Rattle.std.proofs.Common.{◌≡◌, ℕ, zero, suc, ◌+◌, ◌*◌, ◌/◌, ◌%◌, ◌<◌, ◌≤◌, true, List, [], ◌∷◌, ◌++◌, map, length, get_or, take, drop, sym, refl, ap, ◌∙◌}
+use Rattle.std.proofs.Common.{append-nil, arith, eq-eqb}
 use lib.Ieee.{Float}
-use borrow.Author.Tests.{eq-eqb}
 use Rattle.refusals.specs.Outcome.{answer}
 use Rattle.numerals.specs.little_endian.LittleEndian.{four_at, u32_at, i32_at, signed32}
 use Rattle.numerals.specs.little_endian.Written.{all_bytes}
@@ -58,7 +53,8 @@ module _ (ds : List Triple) (i : ℕ) (d : Triple) (h : i < length ds) (f : Date
   }
 
 -- the dates of a reader that has each of them
-pub dates_are : (f : ℕ → Triple) (i : ℕ) (ds : List Triple) (d : Triple) → ((j : ℕ) → j < length ds → f (i + j) ≡ get_or ds j d) → dates_from f i (length ds) ≡ ds
+pub dates_are : (f : ℕ → Triple) (i : ℕ) (ds : List Triple) (d : Triple) → ((j : ℕ) → j < length ds → f (i + j) ≡ get_or ds j d) → dates_from f i (length ds)
+    ≡ ds
 unfolding dates_from
 dates_are f i [] d h = refl
 dates_are f i (t ∷ ds) d h =

@@ -1,7 +1,6 @@
 -- Which lists of dates are refused, and by which number. Written from document 02, item 2: "14 for a broken triple, then 11 for fewer offset places than dates;
 -- then, date by date, a bad one by its own number, then 17 for one earlier than the one before it". Assumes nothing.
-use Rattle.std.specs.Prelude.{ℕ, Bool, true, false, cond, List, [], ◌∷◌, leb, length, ℤ}
-use Rattle.std.specs.Int.Signed.{lt_z}
+use Rattle.std.specs.Prelude.{ℕ, Bool, true, false, cond, List, [], ◌∷◌, length, ℤ, int_lt, nat_le}
 use Rattle.refusals.specs.Outcome.{Outcome, answer, refusal, onward}
 use Rattle.calendar.specs.Refusals.{valid_date}
 use Rattle.leap_table.specs.declared.judging.Triple.{Triple}
@@ -11,11 +10,11 @@ triple y m d = record { year = y; month = m; day = d }
 
 -- by the first field in which they differ
 abbrev pub by_first : ℤ → ℤ → Bool → Bool
-by_first a b rest = cond (lt_z a b) true (cond (lt_z b a) false rest)
+by_first a b rest = cond (int_lt a b) true (cond (int_lt b a) false rest)
 
 -- whether date a is earlier than date b: by year, then month, then day
 unfoldable pub earlier : Triple → Triple → Bool
-earlier a b = by_first a.year b.year (by_first a.month b.month (lt_z a.day b.day))
+earlier a b = by_first a.year b.year (by_first a.month b.month (int_lt a.day b.day))
 
 -- 1 to 3: the numbers of a date
 abbrev pub valid_triple : Triple → Outcome Unit
@@ -37,4 +36,4 @@ judged_all (t ∷ dates) = onward (valid_triple t) (λ _. judged_after t dates)
 
 -- and before them the list as it is; `whole`: there is no broken triple
 unfoldable pub judged_list : Bool → List Triple → ℕ → Outcome Unit
-judged_list whole dates places = cond whole (cond (leb (length dates) places) (judged_all dates) (refusal 11)) (refusal 14)
+judged_list whole dates places = cond whole (cond (nat_le (length dates) places) (judged_all dates) (refusal 11)) (refusal 14)

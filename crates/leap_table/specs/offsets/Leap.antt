@@ -29,7 +29,8 @@ day_offsets rows y m d =
 -- the same of a date whose month is `month`, whose next date's month is `next`, and whose Modified Julian Date is n
 unfoldable pub offsets_of_day : List Row → ℕ → ℕ → ℤ → DayOffsets
 offsets_of_day rows month next n =
-    offsets (offset_at rows month (of_int binary64 n) nought) (offset_at rows month (of_int binary64 n) half) (offset_at rows next (of_int binary64 (suc_ℤ n)) nought)
+    offsets (offset_at rows month (of_int binary64 n) nought) (offset_at rows month (of_int binary64 n) half)
+    (offset_at rows next (of_int binary64 (suc_ℤ n)) nought)
 
 -- how far the offset at 24h lies above the line through those at 0h and at 12h
 unfoldable pub leap_of : DayOffsets → Float

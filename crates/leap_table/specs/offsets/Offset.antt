@@ -1,6 +1,6 @@
 -- TAI-UTC at a fraction of a day, by a table of rows: the Rust's `get_tai_utc_offset` (scales/common.rs), each operation rounded once and in its order.
 -- Assumes nothing.
-use Rattle.std.specs.Prelude.{ℕ, zero, suc, ◌-◌, ◌/◌, Bool, cond, ◌&&◌, List, eqb, get_or, ℤ, nat_abs, pos, Float}
+use Rattle.std.specs.Prelude.{ℕ, zero, suc, ◌-◌, ◌/◌, Bool, cond, ◌&&◌, List, get_or, ℤ, pos, ◌==◌, slice_index_or, unsigned_abs, Float}
 use Rattle.std.specs.Float.{binary64}
 use Rattle.std.specs.Float.Ieee.{add, sub, mul, le, of_int}
 use Rattle.refusals.specs.Outcome.{Outcome, answer, refusal, onward}
@@ -22,13 +22,13 @@ rate_of r = decimal r.rate 10
 -- the offset of a row; a row whose rate is 0 does not drift
 unfoldable pub by_row : Row → Float → Float → Float
 by_row r mjd fraction =
-    cond (eqb r.rate 0) (seconds_of r)
+    cond (r.rate == 0) (seconds_of r)
     (add binary64 (seconds_of r) (mul binary64 (sub binary64 (add binary64 mjd fraction) (start_of r)) (rate_of r)))
 
 -- by the number of rows reached: 0.0 before the first
 unfoldable pub offset_by : List Row → ℕ → Float → Float → Float
 offset_by rows zero mjd fraction = nought
-offset_by rows (suc i) mjd fraction = by_row (get_or rows i none) mjd fraction
+offset_by rows (suc i) mjd fraction = by_row (slice_index_or rows i none) mjd fraction
 
 -- in month n
 unfoldable pub offset_at : List Row → ℕ → Float → Float → Float
@@ -42,12 +42,12 @@ in_day fraction = le nought fraction && le fraction one
 unfoldable pub tai_utc_offset : List Row → ℤ → ℤ → ℤ → Float → Outcome Float
 tai_utc_offset rows y m d fraction =
     cond (in_day fraction)
-    (onward (mjd_of y m d) (λ n. answer (offset_at rows (month_number y (nat_abs m)) (of_int binary64 n) fraction)))
+    (onward (mjd_of y m d) (λ n. answer (offset_at rows (month_number y (unsigned_abs m)) (of_int binary64 n) fraction)))
     (refusal 7)
 
 -- the row that is reached where k months of the fixed table have begun
 abbrev pub row_at : ℕ → Row
-row_at k = get_or fixed (k - 1) none
+row_at k = slice_index_or fixed (k - 1) none
 
 -- the whole seconds of the row reached in month n
 abbrev pub seconds_in : List Row → ℕ → ℕ

@@ -1,6 +1,6 @@
 -- The rule of an offset: the row of the table that it was read from, and whether that row drifts or holds whole seconds. Written from document 02, item 5: no
 -- row, a row that drifts or a row of whole seconds, with the row's number counted from 0. Assumes nothing.
-use Rattle.std.specs.Prelude.{ℕ, zero, suc, cond, List, eqb, get_or, ℤ, pos, nat_abs, Float}
+use Rattle.std.specs.Prelude.{ℕ, zero, suc, cond, List, ℤ, pos, ◌==◌, slice_index_or, unsigned_abs, Float}
 use Rattle.refusals.specs.Outcome.{Outcome, answer, onward}
 use Rattle.calendar.specs.declared.CalendarDate.{CalendarDate}
 use Rattle.leap_table.specs.declared.offsets.DayOffsets.{DayOffsets}
@@ -13,7 +13,7 @@ use Rattle.leap_table.specs.offsets.Leap.{day_offsets, leap_at_end_of_day}
 -- by the number of rows reached; a row whose rate is 0 does not drift
 unfoldable pub rule_by : List Row → ℕ → Rule
 rule_by rows zero = Absent
-rule_by rows (suc i) = cond (eqb (get_or rows i none).rate 0) (Whole i) (Drifting i)
+rule_by rows (suc i) = cond ((slice_index_or rows i none).rate == 0) (Whole i) (Drifting i)
 
 -- in month n
 unfoldable pub rule_of : List Row → ℕ → Rule
@@ -21,7 +21,7 @@ rule_of rows n = rule_by rows (reached (starts rows) n)
 
 -- on a date of year y and month m
 unfoldable pub rule_at : List Row → ℤ → ℤ → Rule
-rule_at rows y m = rule_of rows (month_number y (nat_abs m))
+rule_at rows y m = rule_of rows (month_number y (unsigned_abs m))
 
 -- on a calendar date
 unfoldable pub rule_on : List Row → CalendarDate → Rule

@@ -1,6 +1,7 @@
 -- TAI-UTC as a table of decimals, and the last row whose month has begun. Written from the IERS table of TAI-UTC from 1961 on (Bulletin C from 1972); the row
 -- of 1960 is SOFA's (dat.c). Assumes nothing.
-use Rattle.std.specs.Prelude.{ℕ, zero, suc, ◌+◌, ◌-◌, ◌*◌, ◌≤◌, ◌<◌, Bool, true, false, ◌&&◌, List, [], ◌∷◌, map, leb, ltb, ℤ, pos, negsuc, length, get_or}
+use Rattle.std.specs.Prelude.{ℕ, zero, suc, ◌+◌, ◌-◌, ◌*◌, ◌<◌, ◌≤◌, Bool, true, false, ◌&&◌, List, [], ◌∷◌, map, length, ℤ, pos, negsuc, nat_le, nat_lt}
+use Rattle.std.specs.Prelude.{slice_index, slice_index_or}
 
 -- From the start of month `month` on, TAI-UTC is `units` times 10^-7 s; and where `rate` is not 0, more by `rate` times 10^-10 s for each day since the
 -- Modified Julian Date `start`. Months are numbered from January of year 0.
@@ -102,7 +103,7 @@ on_top zero false = 0
 
 unfoldable pub reached : List ℕ → ℕ → ℕ
 reached [] n = 0
-reached (a ∷ rest) n = on_top (reached rest n) (leb a n)
+reached (a ∷ rest) n = on_top (reached rest n) (nat_le a n)
 
 -- each element stands to the one after it as `to` asks
 abbrev pub in_turn : {A : Type 0} → (A → A → Bool) → List A → Bool
@@ -112,10 +113,10 @@ in_turn to (a ∷ (b ∷ l)) = to a b && in_turn to (b ∷ l)
 
 -- each month is later than the one before
 abbrev pub rising : List ℕ → Bool
-rising l = in_turn ltb l
+rising l = in_turn nat_lt l
 
 -- i is the place of the last month of the list that has begun in month n
 pub record LastBegun (l : List ℕ) (n i : ℕ) : Type 0 where
   pub in_list : i < length l
-  pub has_begun : get_or l i 0 ≤ n
-  pub later_not : (j : ℕ) → i < j → j < length l → n < get_or l j 0
+  pub has_begun : slice_index_or l i 0 ≤ n
+  pub later_not : (j : ℕ) → i < j → j < length l → n < slice_index l j

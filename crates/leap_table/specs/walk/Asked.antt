@@ -1,5 +1,5 @@
 -- What the functions below the calls ask and keep: where a walk stands, what one step of it does, and dates that nothing is refused of. Assumes nothing.
-use Rattle.std.specs.Prelude.{ℕ, suc, ◌+◌, ◌≤◌, ◌<◌, ◌≡◌, cond, List, leb, length, get_or, Float}
+use Rattle.std.specs.Prelude.{◌≡◌, ℕ, suc, ◌+◌, ◌<◌, ◌≤◌, cond, List, length, nat_le, slice_index, slice_index_or, Float}
 use Rattle.refusals.specs.Outcome.{answer}
 use Rattle.leap_table.specs.rows.Table.{Row, starts, most_rows}
 use Rattle.leap_table.specs.offsets.Offset.{offset_by}
@@ -13,7 +13,7 @@ use Rattle.leap_table.specs.walk.Walk.{month_in}
 pub record Standing (rows : List Row) (w : Walk) : Type 0 where
   pub all : w.rows ≡ length rows
   pub most : w.reached ≤ length rows
-  pub next : w.next ≡ get_or (starts rows) w.reached never
+  pub next : w.next ≡ slice_index_or (starts rows) w.reached never
   pub terms : (mjd f : Float) → by_terms w.terms mjd f ≡ offset_by rows w.reached mjd f
   pub small : length rows ≤ most_rows
 
@@ -26,13 +26,13 @@ pub record AtStart (rows : List Row) (w : Walk) : Type 0 where
 pub record Stepped (rows : List Row) (w : Walk) (month : ℕ) (r : Walk) : Type 0 where
   pub stands : Standing rows r
   pub forward : w.reached ≤ r.reached
-  pub begun : (j : ℕ) → w.reached ≤ j → j < r.reached → get_or (starts rows) j 0 ≤ month
+  pub begun : (j : ℕ) → w.reached ≤ j → j < r.reached → slice_index (starts rows) j ≤ month
   pub later : month < r.next
   pub count : r.compared + w.reached ≡ w.compared + r.reached
 
 -- one more where a row is left
 abbrev pub CountsNext : Walk → ℕ → Type 0
-CountsNext w r = r ≡ w.compared + cond (leb w.rows w.reached) 0 1
+CountsNext w r = r ≡ w.compared + cond (nat_le w.rows w.reached) 0 1
 
 -- dates that nothing is refused of: each is good, and their months do not fall
 pub record GoodDates (f : ℕ → Triple) (n : ℕ) : Type 0 where

@@ -1,6 +1,6 @@
 -- What a call answers and what its lent list holds. Written from document 02, item 2: "Besides the offsets, the result carries the number of rows
 -- compared", "spare places of a lent list stay", and document 01, "Refusals by number": a refused call changes nothing. Assumes nothing.
-use Rattle.std.specs.Prelude.{ℕ, ◌≡◌, List, ◌++◌, length, drop, Float}
+use Rattle.std.specs.Prelude.{◌≡◌, ℕ, List, ◌++◌, length, drop, Float}
 use Rattle.refusals.specs.Outcome.{Outcome, answer, refusal, onward}
 use Rattle.leap_table.specs.declared.walk.WalkAnswer.{WalkAnswer}
 use Rattle.leap_table.specs.declared.walk.WalkAnswer.TheVariants.{Compared, Refused}

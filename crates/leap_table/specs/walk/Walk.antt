@@ -1,6 +1,6 @@
 -- The offsets of dates at 0h in one walk through the table, and the number of rows compared. Written from document 02, item 2: "Turned away: 14 for a broken
 -- triple, then 11 for fewer offset places than dates; then, date by date, a bad one by its own number, then 17". Assumes nothing.
-use Rattle.std.specs.Prelude.{ℕ, Bool, cond, List, map, leb, nat_abs, length, Float}
+use Rattle.std.specs.Prelude.{ℕ, Bool, cond, List, map, length, nat_le, unsigned_abs, Float}
 use Rattle.std.specs.Float.{binary64}
 use Rattle.std.specs.Float.Ieee.{of_int}
 use Rattle.refusals.specs.Outcome.{Outcome, answer, refusal, onward}
@@ -14,7 +14,7 @@ use Rattle.leap_table.specs.judging.Judging.{judged_all}
 
 -- the number of a date's month
 abbrev pub month_in : Triple → ℕ
-month_in t = month_number t.year (nat_abs t.month)
+month_in t = month_number t.year (unsigned_abs t.month)
 
 -- the offset of a date at 0h, by the row of its month: that of document 01's look-up (`offset-of-look-up`)
 unfoldable pub triple_offset : List Row → Triple → Float
@@ -32,7 +32,7 @@ walked rows dates = record { rows_compared = compared (starts rows) (map month_i
 unfoldable pub walk_of : List Row → Bool → List Triple → ℕ → Outcome Walked
 walk_of rows whole dates places =
     cond whole
-    (cond (leb (length dates) places)
+    (cond (nat_le (length dates) places)
     (onward (judged_all dates) (λ _. answer (walked rows dates)))
     (refusal 11))
     (refusal 14)

@@ -1,5 +1,5 @@
 // The seconds of a row that a caller lends.
-ghost use Rattle.std.specs.Prelude.{◌≡◌, [], ◌<◌};
+ghost use Rattle.std.specs.Prelude.{◌≡◌, ◌<◌, []};
 ghost use Rattle.leap_table.specs.rows.Announced as L;
 ghost use Rattle.leap_table.specs.offsets.Offset.{seconds_of};
 

@@ -1,5 +1,5 @@
 // The look-up in the fixed rows, and what they say: the table of constants.rs.
-ghost use Rattle.std.specs.Prelude.{◌≡◌, ◌-◌, ◌<◌, ◌≤◌, get_or, drop, length};
+ghost use Rattle.std.specs.Prelude.{◌≡◌, ◌-◌, ◌<◌, ◌≤◌, length, drop, slice_index_or};
 ghost use Rattle.leap_table.specs.rows.Table.{fixed, fixed_rows, starts, reached, none};
 ghost use Rattle.leap_table.specs.offsets.Offset.{seconds_of, start_of, rate_of};
 
@@ -53,21 +53,21 @@ pub(crate) fn fixed_rows_reached(n: u64) -> usize
 // The decimals of row i as floats, each the nearest.
 pub(crate) fn seconds_at(i: usize) -> f64
     requires { i < 14 }
-    ensures { result ≡ seconds_of (get_or fixed i none) }
+    ensures { result ≡ seconds_of (slice_index_or fixed i none) }
 {
     SECONDS[i]
 }
 
 pub(crate) fn start_at(i: usize) -> f64
     requires { i < 14 }
-    ensures { result ≡ start_of (get_or fixed i none) }
+    ensures { result ≡ start_of (slice_index_or fixed i none) }
 {
     STARTS[i]
 }
 
 pub(crate) fn rate_at(i: usize) -> f64
     requires { i < 14 }
-    ensures { result ≡ rate_of (get_or fixed i none) }
+    ensures { result ≡ rate_of (slice_index_or fixed i none) }
 {
     RATES[i]
 }
@@ -76,7 +76,7 @@ pub(crate) fn rate_at(i: usize) -> f64
 // less 5. They are counted and not read from a table, since the compiled code copies a table whenever it is read by an index.
 pub(crate) fn whole_seconds(rows: usize) -> f64
     requires { (15 ≤ rows) × (rows ≤ fixed_rows) }
-    ensures { result ≡ seconds_of (get_or fixed (rows - 1) none) }
+    ensures { result ≡ seconds_of (slice_index_or fixed (rows - 1) none) }
 {
     let seconds = (rows - 5) as u32;
     seconds as f64

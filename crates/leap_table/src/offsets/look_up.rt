@@ -1,6 +1,5 @@
 // The row of a month, and what it says: the offset and the rule.
-ghost use Rattle.std.specs.Prelude.{◌≡◌, true, cond, List, [], ℕ, ◌+◌, ◌-◌, ◌≤◌, ◌<◌, ℤ, pos, nat_abs, Float, get_or};
-ghost use Rattle.std.specs.Int.Signed.{le_z};
+ghost use Rattle.std.specs.Prelude.{◌≡◌, ℕ, ◌+◌, ◌-◌, ◌<◌, ◌≤◌, true, List, [], ℤ, pos, slice_index_or, unsigned_abs, Float};
 ghost use Rattle.leap_table.specs.rows.Table.{fixed_rows, most_rows, starts, reached, month_number, none};
 ghost use Rattle.leap_table.specs.rows.Announced.{least, announced_table, rows_in, rows_to};
 ghost use Rattle.leap_table.specs.offsets.Offset.{seconds_of, offset_at, offset_by};
@@ -9,7 +8,7 @@ ghost use Rattle.leap_table.specs.offsets.Plain.{Plain, by_found};
 
 use super::fixed_rows::{fixed_rows_reached, rate_at, seconds_at, start_at, whole_seconds};
 use super::{Rule, announced};
-use crate::rows::FIXED_SIZE;
+use crate::rows::{FIXED_SIZE, and_later};
 
 // A month's number as an announced one is, of which none is larger.
 fn as_announced(n: u64) -> i32
@@ -22,29 +21,48 @@ fn as_announced(n: u64) -> i32
     }
 }
 
-// How many announced rows are found with that of place i, of which `found` stand before it.
-fn found_next(announced: i32, month: i32, i: u32, found: u32) -> u32
-    requires { i < 16 }
-    ensures { result ≡ cond (le_z announced month) (i + 1) found }
+// Whether no announced row has begun in month n; where it is false, one may have. Without a jump, so that several rows are compared at once.
+fn none_reached(size: u32, months: &[i32; 16], n: u64, month: i32) -> bool
+    requires { (size ≤ 16) × (month ≡ pos (least n 2147483647)) }
+    ensures { result ≡ true → by_found n 0 ≡ reached (starts (rows_to (announced_table 0 0 months.now []) size)) n }
 {
-    if announced <= month { i + 1 } else { found }
+    let mut none = true;
+    let mut i = 0;
+    while i < size {
+        let at = i as usize;
+        none = and_later(none, month, months[at]);
+        i += 1;
+    }
+    none
 }
 
-// How many announced rows stand up to the last that has begun, 0 where none has. The rows are taken in their order and without a jump, so that several are
-// compared at once.
+// How many announced rows stand up to the last that has begun, 0 where none has. From the end, with no order assumed.
+fn last_reached(size: u32, months: &[i32; 16], n: u64, month: i32) -> u32
+    requires { (size ≤ 16) × (month ≡ pos (least n 2147483647)) }
+    ensures { (by_found n result ≡ reached (starts (rows_to (announced_table 0 0 months.now []) size)) n) × (result ≤ size) }
+{
+    let mut i = size;
+    while 0 < i {
+        let at = (i - 1) as usize;
+        let row = months[at];
+        if row <= month {
+            return i;
+        }
+        i -= 1;
+    }
+    0
+}
+
+// The same, with a short way for a month in which none has begun.
 fn announced_rows_reached(size: u32, months: &[i32; 16], n: u64) -> u32
     requires { size ≤ 16 }
     ensures { (by_found n result ≡ reached (starts (rows_to (announced_table 0 0 months.now []) size)) n) × (result ≤ size) }
 {
     let month = as_announced(n);
-    let mut found = 0;
-    let mut i = 0;
-    while i < size {
-        let at = i as usize;
-        found = found_next(months[at], month, i, found);
-        i += 1;
+    if none_reached(size, months, n, month) {
+        return 0;
     }
-    found
+    last_reached(size, months, n, month)
 }
 
 // How many rows of a table stand up to the last that has begun. The seconds of the rows do not matter.
@@ -72,7 +90,7 @@ pub(crate) fn table_rows_reached(size: usize, months: &[i32; 16], n: u64) -> usi
 pub(crate) fn seconds_of_row(seconds: &[i32; 16], rows: usize) -> f64
     requires { (15 ≤ rows) × (rows ≤ most_rows) }
     ensures { (size : ℕ) (months : List ℤ) → rows ≤ fixed_rows + least size 16
-        → result ≡ seconds_of (get_or (rows_in size months seconds.now) (rows - 1) none) }
+        → result ≡ seconds_of (slice_index_or (rows_in size months seconds.now) (rows - 1) none) }
 {
     if rows <= FIXED_SIZE {
         return whole_seconds(rows);
@@ -151,7 +169,7 @@ pub(crate) fn plain_day(year: i32, month: i32, day: i32) -> bool
 }
 
 // TAI-UTC all through a plain day, and its rule.
-#[derive(Drop)]
+#[derive(Clone, Copy)]
 pub(crate) struct PlainDay {
     pub(crate) seconds: f64,
     pub(crate) rule: Rule,
@@ -167,7 +185,7 @@ pub(crate) fn of_plain_day<'a>(
 ) -> PlainDay
     requires { Plain year month day }
     ensures { ((mjd fraction : Float)
-        → result.seconds ≡ offset_at (rows_in size months.now seconds.now) (month_number year (nat_abs month)) mjd fraction)
+        → result.seconds ≡ offset_at (rows_in size months.now seconds.now) (month_number year (unsigned_abs month)) mjd fraction)
         × (result.rule ≡ rule_at (rows_in size months.now seconds.now) year month) }
 {
     let rows = table_rows_reached(size, months, month_number(year, month as u32));

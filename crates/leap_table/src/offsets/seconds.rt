@@ -1,5 +1,5 @@
 // TAI-UTC of a month in whole seconds, for those who count a time from 1972 on in whole numbers.
-ghost use Rattle.std.specs.Prelude.{◌≡◌, ◌≤◌, ◌<◌};
+ghost use Rattle.std.specs.Prelude.{◌≡◌, ◌<◌, ◌≤◌};
 ghost use Rattle.leap_table.specs.rows.Announced.{rows_of};
 ghost use Rattle.leap_table.specs.offsets.Offset.{seconds_in};
 ghost use Rattle.leap_table.specs.offsets.WholeSeconds.{whole_seconds};

@@ -1,5 +1,5 @@
 // The table read forward, row by row, as a walk needs it: document 02, item 2.
-ghost use Rattle.std.specs.Prelude.{◌≡◌, ◌<◌, ◌≤◌, get_or, length, Float};
+ghost use Rattle.std.specs.Prelude.{◌≡◌, ◌<◌, ◌≤◌, length, slice_index, slice_index_or, Float};
 ghost use Rattle.leap_table.specs.rows.Table.{fixed, starts};
 ghost use Rattle.leap_table.specs.rows.Announced.{announced_size, rows_of};
 ghost use Rattle.leap_table.specs.offsets.Offset.{offset_by};
@@ -12,7 +12,7 @@ const NEVER: u64 = 0xffff_ffff_ffff_ffff;
 
 // What the offsets of a row are made of: where it drifts, its seconds, the Modified Julian Date from which it drifts and its seconds a day; else its seconds
 // alone.
-#[derive(Drop)]
+#[derive(Clone, Copy)]
 pub struct RowTerms {
     pub drifts: bool,
     pub seconds: f64,
@@ -23,7 +23,7 @@ pub struct RowTerms {
 // Month i of a list that has it. From a list by reference, since a table that is read by an index is copied.
 fn month_at(months: &[u64], i: usize) -> u64
     requires { i < length months.now }
-    ensures { result ≡ get_or months.now i 0 }
+    ensures { result ≡ slice_index months.now i }
 {
     months[i]
 }
@@ -44,7 +44,7 @@ pub fn row_count(table: AnnouncedRows) -> usize
 
 // The month in which row i of a table begins; past the last row, a number that is later than the month of any date.
 pub fn row_start(table: AnnouncedRows, i: usize) -> u64
-    ensures { result ≡ get_or (starts (rows_of table)) i never }
+    ensures { result ≡ slice_index_or (starts (rows_of table)) i never }
 {
     if i < FIXED_SIZE {
         return month_at(&MONTHS, i);

@@ -1,5 +1,5 @@
 // TAI-UTC at the start, the middle and the end of a day, and the leap at its end.
-ghost use Rattle.std.specs.Prelude.{◌≡◌, List, ◌+◌, ◌<◌, ◌≤◌, ℤ, nat_abs};
+ghost use Rattle.std.specs.Prelude.{◌≡◌, ◌+◌, ◌<◌, ◌≤◌, List, ℤ, unsigned_abs};
 ghost use Rattle.refusals.specs.Outcome.{answer, onward};
 ghost use Rattle.leap_table.specs.rows.Table.{fixed_rows, starts, reached};
 ghost use Rattle.leap_table.specs.rows.Announced.{least, rows_in, table_of};
@@ -34,7 +34,7 @@ fn offsets_of_day<'a>(
     next: u64,
     mjd: i64,
 ) -> DayByRule
-    requires { nat_abs mjd < 1000000000000 }
+    requires { unsigned_abs mjd < 1000000000000 }
     ensures { day_by_rule_outcome result ≡ answer (
       offsets_of_day (rows_in size months.now seconds.now) month next mjd,
       rule_of (rows_in size months.now seconds.now) month,

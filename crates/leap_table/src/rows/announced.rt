@@ -1,5 +1,5 @@
 // The announced rows that a caller lends after the table's own: document 02, item 8.
-ghost use Rattle.std.specs.Prelude.{◌≡◌, [], ◌+◌, ◌≤◌, ◌<◌};
+ghost use Rattle.std.specs.Prelude.{◌≡◌, ◌+◌, ◌<◌, ◌≤◌, ◌&&◌, [], int_lt};
 ghost use Rattle.leap_table.specs.rows.Table.{starts, rising};
 ghost use Rattle.leap_table.specs.rows.Announced as L;
 
@@ -36,50 +36,50 @@ pub fn at_most_16(size: usize) -> usize
     if size <= 16 { size } else { 16 }
 }
 
-// Whether each announced row is later than the one before.
-fn rises(months: &[i32; 16], size: usize) -> bool
-    requires { size ≤ 16 }
-    ensures { result ≡ rising (starts (L.rows_to (L.announced_table 0 0 months.now []) size)) }
+// Whether what was seen is in order, and a month is later than the one before. No jump, so that several rows are compared at once; the same below.
+pub(crate) fn and_later(good: bool, before: i32, month: i32) -> bool
+    ensures { result ≡ good && int_lt before month }
 {
-    let mut before = LAST_MONTH;
-    let mut i = 0;
-    while i < size {
-        let month = natural(months[i]);
-        if month <= before {
-            return false;
-        }
-        before = month;
-        i += 1;
-    }
-    true
+    good & (before < month)
 }
 
-fn one_apart(a: u32, b: u32) -> bool
-    requires { (a < 2147483648) × (b < 2147483648) }
-    ensures { result ≡ L.one_apart a b }
+// Whether what was seen goes by steps of one second, and so does the next row: its seconds and 1, less the seconds before, modulo 2^32, are then 2 or 0.
+fn and_one_apart(good: bool, before: u32, next: u32) -> bool
+    requires { (before < 2147483648) × (next < 2147483648) }
+    ensures { result ≡ good && L.one_apart before next }
 {
-    if b == a + 1 {
-        return true;
-    }
-    a == b + 1
+    let moved = std::num::wrapping_sub_u32(next + 1, before);
+    good & ((moved == 0) | (moved == 2))
 }
 
-// Whether each announced row is one second more or less than the one before.
-fn steps(seconds: &[i32; 16], size: usize) -> bool
+// What two tests of all rows say: whether each announced row is later than the one before, and whether each is one second more or less.
+#[derive(Clone, Copy)]
+struct Tests {
+    rises: bool,
+    steps: bool,
+}
+
+// Both tests in one loop. Until a row fails, its number and the one before are not negative, so that the months are compared as they are announced.
+fn tests_of<'a>(months: &'a [i32; 16], seconds: &'a [i32; 16], size: usize) -> Tests
     requires { size ≤ 16 }
-    ensures { result ≡ L.by_seconds (L.rows_to (L.announced_table 0 0 [] seconds.now) size) }
+    ensures { (result.rises ≡ rising (starts (L.rows_to (L.announced_table 0 0 months.now []) size)))
+        × (result.steps ≡ L.by_seconds (L.rows_to (L.announced_table 0 0 [] seconds.now) size)) }
 {
-    let mut before = LAST_SECONDS;
+    let mut rises = true;
+    let mut steps = true;
+    let mut month = LAST_MONTH as i32;
+    let mut second = LAST_SECONDS;
     let mut i = 0;
     while i < size {
-        let next = natural(seconds[i]);
-        if !one_apart(before, next) {
-            return false;
-        }
-        before = next;
+        let next_month = months[i];
+        let next_second = natural(seconds[i]);
+        rises = and_later(rises, month, next_month);
+        steps = and_one_apart(steps, second, next_second);
+        month = next_month;
+        second = next_second;
         i += 1;
     }
-    true
+    Tests { rises, steps }
 }
 
 // The number by which a table is refused, 0 if it is not: 20 the sizes, then 21 the order of the rows, then 22 their steps.
@@ -98,10 +98,11 @@ pub fn announced_refusal<'a>(
         return refusals::TABLE_SIZES_WRONG;
     }
     let size = months_size as usize;
-    if !rises(months, size) {
+    let tests = tests_of(months, seconds, size);
+    if !tests.rises {
         return refusals::TABLE_NOT_RISING;
     }
-    if !steps(seconds, size) {
+    if !tests.steps {
         return refusals::TABLE_STEP_WRONG;
     }
     0

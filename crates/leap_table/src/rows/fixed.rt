@@ -7,9 +7,9 @@ pub const FIXED_ROWS: u32 = 42;
 pub(crate) const FIXED_SIZE: usize = FIXED_ROWS as usize;
 
 // The month and the seconds of the last of them.
-pub(crate) const LAST_MONTH: u32 = 24204;
+pub const LAST_MONTH: u32 = 24204;
 
-pub(crate) const LAST_SECONDS: u32 = 37;
+pub const LAST_SECONDS: u32 = 37;
 
 // The months in which the rows begin, numbered from January of year 0.
 pub(crate) const MONTHS: [u64; FIXED_SIZE] = [

@@ -1,5 +1,5 @@
 // The walk over lists of bytes, for callers from C: twelve bytes a date, eight an offset, the lowest first.
-ghost use Rattle.std.specs.Prelude.{◌≡◌, ◌++◌, map, ◌*◌, ◌≤◌, T, length, drop};
+ghost use Rattle.std.specs.Prelude.{◌≡◌, ◌*◌, ◌≤◌, T, ◌++◌, map, length, drop};
 ghost use Rattle.refusals.specs.Outcome.{onward};
 ghost use Rattle.leap_table.specs.rows.Table.{starts, rising};
 ghost use Rattle.leap_table.specs.rows.Announced.{rows_of, table_of};

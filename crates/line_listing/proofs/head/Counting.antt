@@ -1,13 +1,5 @@
 -- The kind of a stamp by its tests, and the count of one stamp more. Assumes nothing.
-use Prim.Native.Nat.{ℕ, suc, ◌+◌, ◌*◌}
-use native.Mathlib.Omega.{arith}
-use native.Mathlib.Numerals.{add-one}
-use mathlib.Core.Path.{◌≡◌, refl, sym, ap, ◌∙◌}
-use mathlib.Core.List.{List}
-use mathlib.Core.Bool.{Bool, true, false, cond, ◌||◌}
-use lib.Dec.{eqb}
-use lib.ListN.{get_or}
-use borrow.Author.Tests.{eq-eqb, ne_eqb}
+use Rattle.std.proofs.Common.{◌≡◌, ℕ, ◌+◌, ◌*◌, true, false, cond, eqb, List, get_or, sym, refl, ap, ◌∙◌, add-one, eq-eqb, ne_eqb}
 use Rattle.numerals.specs.little_endian.LittleEndian.{u64_at}
 use Rattle.floats.specs.ExponentField.{exponent_field}
 use Rattle.line_listing.specs.head.Counts.{not_finite, kind_at, kinds_in}

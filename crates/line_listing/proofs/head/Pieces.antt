@@ -1,15 +1,9 @@
 -- Words and numbers, one behind the other. Assumes nothing.
-use Prim.Native.Nat.{ℕ, ◌+◌, ◌-◌, ◌≤◌}
-use native.Mathlib.Omega.{arith}
-use mathlib.Core.Path.{◌≡◌, refl, sym, ap, ◌∙◌}
-use mathlib.Core.List.{List, [], ◌++◌}
-use mathlib.Core.Bool.{Bool, true, false}
-use lib.ListN.{length}
+use Rattle.std.proofs.Common.{◌≡◌, ℕ, ◌+◌, ◌-◌, ◌≤◌, true, false, List, [], ◌++◌, length, sym, refl, ◌∙◌, arith, eq-eqb, ne_eqb}
 use Rattle.leap_table.specs.rows.Announced.{least}
 use Rattle.line_listing.specs.lines.StampLine.{Stamps, stamps}
 use Rattle.line_listing.specs.head.Counts.{first_end, second_end}
-use borrow.Author.Tests.{eq-eqb, ne_eqb}
-use Rattle.numerals.specs.digits.Placed.{Placed, Placing}
+use Rattle.numerals.specs.digits.Placed.{Placing}
 use Rattle.numerals.proofs.digits.Places.{then, placed-as, nothing-at}
 use Rattle.reasons.proofs.sentences.Placing.{placed-length}
 use Rattle.line_listing.specs.declared.head.RunEnd.{RunEnd}

@@ -1,8 +1,5 @@
 -- Worked by computation: lines and head lines of small runs. Assumes nothing.
-use Prim.Native.Nat.{ℕ}
-use mathlib.Core.Path.{◌≡◌, refl}
-use mathlib.Core.Bool.{true, false}
-use mathlib.Core.List.{List, [], ◌∷◌, ◌++◌}
+use Rattle.std.proofs.Common.{◌≡◌, ℕ, true, false, List, [], ◌∷◌, refl}
 use Rattle.numerals.specs.digits.Decimal.{digits_in, digits_of}
 use lib.Ieee.{nan, to_bits}
 use Rattle.refusals.specs.Outcome.{onward}
@@ -46,7 +43,8 @@ left-out-line rows d = refl
 -- with sentences, of a NaN
 pub told_line : (rows : List Row) → line_by true rows 5 6 5 (julian nan nan) 9
     ≡ ascii_bytes "tai 0 refused 9: part or sum of a date is not finite: jd1 7ff8000000000000\n"
-unfolding line_by recorder index_in stamp_told refused number_told sentence_behind as_sentence sentence reason_of onward offending parts_field part_field render named_text
+unfolding line_by recorder index_in stamp_told refused number_told sentence_behind as_sentence sentence reason_of onward offending parts_field part_field render
+    named_text
     fixed_text texts hex16 hex_digits hex_digit to_bits digits_of digits_in
 told_line rows = refl
 

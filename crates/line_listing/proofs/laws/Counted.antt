@@ -1,12 +1,6 @@
 -- THE COUNTS: each stamp of a run is of one of the four kinds, so the counts of not finite, refused, left out and ordered add up to its stamps. Assumes
 -- nothing.
-use Prim.Native.Nat.{ℕ, zero, suc, ◌+◌}
-use native.Mathlib.Omega.{arith}
-use mathlib.Core.Path.{◌≡◌, refl, sym, ap, ◌∙◌}
-use mathlib.Core.Bool.{Bool, true, false, cond}
-use mathlib.Core.List.{List}
-use lib.Dec.{eqb}
-use lib.ListN.{get_or}
+use Rattle.std.proofs.Common.{◌≡◌, ℕ, zero, suc, ◌+◌, Bool, true, false, cond, eqb, List, get_or, refl, arith}
 use Rattle.line_listing.specs.head.Counts.{not_finite, kind_at, kinds_in}
 
 abbrev four : ℕ → ℕ

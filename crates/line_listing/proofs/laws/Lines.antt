@@ -1,17 +1,17 @@
 -- THE LINES: a stamp that is not finite has no text, whatever the order, the table and the other runs are; and parts from line to line join to the whole.
 -- Assumes nothing.
-use Prim.Native.Nat.{ℕ, zero, suc, ◌+◌, ◌*◌}
-use native.Mathlib.Omega.{arith}
-use mathlib.Core.Path.{◌≡◌, refl, sym, ap, ◌∙◌}
-use mathlib.Core.Bool.{Bool, true, false}
-use mathlib.Core.List.{List, [], ◌∷◌, ◌++◌, append_assoc, append-nil}
-use borrow.Author.Tests.{ne_eqb}
+use Rattle.std.proofs.Common.{◌≡◌, ℕ, zero, suc, ◌+◌, Bool, true, false, List, [], ◌∷◌, ◌++◌, sym, refl, ap, ◌∙◌, append_assoc, append-nil, arith, ne_eqb}
 use Rattle.numerals.specs.digits.Decimal.{digits_in, digits_of}
-use Rattle.utc.specs.text.Ascii.{ascii_bytes}
+use Rattle.refusals.specs.Outcome.{onward}
+use Rattle.reasons.specs.Offending.{offending, parts_field}
+use Rattle.reasons.specs.sentences.Render.{render}
+use Rattle.reasons.specs.sentences.Texts.{fixed_text, texts}
+use Rattle.reasons.specs.Sentence.{reason_of, sentence}
 use Rattle.leap_table.specs.rows.Table.{Row}
 use Rattle.line_listing.specs.lines.StampLine.{Stamps, line_in_order, date_of_place, number_of_place, recorder, index_in}
-use Rattle.line_listing.specs.lines.StampLine.{sentence_behind, number_told, refused, stamp_told, line_by, place_line}
+use Rattle.line_listing.specs.lines.StampLine.{as_sentence, sentence_behind, number_told, refused, stamp_told, line_by, place_line}
 use Rattle.line_listing.specs.lines.Parts.{listed_lines}
+use Rattle.line_listing.specs.laws.NotFiniteTold.{six_told, nine_told}
 
 -- A STAMP WITH A NUMBER is told by it, and never by a text
 pub numbered-told : (s : Bool) (rows : List Row) (all : Stamps) (p : ℕ) → (number_of_place all p ≡ 0 → ⊥)
@@ -38,15 +38,26 @@ parts_join s rows all order line j (suc k) =
     ∙ ap (λ (l : List ℕ). l ++ place_line s rows all (line_in_order order (line + (j + k)))) (parts_join s rows all order line j k)
     ∙ ap (λ (n : ℕ). (listed_lines s rows all order line j ++ listed_lines s rows all order (line + j) k) ++ place_line s rows all (line_in_order order n))
     (let e : line + (j + k) ≡ line + j + k = omega arith in e)
-    ∙ append_assoc (listed_lines s rows all order line j) (listed_lines s rows all order (line + j) k) (place_line s rows all (line_in_order order (line + j + k)))
+    ∙ append_assoc (listed_lines s rows all order line j) (listed_lines s rows all order (line + j) k)
+    (place_line s rows all (line_in_order order (line + j + k)))
 
--- A STAMP OF NUMBER 6 OR 9, as every one that is not finite has it (22.4 of docs/GUARANTEES.md), by whatever rows, in whatever order and runs
-pub six-told : (rows : List Row) (all : Stamps) (p : ℕ) → number_of_place all p ≡ 6 → stamp_told false rows (date_of_place all p) (number_of_place all p) ≡
-    ascii_bytes "refused 6"
-unfolding stamp_told refused number_told sentence_behind digits_of digits_in
-six-told rows all p e = ap (stamp_told false rows (date_of_place all p)) e
+-- A STAMP OF NUMBER 6 OR 9, as every one that is not finite has it, by whatever rows, in whatever order and runs, by numbers and with sentences
+pub six-told : (s : Bool) (rows : List Row) (all : Stamps) (p : ℕ) → number_of_place all p ≡ 6
+    → stamp_told s rows (date_of_place all p) (number_of_place all p) ≡ six_told s (date_of_place all p)
+unfolding stamp_told refused number_told sentence_behind as_sentence sentence reason_of onward offending parts_field render fixed_text texts digits_of digits_in
+    six_told
+six-told s rows all p e = ap (stamp_told s rows (date_of_place all p)) e ∙ by s
+  where
+    by : (s : Bool) → stamp_told s rows (date_of_place all p) 6 ≡ six_told s (date_of_place all p)
+    by true = refl
+    by false = refl
 
-pub nine-told : (rows : List Row) (all : Stamps) (p : ℕ) → number_of_place all p ≡ 9 → stamp_told false rows (date_of_place all p) (number_of_place all p) ≡
-    ascii_bytes "refused 9"
-unfolding stamp_told refused number_told sentence_behind digits_of digits_in
-nine-told rows all p e = ap (stamp_told false rows (date_of_place all p)) e
+pub nine-told : (s : Bool) (rows : List Row) (all : Stamps) (p : ℕ) → number_of_place all p ≡ 9
+    → stamp_told s rows (date_of_place all p) (number_of_place all p) ≡ nine_told s (date_of_place all p)
+unfolding stamp_told refused number_told sentence_behind as_sentence sentence reason_of onward offending parts_field render fixed_text texts digits_of digits_in
+    nine_told
+nine-told s rows all p e = ap (stamp_told s rows (date_of_place all p)) e ∙ by s
+  where
+    by : (s : Bool) → stamp_told s rows (date_of_place all p) 9 ≡ nine_told s (date_of_place all p)
+    by true = refl
+    by false = refl

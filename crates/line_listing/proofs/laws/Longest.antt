@@ -1,12 +1,5 @@
 -- THE LONGEST LINE: no line of a stamp has more bytes than it is given room for. Assumes nothing.
-use Prim.Native.Nat.{ℕ, ◌+◌, ◌-◌, ◌≤◌, ◌<◌}
-use native.Mathlib.Omega.{arith}
-use mathlib.Core.Path.{◌≡◌, refl, sym, ap, subst, ◌∙◌}
-use mathlib.Core.Logic.{inl, inr}
-use mathlib.Core.Bool.{Bool, true, false, cond}
-use mathlib.Core.List.{List, [], ◌∷◌, ◌++◌}
-use lib.Dec.{eqb, ltb}
-use lib.ListN.{length, length-append}
+use Rattle.std.proofs.Common.{◌≡◌, ℕ, ◌+◌, ◌-◌, ◌<◌, ◌≤◌, Bool, true, false, cond, eqb, ltb, List, [], ◌∷◌, ◌++◌, length, refl, inl, inr, arith, length-append}
 use Rattle.refusals.specs.Outcome.{Outcome, answer, refusal}
 use Rattle.numerals.specs.digits.Decimal.{digits_of}
 use Rattle.numerals.proofs.digits.Decimal.{digits-few}
@@ -16,7 +9,7 @@ use Rattle.scales.specs.laws.Ranges.{Held}
 use Rattle.utc.specs.text.Ascii.{ascii_bytes}
 use Rattle.utc.specs.iso_texts.Expanded.{iso_text_expanded}
 use Rattle.utc_scales.specs.UtcTai.{tai_to_utc}
-use Rattle.utc_scales.specs.laws.Claims.{Holds, answers, refuses, Any, SixOrOne}
+use Rattle.utc_scales.specs.laws.Claims.{Holds, refuses, Any, SixOrOne}
 use Rattle.utc_scales.proofs.laws.Refusals.{tai-to-utc-refuses}
 use Rattle.stamps.proofs.Texts.{brief, date-number}
 use Rattle.runs.proofs.laws.Refusing.{stamp-held}

@@ -1,6 +1,5 @@
 -- Small runs, worked out: the numbers after the lining up, the ends of the runs, the ordered places. Assumes nothing.
-use mathlib.Core.Path.{◌≡◌, refl}
-use mathlib.Core.List.{[], ◌∷◌}
+use Rattle.std.proofs.Common.{◌≡◌, [], ◌∷◌, refl}
 use Rattle.line_listing.specs.order.Order.{until_zero, each_behind, run_starts, line_order}
 
 -- refused at the start, in the middle and at the end of a run

@@ -1,18 +1,11 @@
 -- How long what is told of a stamp is at most: a number with its sentence 60 bytes, since only 6 and 9 name a part, and a line 84, or 43 without sentences.
 -- Assumes nothing.
-use Prim.Native.Nat.{ℕ, ◌+◌, ◌≤◌, ◌<◌}
-use native.Mathlib.Omega.{arith}
-use mathlib.Core.Path.{◌≡◌, refl, sym, ap, subst, ◌∙◌}
-use mathlib.Core.List.{List, [], ◌∷◌, ◌++◌}
-use mathlib.Core.Bool.{Bool, true, false, cond, ◌&&◌}
-use lib.Dec.{eqb, leb, ltb}
-use lib.ListN.{length, length-append}
-use borrow.Author.Tests.{ltb-true, ltb-false, ne_eqb}
-use Rattle.refusals.specs.Outcome.{Outcome, answer, refusal, onward}
+use Rattle.std.proofs.Common.{◌≡◌, ℕ, ◌+◌, ◌<◌, ◌≤◌, Bool, true, false, cond, ◌&&◌, ltb, leb, [], ◌++◌, length, refl, arith, length-append, ltb-false, ltb-true}
+use Rattle.std.proofs.Common.{ne_eqb}
+use Rattle.refusals.specs.Outcome.{answer, refusal, onward}
 use Rattle.numerals.specs.digits.Decimal.{digits_of}
 use Rattle.numerals.proofs.digits.Decimal.{digits-few}
 use Rattle.julian.specs.declared.JulianDate.{JulianDate}
-use Rattle.reasons.specs.declared.Values.{Values}
 use Rattle.reasons.specs.declared.Values.TheVariants.{Parts}
 use Rattle.reasons.specs.declared.sentences.Reason.{Reason}
 use Rattle.reasons.specs.Widths.{OfWidth}

@@ -1,19 +1,13 @@
 -- A line from its fields: what is told by the mark of the conversion, and the writes of a line joined. Assumes nothing.
-use Prim.Native.Nat.{ℕ, ◌+◌, ◌-◌, ◌≤◌, ◌<◌}
-use native.Mathlib.Omega.{arith}
-use mathlib.Core.Path.{◌≡◌, refl, sym, ap, subst, ◌∙◌}
-use mathlib.Core.List.{List, [], ◌∷◌, ◌++◌}
-use mathlib.Core.Bool.{Bool, true, cond}
-use lib.ListN.{length}
-use lib.Dec.{eqb}
-use borrow.Author.Tests.{ne_eqb, eq-eqb, lt-ltb, le-ltb}
+use Rattle.std.proofs.Common.{◌≡◌, ℕ, ◌-◌, ◌<◌, ◌≤◌, Bool, true, false, cond, eqb, List, [], ◌++◌, get_or, sym, refl, ap, ◌∙◌, arith, le-ltb, lt-ltb, eq-eqb}
+use Rattle.std.proofs.Common.{ne_eqb, eqb-true}
+use borrow.Author.Tests.{eqb-false}
 use Rattle.refusals.specs.Outcome.{Outcome, answer, refusal, onward}
-use Rattle.numerals.specs.digits.Placed.{Placed}
-use Rattle.numerals.specs.digits.Decimal.{digits_of}
-use Rattle.numerals.proofs.digits.Places.{then, placed-as}
+use Rattle.numerals.proofs.digits.Places.{placed-as}
 use Rattle.julian.specs.declared.JulianDate.{JulianDate}
 use Rattle.leap_table.specs.rows.Table.{Row}
 use Rattle.stamps.specs.Listing.{one_if_refused}
+use Rattle.stamps.proofs.Texts.{date-number}
 use Rattle.utc_scales.specs.UtcTai.{tai_to_utc}
 use Rattle.utc.specs.text.Ascii.{ascii_bytes}
 use Rattle.reasons.specs.declared.Values.TheVariants.{Parts}
@@ -25,7 +19,7 @@ use Rattle.reasons.specs.Sentence.{reason_of, reason_outcome, sentence}
 use Rattle.utc.specs.iso_texts.Expanded.{iso_text_expanded}
 use Rattle.line_listing.specs.lines.StampLine.{recorder, index_in, as_sentence, sentence_behind, no_text}
 use Rattle.line_listing.specs.lines.StampLine.{refused, text_told, utc_told, stamp_told, line_by, no_text_count}
-use Rattle.line_listing.specs.lines.Asked.{answer_by, ToldAt}
+use Rattle.line_listing.specs.lines.Asked.{answer_by, text_by, none_by, told_by, textless_by, line_told, page_text, TextAt, ToldAt}
 use Rattle.line_listing.specs.declared.lines.Told.{Told}
 
 -- ---- the recorder
@@ -81,55 +75,106 @@ pub told-as : {d after : List ℕ} {at none none' : ℕ} {t t' : List ℕ} {r : 
     after
 told-as e f p = record { placed = placed-as e p.placed; counted = p.counted ∙ f }
 
--- ---- what is told of an ordered stamp
-module _ (s : Bool) (rows : List Row) (tai : JulianDate) where
-  pub none_told : (k : ℕ) → tai_to_utc rows tai ≡ refusal k → no_text s k tai ≡ utc_told s rows tai (tai_to_utc rows tai)
-  unfolding utc_told
-  none_told k e = sym (ap (utc_told s rows tai) e)
+-- ---- what is told by the numbers of the conversion and of the text
+module _ (s : Bool) (m : ℕ) (tai date : JulianDate) (text : List ℕ) (n : ℕ) where
+  pub mark_told : (m ≡ 0 → ⊥) → no_text s m tai ≡ text_by s m tai date text n
+  unfolding text_by
+  mark_told h = sym (rw (ne_eqb m 0 h))
 
-  pub none-counted : (k : ℕ) → tai_to_utc rows tai ≡ refusal k → 1 ≡ one_if_refused (onward (tai_to_utc rows tai) (iso_text_expanded rows))
-  unfolding one_if_refused onward
-  none-counted k e = sym (ap (λ (o : Outcome JulianDate). one_if_refused (onward o (iso_text_expanded rows))) e)
+  pub none_told : m ≡ 0 → (n ≡ 0 → ⊥) → no_text s n date ≡ text_by s m tai date text n
+  unfolding text_by
+  none_told e h = sym (rw (eq-eqb m 0 e, ne_eqb n 0 h))
 
-  module _ (utc : JulianDate) (u : tai_to_utc rows tai ≡ answer utc) where
-    by_utc : utc_told s rows tai (tai_to_utc rows tai) ≡ text_told s utc (iso_text_expanded rows utc)
-    unfolding utc_told
-    by_utc = ap (utc_told s rows tai) u
+  pub text-told : m ≡ 0 → n ≡ 0 → text ≡ text_by s m tai date text n
+  unfolding text_by
+  text-told e f = sym (rw (eq-eqb m 0 e, eq-eqb n 0 f))
 
-    count-utc : one_if_refused (onward (tai_to_utc rows tai) (iso_text_expanded rows)) ≡ one_if_refused (iso_text_expanded rows utc)
-    unfolding onward
-    count-utc = ap (λ (o : Outcome JulianDate). one_if_refused (onward o (iso_text_expanded rows))) u
+module _ (m n : ℕ) where
+  pub mark_counted : (m ≡ 0 → ⊥) → 1 ≡ none_by m n
+  unfolding none_by
+  mark_counted h = sym (rw (ne_eqb m 0 h))
 
-    pub text-told : (t : List ℕ) → iso_text_expanded rows utc ≡ answer t → t ≡ utc_told s rows tai (tai_to_utc rows tai)
-    unfolding text_told
-    text-told t e = sym (by_utc ∙ ap (text_told s utc) e)
+  pub none-counted : m ≡ 0 → (n ≡ 0 → ⊥) → 1 ≡ none_by m n
+  unfolding none_by
+  none-counted e h = sym (rw (eq-eqb m 0 e, ne_eqb n 0 h))
 
-    pub text-counted : (t : List ℕ) → iso_text_expanded rows utc ≡ answer t → 0 ≡ one_if_refused (onward (tai_to_utc rows tai) (iso_text_expanded rows))
-    unfolding one_if_refused
-    text-counted t e = sym (count-utc ∙ ap one_if_refused e)
+  pub text-counted : m ≡ 0 → n ≡ 0 → 0 ≡ none_by m n
+  unfolding none_by
+  text-counted e f = sym (rw (eq-eqb m 0 e, eq-eqb n 0 f))
 
-    pub refused-told : (k : ℕ) → iso_text_expanded rows utc ≡ refusal k → no_text s k utc ≡ utc_told s rows tai (tai_to_utc rows tai)
-    unfolding text_told
-    refused-told k e = sym (by_utc ∙ ap (text_told s utc) e)
+-- ---- of any stamp
+module _ (s : Bool) (k m : ℕ) (tai date : JulianDate) (text : List ℕ) (n : ℕ) where
+  pub refused-is : (k ≡ 0 → ⊥) → refused s k tai ≡ told_by s k m tai date text n
+  unfolding told_by
+  refused-is h = sym (rw (ne_eqb k 0 h))
 
-    pub refused-counted : (k : ℕ) → iso_text_expanded rows utc ≡ refusal k → 1 ≡ one_if_refused (onward (tai_to_utc rows tai) (iso_text_expanded rows))
-    unfolding one_if_refused
-    refused-counted k e = sym (count-utc ∙ ap one_if_refused e)
+  pub ordered-is : k ≡ 0 → text_by s m tai date text n ≡ told_by s k m tai date text n
+  unfolding told_by
+  ordered-is h = sym (rw (eq-eqb k 0 h))
 
-  -- ---- of any stamp
-  module _ (k : ℕ) where
-    pub refused-is : (k ≡ 0 → ⊥) → refused s k tai ≡ stamp_told s rows tai k
-    unfolding stamp_told
-    refused-is h = sym (rw (ne_eqb k 0 h))
+module _ (k m n : ℕ) where
+  pub refused_none : (k ≡ 0 → ⊥) → 0 ≡ textless_by k m n
+  unfolding textless_by
+  refused_none h = sym (rw (ne_eqb k 0 h))
 
-    pub refused_none : (k ≡ 0 → ⊥) → 0 ≡ no_text_count rows tai k
-    unfolding no_text_count
-    refused_none h = sym (rw (ne_eqb k 0 h))
+  pub ordered-none : k ≡ 0 → none_by m n ≡ textless_by k m n
+  unfolding textless_by
+  ordered-none h = sym (rw (eq-eqb k 0 h))
 
-    pub ordered-is : k ≡ 0 → utc_told s rows tai (tai_to_utc rows tai) ≡ stamp_told s rows tai k
-    unfolding stamp_told
-    ordered-is h = sym (rw (eq-eqb k 0 h))
+  pub count-one : textless_by k m n ≤ 1
+  unfolding textless_by none_by
+  count-one = go (eqb k 0) (eqb m 0) (eqb n 0)
+    where
+      go : (a b d : Bool) → cond a (cond b (cond d 0 1) 1) 0 ≤ 1
+      go true true true = omega arith
+      go true true false = omega arith
+      go true false d = omega arith
+      go false b d = omega arith
 
-    pub ordered-none : k ≡ 0 → one_if_refused (onward (tai_to_utc rows tai) (iso_text_expanded rows)) ≡ no_text_count rows tai k
-    unfolding no_text_count
-    ordered-none h = sym (rw (eq-eqb k 0 h))
+-- ---- THE TEXT OF A PAGE is that of the stamp: by its conversion, and by the text of its UTC
+module _ (s : Bool) (rows : List Row) (tai date : JulianDate) (m : ℕ) (conv : answer_by m date ≡ tai_to_utc rows tai) (i : ℕ) (texts lengths nones : List ℕ)
+    (there : TextAt (iso_text_expanded rows date) i texts lengths nones) where
+  abbrev n : ℕ
+  n = get_or nones i 0
+
+  abbrev text : List ℕ
+  text = page_text texts lengths i
+
+  by_utc : (o : Outcome (List ℕ)) → iso_text_expanded rows date ≡ o → m ≡ 0 → (text_by s m tai date text n ≡ text_told s date o) ×
+      (none_by m n ≡ one_if_refused o)
+  unfolding text_told one_if_refused
+  by_utc (answer t) e z =
+      let w = there.there t e in
+      (sym (text-told s m tai date text n z w.0) ∙ w.1, sym (text-counted m n z w.0))
+  by_utc (refusal k) e z =
+      let w = there.none k e in
+      let some : n ≡ 0 → ⊥ = λ q. let b : ⊥ = omega (arith, (date-number rows date k e).0, w, q) in b in
+      (sym (none_told s m tai date text n z some) ∙ ap (λ (j : ℕ). no_text s j date) w, sym (none-counted m n z some))
+
+  by-mark : (b : Bool) → eqb m 0 ≡ b
+      → (text_by s m tai date text n ≡ utc_told s rows tai (tai_to_utc rows tai)) ×
+      (none_by m n ≡ one_if_refused (onward (tai_to_utc rows tai) (iso_text_expanded rows)))
+  unfolding utc_told onward one_if_refused
+  by-mark true e =
+      let z = eqb-true m 0 e in
+      let u = unmarked m date (tai_to_utc rows tai) z conv in
+      let w = by_utc (iso_text_expanded rows date) refl z in
+      (w.0 ∙ sym (ap (utc_told s rows tai) u), w.1 ∙ sym (ap (λ (o : Outcome JulianDate). one_if_refused (onward o (iso_text_expanded rows))) u))
+  by-mark false e =
+      let h = eqb-false m 0 e in
+      let u = marked m date (tai_to_utc rows tai) h conv in (
+        sym (mark_told s m tai date text n h) ∙ sym (ap (utc_told s rows tai) u),
+        sym (mark_counted m n h) ∙ sym (ap (λ (o : Outcome JulianDate). one_if_refused (onward o (iso_text_expanded rows))) u),
+      )
+
+  pub told_is : (k : ℕ) → told_by s k m tai date text n ≡ stamp_told s rows tai k
+  unfolding told_by stamp_told
+  told_is k = ap (λ (l : List ℕ). cond (eqb k 0) l (refused s k tai)) (by-mark (eqb m 0) refl).0
+
+  pub count-is : (k : ℕ) → textless_by k m n ≡ no_text_count rows tai k
+  unfolding textless_by no_text_count
+  count-is k = ap (λ (j : ℕ). cond (eqb k 0) j 0) (by-mark (eqb m 0) refl).1
+
+  pub line-is : (first second p k : ℕ) → line_told first second p (told_by s k m tai date text n) ≡ line_by s rows first second p tai k
+  unfolding line_told line_by
+  line-is first second p k = ap (line_told first second p) (told_is k)

@@ -1,19 +1,11 @@
 -- A page of 256 lines: the parts that are gathered, and the UTC that a run of them leaves. Assumes nothing.
-use Prim.Native.Nat.{ℕ, zero, suc, ◌+◌, ◌*◌, ◌/◌, ◌<◌, ◌≤◌}
-use native.Mathlib.Omega.{arith}
-use native.Mathlib.Nat.{eq-or-lt_of_le}
-use mathlib.Core.Path.{◌≡◌, refl, sym, ap, subst, ◌∙◌}
-use mathlib.Core.Logic.{◌⊎◌, inl, inr}
-use mathlib.Core.List.{List}
-use mathlib.Core.Bool.{cond}
-use lib.Dec.{T, eqb}
-use lib.ListN.{length, get_or}
+use Rattle.std.proofs.Common.{◌≡◌, ℕ, zero, suc, ◌+◌, ◌*◌, ◌/◌, ◌%◌, ◌<◌, ◌≤◌, T, ◌⊎◌, List, length, get_or, take, drop, sym, refl, ap, ◌∙◌, subst, inl, inr}
+use Rattle.std.proofs.Common.{eq-or-lt_of_le, arith, length-drop, length-take-le, get_or-drop, get_or-take, ext_get_or, eq-eqb, ne_eqb, le-leb}
 use lib.Seq.{sets, length-sets}
 use lib.Ieee.{Float, binary64, fits, of_bits, to_bits}
 use lib.Ieee.Bits.{to_bits-lt, of_bits-to_bits}
 use lib.Ieee.Fits.{add-fits}
-use borrow.Author.Tests.{le-leb, eq-eqb, ne_eqb}
-use Rattle.refusals.specs.Outcome.{Outcome, answer, refusal, onward}
+use Rattle.refusals.specs.Outcome.{Outcome, answer, refusal}
 use Rattle.refusals.proofs.Onward.{came}
 use Rattle.numerals.specs.little_endian.LittleEndian.{four_at, u64_at, eight_bytes, with_nth64}
 use Rattle.numerals.proofs.little_endian.Puts.{put-64-is}
@@ -25,7 +17,7 @@ use Rattle.leap_table.specs.rows.Table.{Row}
 use Rattle.scales.specs.laws.Ranges.{Held}
 use Rattle.utc_scales.specs.UtcTai.{moved, refined, rounds, refine_utc_fraction, tai_to_utc, utc_to_tai}
 use Rattle.utc_scales.specs.days.LargerPart.{kept_parts, put_beside, placed, change_smaller}
-use Rattle.utc_scales.specs.laws.Claims.{Holds, answers, refuses, Any}
+use Rattle.utc_scales.specs.laws.Claims.{Holds, refuses, Any}
 use Rattle.utc_scales.proofs.laws.Refusals.{parts-fit}
 use Rattle.runs.specs.by_formula.Run.{RunCall, run_written, first_part, second_part}
 use Rattle.runs.proofs.by_formula.Puts.{parts-length, numbers-length}
@@ -37,8 +29,16 @@ use Rattle.numerals.proofs.little_endian.SetBytes.{set_outside, set_inside}
 use Rattle.runs.proofs.laws.Refusing.{stamp-held, way_refusals, beside-held}
 use Rattle.runs.proofs.laws.EachWay.{each_way}
 use Rattle.runs.proofs.laws.Theorems.{each-stamp}
+use Rattle.stamps.proofs.Texts.{brief}
+use Rattle.utc.specs.declared.iso_texts.NamedForm.TheVariants.{Expanded}
+use Rattle.utc.specs.iso_texts.Named.{form_named}
+use Rattle.utc.specs.iso_texts.Expanded.{iso_text_expanded}
+use Rattle.utc.specs.run_texts.RunTexts.{stamp_text, length_byte, refusal_byte, TextsCall, texts_written, texts_by, texts_of_run}
+use Rattle.utc.specs.laws.RunTexts.{TextDone, TextsDue}
+use Rattle.utc.proofs.run_texts.Puts.{texts-kept, bytes-kept}
+use Rattle.utc.proofs.laws.RunTexts.{due_answered, each-text}
 use Rattle.line_listing.specs.lines.StampLine.{line_in_order}
-use Rattle.line_listing.specs.lines.Asked.{answer_by, Gathered, Converted}
+use Rattle.line_listing.specs.lines.Asked.{answer_by, PartsRoom, TextsRoom, page_text, Gathered, Converted, Texts}
 
 -- ---- eight bytes are one number
 module _ (l m : List ℕ) (at to : ℕ) (room : at + 8 ≤ length l) (room' : to + 8 ≤ length m) (same : (k : ℕ) → k < 8 → get_or l (at + k) 0 ≡ get_or m (to + k) 0)
@@ -174,26 +174,96 @@ module _ (rows : List Row) (js ks out1 out2 numbers : List ℕ)
             not_zero n (inr (inl e)) q = omega arith
             not_zero n (inr (inr e)) q = omega arith
 
--- THE UTC OF A PAGE
-module _ (rows : List Row) (js ks order : List ℕ) (line : ℕ) (tai1 tai2 out1 out2 numbers : List ℕ) (c : RunCall) (a : length tai1 ≡ 2048)
-    (b : length tai2 ≡ 2048) (d : length out1 ≡ 2048) (e : length out2 ≡ 2048) (f : length numbers ≡ 256) (u : Gathered js order line 256 tai1)
-    (v : Gathered ks order line 256 tai2) (call : c ≡ run_by rows 1 0 tai1 tai2 out1 out2 numbers) where
+-- THE UTC OF A PAGE of n lines
+module _ (rows : List Row) (js ks order : List ℕ) (line n : ℕ) (tai1 tai2 out1 out2 numbers : List ℕ) (c : RunCall) (from : PartsRoom n tai1 tai2)
+    (to : PartsRoom n out1 out2) (f : length numbers ≡ n) (u : Gathered js order line n tai1) (v : Gathered ks order line n tai2)
+    (call : c ≡ run_by rows 1 0 tai1 tai2 out1 out2 numbers) where
   taken : run_refusal 1 0 (length tai1) (length tai2) (length out1) (length out2) (length numbers) ≡ 0
   unfolding run_refusal is_run_scale
-  taken = rw (a, b, d, e, f) refl
+  taken =
+      let w : 8 * n % 8 ≡ 0 = omega arith in
+      let q : 8 * n / 8 ≡ n = omega arith in
+      rw (
+        from.first,
+        from.second,
+        to.first,
+        to.second,
+        f,
+        w,
+        eq-eqb (8 * n) (8 * n) refl,
+        le-leb (8 * n) (8 * n) (omega arith),
+        q,
+        le-leb n n (omega arith),
+      ) refl
 
-  same : (i : ℕ) → i < 256 → stamp_of tai1 tai2 i ≡ stamp_of js ks (line_in_order order (line + i))
+  same : (i : ℕ) → i < n → stamp_of tai1 tai2 i ≡ stamp_of js ks (line_in_order order (line + i))
   unfolding stamp_of
   same i low = λ j. julian (of_bits binary64 (u i low j)) (of_bits binary64 (v i low j))
 
-  pub page-lengths : (length c.out1 ≡ 2048) × (length c.out2 ≡ 2048) × (length c.numbers ≡ 256)
+  pub page-lengths : PartsRoom n c.out1 c.out2 × (length c.numbers ≡ n)
   page-lengths = (
-    first-length rows tai1 tai2 out1 out2 numbers taken c call ∙ d,
-    second-length rows tai1 tai2 out1 out2 numbers taken c call ∙ e,
+    record {
+      first = first-length rows tai1 tai2 out1 out2 numbers taken c call ∙ to.first;
+      second = second-length rows tai1 tai2 out1 out2 numbers taken c call ∙ to.second;
+    },
     third-length rows tai1 tai2 out1 out2 numbers taken c call ∙ f,
   )
 
-  pub page-converted : Converted rows js ks order line c.out1 c.out2 c.numbers
+  pub page-converted : Converted rows js ks order line n c.out1 c.out2 c.numbers
   page-converted i low =
-      stamp-converted rows tai1 tai2 out1 out2 numbers taken c call i (omega (arith, a)) (omega (arith, page-lengths.0)) (omega (arith, page-lengths.1))
+      stamp-converted rows tai1 tai2 out1 out2 numbers taken c call i (omega (arith, from.first)) (omega (arith, page-lengths.0.first))
+      (omega (arith, page-lengths.0.second))
       ∙ ap (tai_to_utc rows) (same i low)
+
+-- THE TEXTS OF A PAGE of n lines, from what the call leaves of each
+module _ (rows : List Row) (utc1 utc2 : List ℕ) (n : ℕ) (texts lengths nones : List ℕ) (room : PartsRoom n utc1 utc2) (places : TextsRoom n texts lengths nones)
+    (c : TextsCall) (call : c ≡ texts_by (form_named Expanded) rows utc1 utc2 texts lengths nones) where
+  due : TextsDue n (length utc1) (length utc2) (length texts) (length lengths) (length nones)
+  due = record {
+    first = room.first;
+    second = room.second;
+    places = omega (arith, places.places);
+    bytes = omega (arith, places.sizes);
+    bytes2 = omega (arith, places.marks);
+  }
+
+  written-texts : c ≡ texts_written (stamp_text (form_named Expanded) rows utc1 utc2) n texts lengths nones
+  unfolding texts_by
+  written-texts =
+      let q : length utc1 / 8 ≡ n = omega (arith, room.first) in
+      call ∙ rw (eq-eqb _ 0 (due_answered (length utc1) (length utc2) (length texts) (length lengths) (length nones) n due), q)
+
+  each : (i : ℕ) → i < n → TextDone (iso_text_expanded rows (stamp_of utc1 utc2 i)) i texts c
+  unfolding texts_of_run form_named
+  each i h = subst (TextDone (iso_text_expanded rows (stamp_of utc1 utc2 i)) i texts) (sym call)
+      (each-text Expanded rows utc1 utc2 texts lengths nones n due i h)
+
+  pub texts-lengths : TextsRoom n c.texts c.lengths c.numbers
+  unfolding texts_written
+  texts-lengths = record {
+    places = ap (λ (x : TextsCall). length x.texts) written-texts ∙ texts-kept (stamp_text (form_named Expanded) rows utc1 utc2) n texts ∙ places.places;
+    sizes = ap (λ (x : TextsCall). length x.lengths) written-texts ∙ bytes-kept length_byte (stamp_text (form_named Expanded) rows utc1 utc2) n lengths
+        ∙ places.sizes;
+    marks = ap (λ (x : TextsCall). length x.numbers) written-texts ∙ bytes-kept refusal_byte (stamp_text (form_named Expanded) rows utc1 utc2) n nones
+        ∙ places.marks;
+  }
+
+  pub texts-there : Texts rows utc1 utc2 n c.texts c.lengths c.numbers
+  texts-there i h = record { there = there; none = λ k e. (each i h).numbered k e; short = short (iso_text_expanded rows (stamp_of utc1 utc2 i)) refl }
+    where
+      short : (o : Outcome (List ℕ)) → iso_text_expanded rows (stamp_of utc1 utc2 i) ≡ o → get_or c.lengths i 0 ≤ 27
+      short (answer t) e = omega (arith, (each i h).measured t e, brief rows (stamp_of utc1 utc2 i) t e)
+      short (refusal k) e = omega (arith, (each i h).empty k e)
+
+      there : (t : List ℕ) → iso_text_expanded rows (stamp_of utc1 utc2 i) ≡ answer t
+          → (get_or c.numbers i 0 ≡ 0) × (page_text c.texts c.lengths i ≡ t)
+      there t e =
+          let few = brief rows (stamp_of utc1 utc2 i) t e in
+          let long : length t ≤ length (drop (27 * i) c.texts) = omega (arith, few, length-drop (27 * i) c.texts, texts-lengths.places) in (
+            (each i h).answered t e,
+            ap (λ (k : ℕ). take k (drop (27 * i) c.texts)) ((each i h).measured t e)
+                ∙ ext_get_or 0 (take (length t) (drop (27 * i) c.texts)) t (length-take-le (length t) (drop (27 * i) c.texts) long)
+                (λ k b.
+                let low : k < length t = omega (arith, length-take-le (length t) (drop (27 * i) c.texts) long) in
+                get_or-take (length t) (drop (27 * i) c.texts) k 0 low ∙ get_or-drop (27 * i) c.texts k 0 ∙ (each i h).written t e k low),
+          )

@@ -1,9 +1,5 @@
 -- What the calls that write a text or a sentence left in a buffer that surely holds it. Assumes nothing.
-use Prim.Native.Nat.{ℕ, ◌+◌, ◌-◌, ◌≤◌}
-use native.Mathlib.Omega.{arith}
-use mathlib.Core.Path.{◌≡◌, refl, sym, ap, subst, ◌∙◌}
-use mathlib.Core.List.{List, ◌++◌}
-use lib.ListN.{length, take, drop}
+use Rattle.std.proofs.Common.{◌≡◌, ℕ, zero, suc, ◌+◌, ◌-◌, ◌≤◌, List, [], ◌∷◌, ◌++◌, length, take, drop, sym, refl, ap, subst, arith, length-take-le}
 use Rattle.refusals.specs.Outcome.{Outcome, answer, refusal, onward}
 use Rattle.numerals.specs.digits.Placed.{Placed}
 use Rattle.numerals.proofs.digits.Places.{part-put}
@@ -34,6 +30,22 @@ module _ {t p ys : List ℕ} {res : TextAnswer} (put : TextPut t p res ys) where
 
   pub put-fits : (k : ℕ) → res ≡ Refused k → length t ≤ length p → ⊥
   put-fits k e h = given-fits call k e h
+
+-- ---- a text in a page of texts, lent as texts[at .. at + n]
+pub part-is : (texts : List ℕ) (at n m : ℕ) → n ≡ m → take (at + n - at) (drop at texts) ≡ take m (drop at texts)
+part-is texts at n m e = ap (λ (k : ℕ). take k (drop at texts)) (let w : at + n - at ≡ m = omega (arith, e) in w)
+
+pub part-short : (texts : List ℕ) (at n : ℕ) → n ≤ 27 → length (take (at + n - at) (drop at texts)) ≤ 27
+part-short texts at n h = omega (arith, take_most (at + n - at) (drop at texts))
+  where
+    take_most : (k : ℕ) (l : List ℕ) → length (take k l) ≤ k
+    take_most zero l = omega arith
+    take_most (suc k) [] = omega arith
+    take_most (suc k) (x ∷ xs) = omega (arith, take_most k xs)
+
+-- ---- the first n bytes of an area of k
+pub area_long : (n k : ℕ) (l : List ℕ) → length l ≡ k → n ≤ k → length (take n l) ≡ n
+area_long n k l e h = length-take-le n l (omega (arith, e))
 
 -- ---- the text of a UTC date that was written
 module _ (rows : List Row) (jd : JulianDate) {p ys : List ℕ} {res : TextByRule} (call : TextRuleCall (expanded_by_rule rows jd) p res ys) where

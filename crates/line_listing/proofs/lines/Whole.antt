@@ -1,52 +1,57 @@
 -- The lines of a part one behind the other. Assumes nothing.
-use Prim.Native.Nat.{ℕ, zero, suc, ◌+◌, ◌-◌, ◌*◌, ◌/◌, ◌≤◌, ◌<◌}
-use native.Mathlib.Omega.{arith}
-use native.Mathlib.Numerals.{add-one}
-use mathlib.Core.Path.{◌≡◌, refl, sym, ap, subst, ◌∙◌}
-use mathlib.Core.List.{List, [], ◌++◌}
-use mathlib.Core.Bool.{Bool, true, false, cond}
-use lib.Dec.{eqb, leb}
-use borrow.Author.Tests.{leb-true, leb-false, le-leb}
+use Rattle.std.proofs.Common.{◌≡◌, ℕ, zero, suc, ◌+◌, ◌-◌, ◌*◌, ◌/◌, ◌<◌, ◌≤◌, Bool, true, false, cond, ◌&&◌, eqb, ltb, leb, ◌⊎◌, List, ◌++◌, length, get_or}
+use Rattle.std.proofs.Common.{drop, sym, refl, ap, ◌∙◌, subst, inl, inr, eq-or-lt_of_le, add-one, arith, le-ltb, lt-ltb, le-leb, leb-false, leb-true}
 use Rattle.refusals.specs.Outcome.{Outcome, answer, refusal, onward}
 use Rattle.leap_table.specs.rows.Announced.{least, unless_refused}
 use Rattle.stamps.specs.Listing.{one_if_refused}
 use Rattle.utc_scales.specs.UtcTai.{tai_to_utc}
+use Rattle.utc.specs.iso_texts.Expanded.{iso_text_expanded}
 use Rattle.utc.specs.text.Answer.{buffer_after}
 use Rattle.utc.specs.iso_texts.TextCall.{buffer_holds}
-use Rattle.utc.specs.iso_texts.Expanded.{iso_text_expanded}
-use lib.ListN.{length, drop}
 use Rattle.numerals.specs.digits.Placed.{pasted, Placed}
 use Rattle.numerals.proofs.digits.Places.{then, placed-as, nothing}
 use Rattle.julian.specs.declared.JulianDate.{JulianDate}
+use Rattle.julian.specs.stamp_lists.Stamps.{stamp_of}
 use Rattle.leap_table.specs.rows.Table.{Row}
 use Rattle.line_listing.specs.declared.lines.Told.{Told}
 use Rattle.line_listing.specs.declared.lines.Part.{Part}
 use Rattle.line_listing.specs.declared.lines.PartAnswer.TheVariants.{Lines, Refused}
-use Rattle.line_listing.specs.lines.StampLine.{Stamps, line_in_order, date_of_place, number_of_place, line_by, place_line, no_text_count}
-use Rattle.line_listing.specs.lines.Parts.{longest_line, listed_lines, textless_from, listed_count, listed_part, part_answered, listed_outcome, ListedCall}
-use Rattle.line_listing.specs.lines.Asked.{ToldAt, LinesPlaced}
+use Rattle.line_listing.specs.lines.StampLine.{Stamps, line_in_order, date_of_place, number_of_place, place_line, no_text_count}
+use Rattle.line_listing.specs.lines.Parts.{longest_line, listed_lines, textless_from, listed_count, places_there, absent_refusal, listed_part}
+use Rattle.line_listing.specs.lines.Parts.{part_answered, listed_outcome, ListedCall}
+use Rattle.line_listing.specs.lines.Asked.{told_by, textless_by, line_told, Page, page_text, Converted, Texts, page_line, page_count, lines_joined, summed}
+use Rattle.line_listing.specs.lines.Asked.{ToldAt, PagePlaced, LinesPlaced}
+use Rattle.line_listing.proofs.lines.Line.{count-one, count-is, line-is}
 
--- ---- one line more
-module _ (s : Bool) (rows : List Row) (all : Stamps) (order : List ℕ) (line i : ℕ) (p : ℕ) (d : JulianDate) (k : ℕ) (place : p ≡ line_in_order order (line + i))
-    (date : d ≡ date_of_place all p) (number : k ≡ number_of_place all p) where
-  the_line : line_by s rows all.first all.second p d k ≡ place_line s rows all (line_in_order order (line + i))
-  unfolding place_line
-  the_line = rw (date, number, place)
+-- ---- one line more of a page
+module _ (s : Bool) (all : Stamps) (order : List ℕ) (line i : ℕ) (pg : Page) (p k m : ℕ) (tai date : JulianDate) (text : List ℕ) (n : ℕ)
+    (place : p ≡ line_in_order order (line + i)) (number : k ≡ number_of_place all p) (mark : m ≡ get_or pg.marks i 0) (tai-is : tai ≡ date_of_place all p)
+    (date-is : date ≡ stamp_of pg.utc1 pg.utc2 i) (text-is : text ≡ page_text pg.texts pg.lengths i) (none : n ≡ get_or pg.nones i 0) where
+  the_line : line_told all.first all.second p (told_by s k m tai date text n) ≡ page_line s all order line pg i
+  unfolding page_line
+  the_line = rw (tai-is, number, place, mark, date-is, text-is, none)
 
-  pub lines_more : {out₀ out out' : List ℕ} {at next : ℕ} → Placed out₀ 0 (listed_lines s rows all order line i) at out
-      → Placed out at (line_by s rows all.first all.second p d k) next out' → next ≤ length out₀
-      → Placed out₀ 0 (listed_lines s rows all order line (i + 1)) next out'
-  unfolding listed_lines
-  lines_more a b h = placed-as (ap (λ (l : List ℕ). listed_lines s rows all order line i ++ l) the_line ∙ more) (then a b h)
+  pub lines_more : {out₀ out out' : List ℕ} {at next : ℕ} → Placed out₀ 0 (lines_joined (page_line s all order line pg) i) at out
+      → Placed out at (line_told all.first all.second p (told_by s k m tai date text n)) next out' → next ≤ length out₀
+      → Placed out₀ 0 (lines_joined (page_line s all order line pg) (i + 1)) next out'
+  unfolding lines_joined
+  lines_more a b h = placed-as (ap (λ (l : List ℕ). lines_joined (page_line s all order line pg) i ++ l) the_line ∙ more) (then a b h)
     where
-      more : listed_lines s rows all order line i ++ place_line s rows all (line_in_order order (line + i)) ≡ listed_lines s rows all order line (i + 1)
-      more = ap (listed_lines s rows all order line) (sym (add-one i))
+      more : lines_joined (page_line s all order line pg) i ++ page_line s all order line pg i ≡ lines_joined (page_line s all order line pg) (i + 1)
+      more = ap (lines_joined (page_line s all order line pg)) (sym (add-one i))
 
-  pub textless-more : (n m : ℕ) → n ≡ textless_from rows all order line i → m ≡ no_text_count rows d k → n + m ≡ textless_from rows all order line (i + 1)
-  unfolding textless_from
-  textless-more n m e f = rw (e, f, date, number, place) (ap (textless_from rows all order line) (sym (add-one i)))
+  pub textless-more : (a b : ℕ) → a ≡ summed (page_count all order line pg) i → b ≡ textless_by k m n → a + b ≡ summed (page_count all order line pg) (i + 1)
+  unfolding summed page_count
+  textless-more a b e f =
+      (λ j. e j + (f ∙ the_count) j) ∙ ap (summed (page_count all order line pg)) (sym (add-one i))
+    where
+      the_count : textless_by k m n ≡ page_count all order line pg i
+      the_count = rw (number, place, mark, none)
 
 -- no more stamps than lines are without text
+pub told-one : (k m n : ℕ) {d t after : List ℕ} {at : ℕ} {r : Told} → ToldAt d at t (textless_by k m n) r after → r.textless ≤ 1
+told-one k m n p = subst (λ (j : ℕ). j ≤ 1) (sym p.counted) (count-one k m n)
+
 one_at_most : (o : Outcome (List ℕ)) → one_if_refused o ≤ 1
 unfolding one_if_refused
 one_at_most (answer t) = omega arith
@@ -60,9 +65,39 @@ without_one rows d k = go (eqb k 0)
     go true = one_at_most (onward (tai_to_utc rows d) (iso_text_expanded rows))
     go false = omega arith
 
-pub told-one : (rows : List Row) (x : JulianDate) (k : ℕ) {d t after : List ℕ} {at : ℕ} {r : Told} → ToldAt d at t (no_text_count rows x k) r after
-    → r.textless ≤ 1
-told-one rows x k p = subst (λ (n : ℕ). n ≤ 1) (sym p.counted) (without_one rows x k)
+-- ---- THE LINES OF A PAGE are those of its stamps
+module _ (s : Bool) (rows : List Row) (all : Stamps) (order : List ℕ) (line : ℕ) (pg : Page) (n : ℕ)
+    (converted : Converted rows all.jd1s all.jd2s order line n pg.utc1 pg.utc2 pg.marks)
+    (texts : Texts rows pg.utc1 pg.utc2 n pg.texts pg.lengths pg.nones) where
+  each_line : (i : ℕ) → i < n → page_line s all order line pg i ≡ place_line s rows all (line_in_order order (line + i))
+  unfolding page_line place_line
+  each_line i h = line-is s rows (date_of_place all (line_in_order order (line + i))) (stamp_of pg.utc1 pg.utc2 i) (get_or pg.marks i 0) (converted i h) i
+      pg.texts pg.lengths pg.nones (texts i h) all.first all.second (line_in_order order (line + i))
+      (number_of_place all (line_in_order order (line + i)))
+
+  each-count : (i : ℕ) → i < n → page_count all order line pg i
+      ≡ no_text_count rows (date_of_place all (line_in_order order (line + i))) (number_of_place all (line_in_order order (line + i)))
+  unfolding page_count
+  each-count i h = count-is s rows (date_of_place all (line_in_order order (line + i))) (stamp_of pg.utc1 pg.utc2 i) (get_or pg.marks i 0) (converted i h) i
+      pg.texts pg.lengths pg.nones (texts i h) (number_of_place all (line_in_order order (line + i)))
+
+  lines_same : (k : ℕ) → k ≤ n → lines_joined (page_line s all order line pg) k ≡ listed_lines s rows all order line k
+  unfolding lines_joined listed_lines
+  lines_same zero h = refl
+  lines_same (suc k) h = λ j. lines_same k (omega arith) j ++ each_line k (omega arith) j
+
+  counts_same : (k : ℕ) → k ≤ n → summed (page_count all order line pg) k ≡ textless_from rows all order line k
+  unfolding summed textless_from
+  counts_same zero h = refl
+  counts_same (suc k) h = λ j. counts_same k (omega arith) j + each-count k (omega arith) j
+
+  pub page-lines : (before after : List ℕ) (r : Part) → PagePlaced s all order line n pg before r after → LinesPlaced s rows all order line n before r after
+  page-lines before after r p = record {
+    placed = placed-as (lines_same n (omega arith)) p.placed;
+    next = p.next;
+    counted = p.counted ∙ counts_same n (omega arith);
+    within = p.within;
+  }
 
 -- ---- room for the lines that are left
 pub room-start : (s : Bool) (count len : ℕ) → count * longest_line s ≤ len → 0 + (count - 0) * longest_line s ≤ len
@@ -154,15 +189,47 @@ part-refused s rows all order line before o zero h e = absurd (h refl)
 part-refused s rows all order line before o (suc k) h e =
     subst (λ (x : Outcome (List Row)). ListedCall s x all order line before (Refused (suc k)) before) e (record { says = refl; holds = refl })
 
+-- ---- the places of the lines
+module _ (order : List ℕ) (n line : ℕ) where
+  and_false : (a b : Bool) → b ≡ false → a && b ≡ false
+  and_false true b e = e
+  and_false false b e = refl
+
+  pub place-gone : (i k : ℕ) → i < k → n ≤ line_in_order order (line + i) → false ≡ places_there order n line k
+  unfolding places_there
+  place-gone i zero h g = let w : ⊥ = omega arith in absurd w
+  place-gone i (suc k) h g = by (eq-or-lt_of_le (let w : i ≤ k = omega arith in w)) (λ b. place-gone i k b g)
+    where
+      by : (i ≡ k) ⊎ (i < k) → (i < k → false ≡ places_there order n line k) → false ≡ places_there order n line k && ltb (line_in_order order (line + k)) n
+      by (inl e) rest =
+          sym (and_false (places_there order n line k) (ltb (line_in_order order (line + k)) n)
+          (ap (λ (j : ℕ). ltb (line_in_order order (line + j)) n) (sym e) ∙ le-ltb (line_in_order order (line + i)) n g))
+      by (inr b) rest = rw (sym (rest b)) refl
+
+  pub place-more : (i p : ℕ) → p ≡ line_in_order order (line + i) → places_there order n line i ≡ true → p < n → places_there order n line (i + 1) ≡ true
+  unfolding places_there
+  place-more i p e a h =
+      ap (places_there order n line) (add-one i)
+      ∙ (λ j. a j && (ap (λ (x : ℕ). ltb x n) (sym e) ∙ lt-ltb p n h) j)
+
+  pub places-by : (s : Bool) (room c : ℕ) (b : Bool) → c ≡ listed_count s order line room → b ≡ places_there order n line c
+      → cond b 0 18 ≡ absent_refusal s n order line room
+  unfolding absent_refusal
+  places-by s room c b e f = ap (λ (t : Bool). cond {A = ℕ} t 0 18) f ∙ ap (λ (k : ℕ). cond {A = ℕ} (places_there order n line k) 0 18) e
+
+  pub places-none : (s : Bool) (room c : ℕ) → c ≡ listed_count s order line room → c ≡ 0 → 0 ≡ absent_refusal s n order line room
+  unfolding places_there
+  places-none s room c e z = places-by s room c true e (ap (places_there order n line) (sym z))
+
 -- the rows of a table, which are read by parts
 pub rows_same : (s : Bool) (rows rows' : List Row) (all : Stamps) (order : List ℕ) (line n : ℕ) (before : List ℕ) (r : Part) (after : List ℕ) → rows ≡ rows'
     → LinesPlaced s rows all order line n before r after → LinesPlaced s rows' all order line n before r after
 rows_same s rows rows' all order line n before r after e p = subst (λ (x : List Row). LinesPlaced s x all order line n before r after) e p
 
 -- all lines are there
-pub lines_end : (s : Bool) (rows : List Row) (all : Stamps) (order : List ℕ) (line count i : ℕ) (before after : List ℕ) (at n : ℕ) → i ≡ count
-    → Placed before 0 (listed_lines s rows all order line i) at after → n ≡ textless_from rows all order line i → at ≤ length before
-    → LinesPlaced s rows all order line count before (record { written = at; line = line + count; textless = n }) after
-lines_end s rows all order line count i before after at n e p f h =
-    subst (λ (m : ℕ). LinesPlaced s rows all order line m before (record { written = at; line = line + m; textless = n }) after) e
+pub lines_end : (s : Bool) (all : Stamps) (order : List ℕ) (line count i : ℕ) (pg : Page) (before after : List ℕ) (at n : ℕ) → i ≡ count
+    → Placed before 0 (lines_joined (page_line s all order line pg) i) at after → n ≡ summed (page_count all order line pg) i → at ≤ length before
+    → PagePlaced s all order line count pg before (record { written = at; line = line + count; textless = n }) after
+lines_end s all order line count i pg before after at n e p f h =
+    subst (λ (m : ℕ). PagePlaced s all order line m pg before (record { written = at; line = line + m; textless = n }) after) e
     (record { placed = p; next = refl; counted = f; within = h })

@@ -1,19 +1,14 @@
 -- The whole call: what its parts need after the lining up, and that together they do what `lines_in_order` says. Assumes nothing.
-use Prim.Native.Nat.{ℕ, zero, suc, ◌+◌, ◌*◌, ◌/◌, ◌%◌, ◌<◌, ◌≤◌}
-use native.Mathlib.Omega.{arith}
-use mathlib.Core.Path.{◌≡◌, refl, sym, ap, ◌∙◌, subst}
-use mathlib.Core.Bool.{Bool}
-use mathlib.Core.List.{List, [], ◌∷◌, ◌++◌}
-use lib.ListN.{length, take, drop}
-use lib.Seq.{drop_at}
-use borrow.Author.Tests.{ne_eqb}
+use Rattle.std.proofs.Common.{◌≡◌, ℕ, zero, suc, ◌+◌, ◌*◌, ◌/◌, ◌%◌, ◌<◌, ◌≤◌, Bool, List, [], ◌∷◌, ◌++◌, length, take, drop, sym, refl, ap, ◌∙◌, subst, arith}
+use Rattle.std.proofs.Common.{drop_at, ne_eqb}
 use Rattle.refusals.specs.Outcome.{answer}
 use Rattle.numerals.specs.little_endian.LittleEndian.{u32_at, four_at}
 use Rattle.numerals.proofs.little_endian.RoundTrip.{read-written-4}
 use Rattle.line_up.specs.declared.LineUpAnswer.{LineUpAnswer}
 use Rattle.line_up.specs.declared.LineUpAnswer.TheVariants.{Ordered, Refused}
 use Rattle.line_up.specs.Runs.{accepted_in, all_tested, numbers_after, merge, ordered}
-use Rattle.line_up.specs.LineUp.{unordered_at, sooner_at, places_bytes, least_room, line_refusal, count_outcome, result, LinedUp, line_written, put_in_line, lined_up}
+use Rattle.line_up.specs.LineUp.{unordered_at, sooner_at, places_bytes, least_room, line_refusal, count_outcome, result, LinedUp, line_written, put_in_line}
+use Rattle.line_up.specs.LineUp.{lined_up}
 use Rattle.line_up.specs.laws.Due.{LineDue}
 use Rattle.line_up.specs.keep.Cells.{cells}
 use Rattle.line_up.proofs.keep.Cells.{cells-room}

@@ -1,14 +1,8 @@
 -- The loops: the places behind an ordered one, all lines, and the copied cells. Assumes nothing.
-use Prim.Native.Nat.{ℕ, zero, suc, ◌+◌, ◌*◌, ◌<◌, ◌≤◌}
-use native.Mathlib.Numerals.{add-one}
-use native.Mathlib.Omega.{arith}
-use mathlib.Core.Path.{◌≡◌, refl, sym, ap, ◌∙◌, subst}
-use mathlib.Core.Bool.{Bool, true, false, cond}
-use mathlib.Core.List.{List, [], ◌∷◌, ◌++◌, append_assoc, append-nil}
-use lib.Dec.{ltb}
-use lib.ListN.{length, get_or, take, drop, set, length-append, length-set, take-append-drop, drop_of_length-le}
-use lib.Seq.{sets, length-sets, drop-cons, take-suc, take-suc-set, get_or-take, length-take-le}
-use borrow.Author.Tests.{eq-eqb, ne_eqb}
+use Rattle.std.proofs.Common.{◌≡◌, ℕ, zero, suc, ◌+◌, ◌*◌, ◌<◌, ◌≤◌, Bool, true, false, cond, ltb, List, [], ◌∷◌, ◌++◌, length, get_or, take, drop, set, sym}
+use Rattle.std.proofs.Common.{refl, ap, ◌∙◌, subst, append_assoc, append-nil, add-one, arith, length-append, length-set, take-append-drop, drop_of_length-le}
+use Rattle.std.proofs.Common.{length-take-le, drop-cons, get_or-take, take-suc, take-suc-set, eq-eqb, ne_eqb}
+use lib.Seq.{sets, length-sets}
 use Rattle.numerals.specs.little_endian.LittleEndian.{four_bytes, u32_at, with_nth32}
 use Rattle.numerals.proofs.little_endian.Puts.{put-32-is}
 use Rattle.line_up.specs.keep.Cells.{cells}

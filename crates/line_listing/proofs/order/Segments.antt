@@ -1,12 +1,6 @@
 -- The places before the first ordered one of a run, one by one. Assumes nothing.
-use Prim.Native.Nat.{ℕ, suc, ◌<◌, ◌≤◌}
-use native.Mathlib.Omega.{arith}
-use mathlib.Core.Path.{◌≡◌, ap}
-use mathlib.Core.Bool.{cond}
-use mathlib.Core.List.{List, [], ◌∷◌}
-use lib.Dec.{eqb}
-use lib.ListN.{length, get_or, take, drop_of_length-le}
-use lib.Seq.{slice-cons, length-take-le}
+use Rattle.std.proofs.Common.{◌≡◌, ℕ, suc, ◌<◌, ◌≤◌, cond, eqb, List, [], ◌∷◌, length, get_or, take, ap, arith, drop_of_length-le, length-take-le}
+use lib.Seq.{slice-cons}
 use Rattle.line_listing.specs.order.Order.{until_zero, behind}
 
 module _ (ms : List ℕ) (to : ℕ) (tn : to ≤ length ms) where

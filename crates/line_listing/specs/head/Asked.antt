@@ -1,5 +1,5 @@
 -- What the functions below the calls ensure. Assumes nothing.
-use Rattle.std.specs.Prelude.{ℕ, ◌+◌, ◌≤◌, ◌≡◌, List, length}
+use Rattle.std.specs.Prelude.{◌≡◌, ℕ, ◌+◌, ◌≤◌, List, length}
 use Rattle.numerals.specs.digits.Placed.{Placed}
 
 -- t was written from `at` on, at most so many bytes, into a slice that stays as long as it was

@@ -1,7 +1,7 @@
 -- The first lines of the listing and the last, as lists of bytes. Written from the comment at the head of programs/line_up.c: how many runs are named; of each
 -- of them how many stamps it has and how many are not finite, refused and left out, and, where a block ended it, which and why; and in the end how many stamps
 -- are lined up, and how many of them have no text. Assumes nothing.
-use Rattle.std.specs.Prelude.{ℕ, ◌+◌, ◌-◌, List, [], ◌∷◌, ◌++◌, Bool, cond, eqb, length}
+use Rattle.std.specs.Prelude.{ℕ, ◌+◌, ◌-◌, Bool, cond, List, [], ◌∷◌, ◌++◌, length, ◌==◌}
 use Rattle.numerals.specs.digits.Decimal.{digits_of}
 use Rattle.utc.specs.text.Ascii.{ascii_bytes}
 use Rattle.line_listing.specs.declared.head.RunEnd.{RunEnd}
@@ -14,7 +14,7 @@ counted words n = words ++ digits_of n
 
 -- which block ended a run, and its refusal, where one did
 unfoldable pub block_end : RunEnd → List ℕ
-block_end end = cond (eqb end.refused 0) [] (counted (ascii_bytes " block ") end.block ++ counted (ascii_bytes " refused ") end.refused)
+block_end end = cond (end.refused == 0) [] (counted (ascii_bytes " block ") end.block ++ counted (ascii_bytes " refused ") end.refused)
 
 -- the line of a run of n stamps from `from` on
 unfoldable pub run_line : List ℕ → RunEnd → List ℕ → List ℕ → List ℕ → ℕ → ℕ → List ℕ

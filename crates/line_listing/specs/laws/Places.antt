@@ -1,7 +1,8 @@
 -- What the theorems of the listing's order say, in places and plain lists. Written from the head of programs/line_up.c, apart from the definition: each stamp
 -- has one line, the lines of a recorder are in the order of its run, the ordered stamps are in the order of the lining up, and where each other one stands.
 -- Assumes nothing.
-use Rattle.std.specs.Prelude.{ℕ, zero, suc, ◌+◌, ◌-◌, ◌*◌, ◌<◌, ◌≤◌, ◌≡◌, Bool, cond, ◌&&◌, List, [], ◌∷◌, ◌++◌, eqb, leb, ltb, length, get_or, drop}
+use Rattle.std.specs.Prelude.{◌≡◌, ℕ, zero, suc, ◌+◌, ◌-◌, ◌*◌, ◌<◌, ◌≤◌, Bool, cond, ◌&&◌, List, [], ◌∷◌, ◌++◌, length, drop, ◌==◌, ◌≢◌, nat_le, nat_lt}
+use Rattle.std.specs.Prelude.{slice_index, slice_index_or}
 use Rattle.refusals.specs.Outcome.{answer}
 use Rattle.numerals.specs.little_endian.LittleEndian.{u32_at}
 use Rattle.julian.specs.declared.JulianDate.{JulianDate}
@@ -26,11 +27,11 @@ pub data Run (a b n : ℕ) : ℕ → ℕ → Type 0 where
   run_3 : Run a b n b n
 
 abbrev pub in_run : ℕ → ℕ → ℕ → Bool
-in_run from to x = leb from x && ltb x to
+in_run from to x = nat_le from x && nat_lt x to
 
 -- the number of an ordered stamp is 0; past the end no stamp is
 abbrev pub is_ordered : List ℕ → ℕ → Bool
-is_ordered ms x = eqb (get_or ms x 1) 0
+is_ordered ms x = slice_index_or ms x 1 == 0
 
 -- from p to q all places stand in the lines one directly behind the other
 pub record DirectlyBehind (lines : List ℕ) (p q : ℕ) : Type 0 where
@@ -43,17 +44,17 @@ pub record BeforeAll (ms lines : List ℕ) (q : ℕ) : Type 0 where
   pub before : List ℕ
   pub after : List ℕ
   pub whole : lines ≡ before ++ (q ∷ after)
-  pub none : Each (λ (x : ℕ). (x < q) × (get_or ms x 0 ≡ 0 → ⊥)) before
+  pub none : Each (λ (x : ℕ). (x < q) × (slice_index ms x ≢ 0)) before
 
 -- the places of the lines of three runs that end at places a, b and the length; ms are the numbers, and `line` has the ordered places
 pub record EveryLine (ms : List ℕ) (a b : ℕ) (line lines : List ℕ) : Type 0 where
   pub many : length lines ≡ length ms
-  pub once : (p : ℕ) → times_in p lines ≡ cond (ltb p (length ms)) 1 0
+  pub once : (p : ℕ) → times_in p lines ≡ cond (nat_lt p (length ms)) 1 0
   pub run : (from to : ℕ) → Run a b (length ms) from to → only (in_run from to) lines ≡ up_from from (to - from)
   pub ordered : only (is_ordered ms) lines ≡ line
-  pub behind : (from to : ℕ) → Run a b (length ms) from to → (p q : ℕ) → from ≤ p → p < q → q < to → get_or ms p 0 ≡ 0
-      → ((x : ℕ) → p < x → x ≤ q → get_or ms x 0 ≡ 0 → ⊥) → DirectlyBehind lines p q
-  pub start : (from to : ℕ) → Run a b (length ms) from to → (q : ℕ) → from ≤ q → q < to → ((x : ℕ) → from ≤ x → x ≤ q → get_or ms x 0 ≡ 0 → ⊥)
+  pub behind : (from to : ℕ) → Run a b (length ms) from to → (p q : ℕ) → from ≤ p → p < q → q < to → slice_index ms p ≡ 0
+      → ((x : ℕ) → p < x → x ≤ q → slice_index ms x ≢ 0) → DirectlyBehind lines p q
+  pub start : (from to : ℕ) → Run a b (length ms) from to → (q : ℕ) → from ≤ q → q < to → ((x : ℕ) → from ≤ x → x ≤ q → slice_index ms x ≢ 0)
       → BeforeAll ms lines q
 
 -- what a call that is not refused answers and leaves; the stamp at place i is date i, and `lines` are the places that a caller reads, each from its own four
@@ -63,7 +64,7 @@ pub record AllListed (date : ℕ → JulianDate) (ns : List ℕ) (first second :
   pub lines : List ℕ
   pub answers : l.answer ≡ answer (length line)
   pub counted : length line ≡ zeros_in l.numbers
-  pub place_at : (i : ℕ) → i < length ns → u32_at l.out (4 * i) ≡ get_or lines i 0
+  pub place_at : (i : ℕ) → i < length ns → u32_at l.out (4 * i) ≡ slice_index lines i
   pub spare : drop (4 * length ns) l.out ≡ drop (4 * length ns) out
   pub right : OneLine date ns first (first + second) line l.numbers
   pub each : EveryLine l.numbers first (first + second) line lines

@@ -1,6 +1,6 @@
 -- The lines of an order of stamps, and the part of them that one call writes. Written from the header of C, ct_line_listing_part: whole lines, each given the
--- room of the longest, at most 256 in a part. Assumes nothing.
-use Rattle.std.specs.Prelude.{ℕ, zero, suc, ◌+◌, ◌-◌, ◌/◌, ◌≡◌, List, [], ◌++◌, Bool, cond, length}
+-- room of the longest, at most 256 in a part; 18 where a line of the part names a stamp that is not there. Assumes nothing.
+use Rattle.std.specs.Prelude.{◌≡◌, ℕ, zero, suc, ◌+◌, ◌-◌, ◌/◌, Bool, true, cond, ◌&&◌, List, [], ◌++◌, length, nat_lt}
 use Rattle.refusals.specs.Outcome.{Outcome, answer, refusal, onward}
 use Rattle.utc.specs.iso_texts.TextCall.{buffer_holds}
 use Rattle.leap_table.specs.rows.Table.{Row}
@@ -24,7 +24,8 @@ listed_lines sentences rows all order line (suc k) =
 unfoldable pub textless_from : List Row → Stamps → List ℕ → ℕ → ℕ → ℕ
 textless_from rows all order line zero = 0
 textless_from rows all order line (suc k) =
-    textless_from rows all order line k + no_text_count rows (date_of_place all (line_in_order order (line + k))) (number_of_place all (line_in_order order (line + k)))
+    textless_from rows all order line k + no_text_count rows (date_of_place all (line_in_order order (line + k)))
+    (number_of_place all (line_in_order order (line + k)))
 
 -- the lines that an order has
 unfoldable pub lines_of_order : List ℕ → ℕ
@@ -33,6 +34,15 @@ lines_of_order order = length order / 4
 -- how many lines go into the part from `line` on, into `room` bytes
 unfoldable pub listed_count : Bool → List ℕ → ℕ → ℕ → ℕ
 listed_count sentences order line room = least (least (lines_of_order order - line) 256) (room / longest_line sentences)
+
+-- each of k lines from `line` on names one of n stamps
+unfoldable pub places_there : List ℕ → ℕ → ℕ → ℕ → Bool
+places_there order n line zero = true
+places_there order n line (suc k) = places_there order n line k && nat_lt (line_in_order order (line + k)) n
+
+-- 18 where a line of the part names none, else 0
+unfoldable pub absent_refusal : Bool → ℕ → List ℕ → ℕ → ℕ → ℕ
+absent_refusal sentences n order line room = cond (places_there order n line (listed_count sentences order line room)) 0 18
 
 unfoldable pub listed_part : Bool → List Row → Stamps → List ℕ → ℕ → ℕ → List ℕ
 listed_part sentences rows all order line room = listed_lines sentences rows all order line (listed_count sentences order line room)

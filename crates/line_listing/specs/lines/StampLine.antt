@@ -2,7 +2,7 @@
 -- has one line: its recorder, its index in its run, counted from 0, and what is told of it". An ordered stamp, of number 0, has the UTC text of its TAI, with
 -- expanded years, or `no text` and a number; the others have `refused` and theirs. Where sentences are asked for, a colon and the number's sentence follow the
 -- number, by the parts as they were recorded, and of a stamp without text by those of its TAI or, where it has one, its UTC. Assumes nothing.
-use Rattle.std.specs.Prelude.{ℕ, ◌-◌, ◌*◌, List, [], ◌∷◌, ◌++◌, Bool, cond, eqb, ltb, get_or}
+use Rattle.std.specs.Prelude.{ℕ, ◌-◌, ◌*◌, Bool, cond, List, [], ◌∷◌, ◌++◌, ◌==◌, nat_lt, slice_index}
 use Rattle.refusals.specs.Outcome.{Outcome, answer, refusal, onward}
 use Rattle.numerals.specs.digits.Decimal.{digits_of}
 use Rattle.numerals.specs.little_endian.LittleEndian.{u32_at}
@@ -32,14 +32,14 @@ abbrev pub date_of_place : Stamps → ℕ → JulianDate
 date_of_place all p = stamp_of all.jd1s all.jd2s p
 
 abbrev pub number_of_place : Stamps → ℕ → ℕ
-number_of_place all p = get_or all.numbers p 0
+number_of_place all p = slice_index all.numbers p
 
 -- ---- its recorder, and its index in its run
 unfoldable pub recorder : ℕ → ℕ → ℕ → List ℕ
-recorder first second p = cond (ltb p first) (ascii_bytes "gps ") (cond (ltb (p - first) second) (ascii_bytes "tai ") (ascii_bytes "utc "))
+recorder first second p = cond (nat_lt p first) (ascii_bytes "gps ") (cond (nat_lt (p - first) second) (ascii_bytes "tai ") (ascii_bytes "utc "))
 
 unfoldable pub index_in : ℕ → ℕ → ℕ → ℕ
-index_in first second p = cond (ltb p first) p (cond (ltb (p - first) second) (p - first) (p - first - second))
+index_in first second p = cond (nat_lt p first) p (cond (nat_lt (p - first) second) (p - first) (p - first - second))
 
 -- ---- a number, and behind it its sentence where sentences are asked for and it has one
 unfoldable pub as_sentence : Outcome (List ℕ) → List ℕ
@@ -69,7 +69,7 @@ utc_told sentences rows tai (refusal k) = no_text sentences k tai
 
 -- what is told of a stamp with this date and this number
 unfoldable pub stamp_told : Bool → List Row → JulianDate → ℕ → List ℕ
-stamp_told sentences rows d k = cond (eqb k 0) (utc_told sentences rows d (tai_to_utc rows d)) (refused sentences k d)
+stamp_told sentences rows d k = cond (k == 0) (utc_told sentences rows d (tai_to_utc rows d)) (refused sentences k d)
 
 -- ---- the line of the stamp with this date and this number at a place
 unfoldable pub line_by : Bool → List Row → ℕ → ℕ → ℕ → JulianDate → ℕ → List ℕ
@@ -81,7 +81,7 @@ place_line sentences rows all p = line_by sentences rows all.first all.second p 
 
 -- 1 where it is ordered and has no text, else 0
 unfoldable pub no_text_count : List Row → JulianDate → ℕ → ℕ
-no_text_count rows d k = cond (eqb k 0) (one_if_refused (onward (tai_to_utc rows d) (iso_text_expanded rows))) 0
+no_text_count rows d k = cond (k == 0) (one_if_refused (onward (tai_to_utc rows d) (iso_text_expanded rows))) 0
 
 -- ---- the place of the stamp of line i, by the order that is lent: four bytes for each line
 abbrev pub line_in_order : List ℕ → ℕ → ℕ

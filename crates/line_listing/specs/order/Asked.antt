@@ -1,5 +1,5 @@
 -- What the functions below the call ask and ensure. `cells` are the numbers in each four bytes. Assumes nothing.
-use Rattle.std.specs.Prelude.{ℕ, suc, ◌+◌, ◌*◌, ◌<◌, ◌≤◌, ◌≡◌, List, [], ◌∷◌, ◌++◌, length, take, drop}
+use Rattle.std.specs.Prelude.{◌≡◌, ℕ, suc, ◌+◌, ◌*◌, ◌<◌, ◌≤◌, List, [], ◌∷◌, ◌++◌, length, take, drop}
 use Rattle.line_up.specs.keep.Cells.{cells}
 use Rattle.line_up.specs.LineUp.{places_bytes}
 use Rattle.line_listing.specs.order.Order.{behind, run_starts, line_order}

@@ -3,7 +3,7 @@
 -- those of its run that follow it up to the next ordered one, by index; where there is none before it, it stands before all ordered stamps, by recorder and
 -- then by index. A stamp is told by its place, the runs one after the other; `ms` are the numbers that the lining up leaves, 0 for an ordered stamp. Assumes
 -- nothing.
-use Rattle.std.specs.Prelude.{ℕ, suc, ◌+◌, ◌*◌, Bool, cond, List, [], ◌∷◌, ◌++◌, eqb, ltb, length, drop}
+use Rattle.std.specs.Prelude.{ℕ, suc, ◌+◌, ◌*◌, Bool, cond, List, [], ◌∷◌, ◌++◌, length, drop, ◌==◌, nat_lt}
 use Rattle.std.proofs.Math.Seq.{slice}
 use Rattle.refusals.specs.Outcome.{Outcome, refusal}
 use Rattle.line_up.specs.Runs.{all_tested, numbers_after, ordered}
@@ -12,7 +12,7 @@ use Rattle.line_up.specs.LineUp.{unordered_at, sooner_at, places_bytes, least_ro
 -- places from i on, one for each number before the first 0
 unfoldable pub until_zero : ℕ → List ℕ → List ℕ
 until_zero i [] = []
-until_zero i (m ∷ ms) = cond (eqb m 0) [] (i ∷ until_zero (suc i) ms)
+until_zero i (m ∷ ms) = cond (m == 0) [] (i ∷ until_zero (suc i) ms)
 
 -- the places from `from` up to `to` before the first ordered one of them
 abbrev pub behind : List ℕ → ℕ → ℕ → List ℕ
@@ -20,7 +20,7 @@ behind ms from to = until_zero from (slice from to ms)
 
 -- where the run of place p ends, of runs that end at a, b and n
 abbrev pub run_end : ℕ → ℕ → ℕ → ℕ → ℕ
-run_end a b n p = cond (ltb p a) a (cond (ltb p b) b n)
+run_end a b n p = cond (nat_lt p a) a (cond (nat_lt p b) b n)
 
 -- each of the places, and behind it those that are not ordered, up to the end of its run
 unfoldable pub each_behind : List ℕ → (ℕ → ℕ) → List ℕ → List ℕ
@@ -52,6 +52,6 @@ put_in_order lt ns a b out =
 -- refused as the lining up is; with work areas of so many bytes
 unfoldable pub lines_in_order : List ℕ → List ℕ → List ℕ → ℕ → ℕ → List ℕ → ℕ → ℕ → LinedUp
 lines_in_order js ks ns first second out work1 work2 =
-    cond (eqb (line_refusal (length js) (length ks) (length ns) first second (least_room (length out) work1 work2)) 0)
+    cond (line_refusal (length js) (length ks) (length ns) first second (least_room (length out) work1 work2) == 0)
     (put_in_order (sooner_at js ks) (all_tested (unordered_at js ks) 0 ns) first (first + second) out)
     (record { answer = refusal (line_refusal (length js) (length ks) (length ns) first second (least_room (length out) work1 work2)); numbers = ns; out = out })

@@ -1,8 +1,8 @@
 -- The loop that keeps one stamp of each pile, from the back. Assumes nothing.
-use Prim.Native.Nat.{ℕ, suc, ◌+◌, ◌-◌, ◌<◌, ◌≤◌}
+use Prim.Native.Nat.{ℕ, suc, ◌-◌, ◌<◌, ◌≤◌}
 use native.Mathlib.Omega.{arith}
 use mathlib.Core.Path.{◌≡◌, refl, sym, ap, ◌∙◌, subst}
-use mathlib.Core.List.{List, [], ◌∷◌, ◌++◌}
+use mathlib.Core.List.{List, ◌∷◌, ◌++◌}
 use lib.ListN.{length, get_or, take, drop, set, length-set, take-append-drop}
 use lib.Seq.{slice, slice_empty, slice-cons, get_or-take, get_or-set_same, take-set-le, take-take, drop-cons, drop-set-lt}
 use Rattle.line_up.specs.keep.Piles.{wanted_before, wanted, number_by_pile, all_judged}

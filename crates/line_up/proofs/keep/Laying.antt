@@ -215,7 +215,8 @@ module _ (ok : ℕ → Type 0) (lt : ℕ → ℕ → Bool) (order : OrderLaws ok
         → many' ≡ cond (ltb many r) r many
         → Laying ok lt ns from to tails₀ rs₀ tails' rs' many' (i + 1)
     laying_goes r many' tails' rs' e et er em =
-        let t : take many' tails' ≡ piles_after lt (get_or ns i 0) i (take many tails) = put-rank lt i tails many many-room (get_or ns i 0) r many' tails' e et em in
+        let t : take many' tails' ≡ piles_after lt (get_or ns i 0) i (take many tails) = put-rank lt i tails many many-room
+        (get_or ns i 0) r many' tails' e et em in
         let w : rank lt (get_or ns i 0) i (take many tails) ≤ many + 1 = laying_rank in
         let d : Laying ok lt ns from to tails₀ rs₀ tails' rs' many' (suc i) = record {
           tails_length = ap length et ∙ length-put (eqb r 0) (r - 1) i ∙ l.tails_length;

@@ -1,5 +1,4 @@
 -- The theorems of a run from place `from` up to `to`, as the contract of the code speaks of it. Assumes nothing.
-use denote.Slice.{shr_slice_at}
 use Prim.Native.Nat.{ℕ, suc, ◌+◌, ◌-◌, ◌<◌, ◌≤◌}
 use native.Mathlib.Omega.{arith}
 use mathlib.Core.Path.{◌≡◌, sym, ap, ◌∙◌, subst}
@@ -21,8 +20,8 @@ list_ok ok i (n ∷ ns) f =
 
 module _ (lt : ℕ → ℕ → Bool) (ns : List ℕ) (from to : ℕ) (low : from ≤ to) (high : to ≤ length ns) where
   -- a number of the run
-  shr_slice_at : (d k : ℕ) → from + k < to → get_or (slice from to ns) k d ≡ get_or ns (from + k) d
-  shr_slice_at d k h = get_or-drop from (take to ns) k d ∙ get_or-take to ns (from + k) d h
+  slice_at : (d k : ℕ) → from + k < to → get_or (slice from to ns) k d ≡ get_or ns (from + k) d
+  slice_at d k h = get_or-drop from (take to ns) k d ∙ get_or-take to ns (from + k) d h
 
   slice_long : length (slice from to ns) ≡ to - from
   slice_long = length-slice from to ns high
@@ -71,7 +70,7 @@ module _ (lt : ℕ → ℕ → Bool) (ns : List ℕ) (from to : ℕ) (low : from
   module _ (ok : ℕ → Type 0) (order : OrderLaws ok lt) (oks : (p : ℕ) → from ≤ p → p < to → get_or ns p 0 ≡ 0 → ok p) where
     pub zeros-ok : EachZero ok from (slice from to ns)
     zeros-ok = list_ok ok from (slice from to ns)
-        (λ k h e. let q : from + k < to = omega (arith, slice_long) in oks (from + k) (omega arith) q (sym (shr_slice_at 0 k q) ∙ e))
+        (λ k h e. let q : from + k < to = omega (arith, slice_long) in oks (from + k) (omega arith) q (sym (slice_at 0 k q) ∙ e))
 
     in_slice : (i : ℕ) (xs : List ℕ) → from ≤ i → Upward i xs → All (λ (x : ℕ). (x < to) × (get_or ns x 1 ≡ 0)) xs
         → All (λ (x : ℕ). get_or (slice from to ns) (x - from) 1 ≡ 0) xs
@@ -79,7 +78,7 @@ module _ (lt : ℕ → ℕ → Bool) (ns : List ℕ) (from to : ℕ) (low : from
     in_slice i (x ∷ xs) h u a =
         let e : from + (x - from) ≡ x = omega (arith, u.0) in
         let k : from + (x - from) < to = omega (arith, a.0.0) in
-        (shr_slice_at 1 (x - from) k ∙ ap (λ (q : ℕ). get_or ns q 1) e ∙ a.0.1, in_slice (suc x) xs (omega (arith, u.0)) u.1 a.1)
+        (slice_at 1 (x - from) k ∙ ap (λ (q : ℕ). get_or ns q 1) e ∙ a.0.1, in_slice (suc x) xs (omega (arith, u.0)) u.1 a.1)
 
     -- (2) no places of the run, one after the other, whose numbers were 0 and whose stamps rise, are more
     pub slice_most : (xs : List ℕ) → Upward from xs → All (λ (x : ℕ). (x < to) × (get_or ns x 1 ≡ 0)) xs → Rises lt xs
@@ -105,5 +104,5 @@ module _ (lt : ℕ → ℕ → Bool) (ns : List ℕ) (from to : ℕ) (low : from
     run-contradicted p h k z t =
         let e : from + (p - from) ≡ p = omega arith in
         let q : from + (p - from) < to = omega arith in
-        rw run-slice (left-out-contradicted ok lt order from (slice from to ns) zeros-ok p h (shr_slice_at 1 (p - from) q ∙ ap (λ (j : ℕ). get_or ns j 1) e ∙ z)
+        rw run-slice (left-out-contradicted ok lt order from (slice from to ns) zeros-ok p h (slice_at 1 (p - from) q ∙ ap (λ (j : ℕ). get_or ns j 1) e ∙ z)
         (λ y. t (ap (λ (l : List ℕ). get_or l (p - from) 0) run-slice ∙ y)))

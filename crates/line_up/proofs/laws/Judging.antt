@@ -139,7 +139,8 @@ module _ (lt : ℕ → ℕ → Bool) (ns ms : List ℕ) (from to : ℕ) (ft : fr
         left_out = λ e. left-out-by e (ruling.accepted (was_is 0 ∙ e));
       }
 
-  no_two : (x y : ℕ) → from ≤ x → x < y → y < to → Pairs (MayFollow lt) (zeros from (run lt ns from to)) → get_or ms x 0 ≡ 0 → get_or ms y 0 ≡ 0 → lt y x ≡ true → ⊥
+  no_two : (x y : ℕ) → from ≤ x → x < y → y < to → Pairs (MayFollow lt) (zeros from (run lt ns from to)) → get_or ms x 0 ≡ 0 → get_or ms y 0 ≡ 0 → lt y x ≡ true
+      → ⊥
   no_two x y h m k ps ex ey t =
       let f = two-places (MayFollow lt) (run lt ns from to) from (x - from) (y - from) (omega arith) (zero_at x h (omega arith) ex)
       (zero_at y (omega arith) k ey) ps in

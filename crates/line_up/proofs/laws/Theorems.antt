@@ -1,6 +1,6 @@
 -- What is true of every lining up that is not refused: each place stands exactly once or has its number, the order is that of the exact sums, and no other list
 -- has both. Assumes nothing.
-use Prim.Native.Nat.{ℕ, suc, ◌+◌, ◌-◌, ◌*◌, ◌<◌, ◌≤◌}
+use Prim.Native.Nat.{ℕ, suc, ◌+◌, ◌*◌, ◌<◌, ◌≤◌}
 use native.Mathlib.Omega.{arith}
 use mathlib.Core.Path.{◌≡◌, refl, sym, ap, ◌∙◌, subst}
 use mathlib.Core.Bool.{Bool, true, false, not, cond}
@@ -12,7 +12,7 @@ use lib.Seq.{slice}
 use lib.Ieee.{binary64}
 use lib.Ieee.Bits.{of_bits-fits}
 use borrow.Author.Tests.{ltb-true, ltb-false, lt-ltb, le-ltb, ne_eqb, eqb-true, eqb-false}
-use Rattle.refusals.specs.Outcome.{answer, refusal}
+use Rattle.refusals.specs.Outcome.{refusal}
 use Rattle.rounding.specs.Value.{L}
 use Rattle.julian.specs.declared.JulianDate.{JulianDate}
 use Rattle.julian.specs.Equality.{FiniteSums}

@@ -7,204 +7,140 @@ use Rattle.line_up.proofs.Calls.{refusal_is, line_refused, counts-fit, range-1, 
 use Rattle.line_up.proofs.line_up.Statement.{statement}
 use Rattle.line_up.proofs.line_up.Tie as tie
 
-returns : tie.Need-returns
+returns : tie.Need-returns-then-number-ne0
 returns c =
-    let back = c.before.before.before.before.before.before.before.before.before in
-    let start = back.before in
-    let a = start.args in
-    let q = c.before in
+    let a = c.args in
     let en = refusal_is (length a.jd1s.now) (length a.jd2s.now) (length a.numbers.now) a.first a.second (length a.out.now)
-    (length a.tails.now) (length a.ranks.now) q.before.before.smaller.result q.before.smaller2.result q.line-refusal.result
-    q.before.before.smaller.ensures q.before.smaller2.ensures q.line-refusal.ensures in
+    (length a.tails.now) (length a.ranks.now) c.smaller-work.result c.smaller-room.result c.line_refusal-number.result
+    c.smaller-work.ensures c.smaller-room.ensures c.line_refusal-number.ensures in
     line_refused a.jd1s.now a.jd2s.now a.numbers.now a.first a.second a.out.now (length a.tails.now) (length a.ranks.now)
-    q.line-refusal.result en c.if1.true
+    c.line_refusal-number.result en c.if-number-ne0.true
 
-add-rest : tie.Need-overflow-add-rest
+add-rest : tie.Need-overflow_add-rest
 add-rest c =
-    let back = c.before.before.before.before.before.before.before.before.before in
-    let start = back.before in
-    let a = start.args in
-    let q = c.before in
+    let a = c.args in
     let en = refusal_is (length a.jd1s.now) (length a.jd2s.now) (length a.numbers.now) a.first a.second (length a.out.now)
-    (length a.tails.now) (length a.ranks.now) q.before.before.smaller.result q.before.smaller2.result q.line-refusal.result
-    q.before.before.smaller.ensures q.before.smaller2.ensures q.line-refusal.ensures in
+    (length a.tails.now) (length a.ranks.now) c.smaller-work.result c.smaller-room.result c.line_refusal-number.result
+    c.smaller-work.ensures c.smaller-room.ensures c.line_refusal-number.ensures in
     record {
       fits = omega (
         arith,
         counts-fit a.jd1s.now a.jd2s.now a.numbers.now a.first a.second a.out.now (length a.tails.now)
-            (length a.ranks.now) q.line-refusal.result en c.if1.false,
-        start.well_formed,
+            (length a.ranks.now) c.line_refusal-number.result en c.if-number-ne0.false,
+        c.well_formed,
       );
     }
 
-keep-most-requires : tie.Need-keep-most-requires
+keep-most-requires : tie.Need-keep_most-requires
 keep-most-requires c κs =
-    let at-refuse-unordered = c.before.before.before.before.before in
-    let at-if1 = at-refuse-unordered.before.before in
-    let back = at-if1.before in
-    let start = back.before.before.before.before.before.before.before.before.before in
-    let a = start.args in
-    let q = back in
+    let a = c.args in
     let en = refusal_is (length a.jd1s.now) (length a.jd2s.now) (length a.numbers.now) a.first a.second (length a.out.now)
-    (length a.tails.now) (length a.ranks.now) q.before.before.smaller.result q.before.smaller2.result q.line-refusal.result
-    q.before.before.smaller.ensures q.before.smaller2.ensures q.line-refusal.ensures in
+    (length a.tails.now) (length a.ranks.now) c.smaller-work.result c.smaller-room.result c.line_refusal-number.result
+    c.smaller-work.ensures c.smaller-room.ensures c.line_refusal-number.ensures in
     range-1 a.jd1s.now a.jd2s.now a.numbers.now a.first a.second a.out.now (length a.tails.now) (length a.ranks.now)
-    q.line-refusal.result en at-if1.if1.false
-    at-refuse-unordered.refuse-unordered.new.1.1.0 at-refuse-unordered.refuse-unordered.ensures
+    c.line_refusal-number.result en c.if-number-ne0.false
+    c.refuse_unordered.new.numbers c.refuse_unordered.ensures
     a.tails.now a.ranks.now refl refl
 
-keep-most-requires-2 : tie.Need-keep-most-requires-2
+keep-most-requires-2 : tie.Need-keep_most-requires-2
 keep-most-requires-2 c κs =
-    let at-keep-most = c.before.before.before.before.before.before.before.before.before in
-    let at-refuse-unordered = at-keep-most.before.before.before.before.before.before in
-    let at-if1 = at-refuse-unordered.before.before in
-    let back = at-if1.before in
-    let start = back.before.before.before.before.before.before.before.before.before in
-    let a = start.args in
-    let q = back in
+    let a = c.args in
     let en = refusal_is (length a.jd1s.now) (length a.jd2s.now) (length a.numbers.now) a.first a.second (length a.out.now)
-    (length a.tails.now) (length a.ranks.now) q.before.before.smaller.result q.before.smaller2.result q.line-refusal.result
-    q.before.before.smaller.ensures q.before.smaller2.ensures q.line-refusal.ensures in
+    (length a.tails.now) (length a.ranks.now) c.smaller-work.result c.smaller-room.result c.line_refusal-number.result
+    c.smaller-work.ensures c.smaller-room.ensures c.line_refusal-number.ensures in
     range-2 a.jd1s.now a.jd2s.now a.numbers.now a.first a.second a.out.now (length a.tails.now) (length a.ranks.now)
-    q.line-refusal.result en at-if1.if1.false
-    at-refuse-unordered.refuse-unordered.new.1.1.0 at-refuse-unordered.refuse-unordered.ensures at-keep-most.keep-most.new.1.1.0
-    at-keep-most.keep-most.ensures
-    at-keep-most.keep-most.new.1.1.1.1.1.0
-    at-keep-most.keep-most.new.1.1.1.1.1.1.0
-    at-keep-most.keep-most.auto.1.1.1.1.1.0
-    at-keep-most.keep-most.auto.1.1.1.1.1.1.0
+    c.line_refusal-number.result en c.if-number-ne0.false
+    c.refuse_unordered.new.numbers c.refuse_unordered.ensures c.keep_most.new.numbers
+    c.keep_most.ensures
+    c.keep_most.new.tails
+    c.keep_most.new.ranks
+    c.keep_most.auto.tails
+    c.keep_most.auto.ranks
 
-keep-most-requires-3 : tie.Need-keep-most-requires-3
+keep-most-requires-3 : tie.Need-keep_most-requires-3
 keep-most-requires-3 c κs =
-    let at-keep-most2 = c.before.before.before.before.before.before.before.before.before in
-    let back = at-keep-most2.before.before.before.before.before.before.before.before.before in
-    let at-keep-most = back.before in
-    let at-refuse-unordered = at-keep-most.before.before.before.before.before.before in
-    let at-if1 = at-refuse-unordered.before.before in
-    let back2 = at-if1.before in
-    let start = back2.before.before.before.before.before.before.before.before.before in
-    let a = start.args in
-    let q = back2 in
+    let a = c.args in
     let en = refusal_is (length a.jd1s.now) (length a.jd2s.now) (length a.numbers.now) a.first a.second (length a.out.now)
-    (length a.tails.now) (length a.ranks.now) q.before.before.smaller.result q.before.smaller2.result q.line-refusal.result
-    q.before.before.smaller.ensures q.before.smaller2.ensures q.line-refusal.ensures in
+    (length a.tails.now) (length a.ranks.now) c.smaller-work.result c.smaller-room.result c.line_refusal-number.result
+    c.smaller-work.ensures c.smaller-room.ensures c.line_refusal-number.ensures in
     range-3 a.jd1s.now a.jd2s.now a.numbers.now a.first a.second a.out.now (length a.tails.now) (length a.ranks.now)
-    q.line-refusal.result en at-if1.if1.false
-    at-refuse-unordered.refuse-unordered.new.1.1.0
-    at-refuse-unordered.refuse-unordered.ensures
-    at-keep-most.keep-most.new.1.1.0
-    at-keep-most.keep-most.ensures at-keep-most2.keep-most2.new.1.1.0
-    at-keep-most2.keep-most2.ensures
-    at-keep-most2.keep-most2.new.1.1.1.1.1.0
-    at-keep-most2.keep-most2.new.1.1.1.1.1.1.0
-    (at-keep-most2.keep-most2.auto.1.1.1.1.1.0
-    ∙ at-keep-most.keep-most.auto.1.1.1.1.1.0)
-    (at-keep-most2.keep-most2.auto.1.1.1.1.1.1.0
-    ∙ at-keep-most.keep-most.auto.1.1.1.1.1.1.0)
+    c.line_refusal-number.result en c.if-number-ne0.false
+    c.refuse_unordered.new.numbers
+    c.refuse_unordered.ensures
+    c.keep_most.new.numbers
+    c.keep_most.ensures c.keep_most-2.new.numbers
+    c.keep_most-2.ensures
+    c.keep_most-2.new.tails
+    c.keep_most-2.new.ranks
+    (c.keep_most-2.auto.tails
+    ∙ c.keep_most.auto.tails)
+    (c.keep_most-2.auto.ranks
+    ∙ c.keep_most.auto.ranks)
 
-merge-requires : tie.Need-merge-requires
+merge-requires : tie.Need-merge-many-requires
 merge-requires c κs =
-    let at-keep-most3 = c.before.before.before.before.before.before.before.before in
-    let back = at-keep-most3.before.before.before.before.before.before.before.before.before in
-    let at-keep-most2 = back.before in
-    let back2 = at-keep-most2.before.before.before.before.before.before.before.before.before in
-    let at-keep-most = back2.before in
-    let at-refuse-unordered = at-keep-most.before.before.before.before.before.before in
-    let at-if1 = at-refuse-unordered.before.before in
-    let back3 = at-if1.before in
-    let start = back3.before.before.before.before.before.before.before.before.before in
-    let a = start.args in
-    let q = back3 in
+    let a = c.args in
     let en = refusal_is (length a.jd1s.now) (length a.jd2s.now) (length a.numbers.now) a.first a.second (length a.out.now)
-    (length a.tails.now) (length a.ranks.now) q.before.before.smaller.result q.before.smaller2.result q.line-refusal.result
-    q.before.before.smaller.ensures q.before.smaller2.ensures q.line-refusal.ensures in
+    (length a.tails.now) (length a.ranks.now) c.smaller-work.result c.smaller-room.result c.line_refusal-number.result
+    c.smaller-work.ensures c.smaller-room.ensures c.line_refusal-number.ensures in
     merge-fits a.jd1s.now a.jd2s.now a.numbers.now a.first a.second a.out.now (length a.tails.now) (length a.ranks.now)
-    q.line-refusal.result en at-if1.if1.false
-    at-refuse-unordered.refuse-unordered.new.1.1.0 at-refuse-unordered.refuse-unordered.ensures at-keep-most.keep-most.new.1.1.0
-    at-keep-most.keep-most.ensures
-    at-keep-most2.keep-most2.new.1.1.0 at-keep-most2.keep-most2.ensures at-keep-most3.keep-most3.new.1.1.0
-    at-keep-most3.keep-most3.ensures
+    c.line_refusal-number.result en c.if-number-ne0.false
+    c.refuse_unordered.new.numbers c.refuse_unordered.ensures c.keep_most.new.numbers
+    c.keep_most.ensures
+    c.keep_most-2.new.numbers c.keep_most-2.ensures c.keep_most-3.new.numbers
+    c.keep_most-3.ensures
 
-cast-many : tie.Need-overflow-cast-many
+cast-many : tie.Need-overflow_cast-many
 cast-many c =
-    let back = c.before.before.before.before.before.before.before.before.before in
-    let at-keep-most3 = back.before.before in
-    let back2 = at-keep-most3.before.before.before.before.before.before.before.before.before in
-    let at-keep-most2 = back2.before in
-    let back3 = at-keep-most2.before.before.before.before.before.before.before.before.before in
-    let at-keep-most = back3.before in
-    let at-refuse-unordered = at-keep-most.before.before.before.before.before.before in
-    let at-if1 = at-refuse-unordered.before.before in
-    let back4 = at-if1.before in
-    let start = back4.before.before.before.before.before.before.before.before.before in
-    let a = start.args in
-    let q = back4 in
+    let a = c.args in
     let en = refusal_is (length a.jd1s.now) (length a.jd2s.now) (length a.numbers.now) a.first a.second (length a.out.now)
-    (length a.tails.now) (length a.ranks.now) q.before.before.smaller.result q.before.smaller2.result q.line-refusal.result
-    q.before.before.smaller.ensures q.before.smaller2.ensures q.line-refusal.ensures in
+    (length a.tails.now) (length a.ranks.now) c.smaller-work.result c.smaller-room.result c.line_refusal-number.result
+    c.smaller-work.ensures c.smaller-room.ensures c.line_refusal-number.ensures in
     record {
       fits = omega (
         arith,
         many-fit a.jd1s.now a.jd2s.now a.numbers.now a.first a.second a.out.now (length a.tails.now)
-            (length a.ranks.now) q.line-refusal.result en
-            at-if1.if1.false
-            at-refuse-unordered.refuse-unordered.new.1.1.0
-            at-refuse-unordered.refuse-unordered.ensures
-            at-keep-most.keep-most.new.1.1.0
-            at-keep-most.keep-most.ensures
-            at-keep-most2.keep-most2.new.1.1.0
-            at-keep-most2.keep-most2.ensures
-            at-keep-most3.keep-most3.new.1.1.0
-            at-keep-most3.keep-most3.ensures
-            c.before.before.merge.new.1.1.1.1.1.0 c.before.before.merge.result c.before.before.merge.ensures,
+            (length a.ranks.now) c.line_refusal-number.result en
+            c.if-number-ne0.false
+            c.refuse_unordered.new.numbers
+            c.refuse_unordered.ensures
+            c.keep_most.new.numbers
+            c.keep_most.ensures
+            c.keep_most-2.new.numbers
+            c.keep_most-2.ensures
+            c.keep_most-3.new.numbers
+            c.keep_most-3.ensures
+            c.merge-many.new.out c.merge-many.result c.merge-many.ensures,
       );
     }
 
-same_length : tie.Need-same-length
+same_length : tie.Need-shape_of-numbers
 same_length c =
-    let back = c.before.before.before.before.before.before.before.before.before in
-    let at-keep-most3 = back.before.before in
-    let back2 = at-keep-most3.before.before.before.before.before.before.before.before.before in
-    let at-keep-most2 = back2.before in
-    let back3 = at-keep-most2.before.before.before.before.before.before.before.before.before in
-    let at-keep-most = back3.before in
-    let at-refuse-unordered = at-keep-most.before.before.before.before.before.before in
-    at-keep-most3.keep-most3.auto.1.1.0
-    ∙ at-keep-most2.keep-most2.auto.1.1.0
-    ∙ at-keep-most.keep-most.auto.1.1.0
-    ∙ at-refuse-unordered.refuse-unordered.auto.1.1.0
+    c.keep_most-3.auto.numbers
+    ∙ c.keep_most-2.auto.numbers
+    ∙ c.keep_most.auto.numbers
+    ∙ c.refuse_unordered.auto.numbers
 
-returns-2 : tie.Need-returns-2
+returns-2 : tie.Need-returns
 returns-2 c =
-    let back = c.before.before.before.before.before.before.before.before.before in
-    let at-keep-most3 = back.before.before in
-    let back2 = at-keep-most3.before.before.before.before.before.before.before.before.before in
-    let at-keep-most2 = back2.before in
-    let back3 = at-keep-most2.before.before.before.before.before.before.before.before.before in
-    let at-keep-most = back3.before in
-    let at-refuse-unordered = at-keep-most.before.before.before.before.before.before in
-    let at-if1 = at-refuse-unordered.before.before in
-    let back4 = at-if1.before in
-    let start = back4.before.before.before.before.before.before.before.before.before in
-    let a = start.args in
-    let q = back4 in
+    let a = c.args in
     let en = refusal_is (length a.jd1s.now) (length a.jd2s.now) (length a.numbers.now) a.first a.second (length a.out.now)
-    (length a.tails.now) (length a.ranks.now) q.before.before.smaller.result q.before.smaller2.result q.line-refusal.result
-    q.before.before.smaller.ensures q.before.smaller2.ensures q.line-refusal.ensures in
+    (length a.tails.now) (length a.ranks.now) c.smaller-work.result c.smaller-room.result c.line_refusal-number.result
+    c.smaller-work.ensures c.smaller-room.ensures c.line_refusal-number.ensures in
     line-ends a.jd1s.now a.jd2s.now a.numbers.now a.first a.second a.out.now (length a.tails.now) (length a.ranks.now)
-    q.line-refusal.result en at-if1.if1.false
-    at-refuse-unordered.refuse-unordered.new.1.1.0
-    at-refuse-unordered.refuse-unordered.ensures
-    at-keep-most.keep-most.new.1.1.0
-    at-keep-most.keep-most.ensures
-    at-keep-most2.keep-most2.new.1.1.0
-    at-keep-most2.keep-most2.ensures
-    at-keep-most3.keep-most3.new.1.1.0
-    at-keep-most3.keep-most3.ensures
-    c.before.before.merge.new.1.1.1.1.1.0 c.before.before.merge.result c.before.before.merge.ensures
+    c.line_refusal-number.result en c.if-number-ne0.false
+    c.refuse_unordered.new.numbers
+    c.refuse_unordered.ensures
+    c.keep_most.new.numbers
+    c.keep_most.ensures
+    c.keep_most-2.new.numbers
+    c.keep_most-2.ensures
+    c.keep_most-3.new.numbers
+    c.keep_most-3.ensures
+    c.merge-many.new.out c.merge-many.result c.merge-many.ensures
 
-pub line-up-spec : {M : Type 1} → statement M
-line-up-spec =
+pub line_up_spec : {M : Type 1} → statement M
+line_up_spec =
     tie.close
     (tie.spec (λ c κs. search rules) (λ c κs. search rules) (λ c κs. search rules) returns add-rest (λ c κs. search rules) keep-most-requires
     keep-most-requires-2 keep-most-requires-3 merge-requires cast-many same_length (λ c. search rules) (λ c. search rules) (λ c. search rules)

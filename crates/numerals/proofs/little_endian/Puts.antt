@@ -56,10 +56,12 @@ unfolding with_u32
 whole-4 l at n h = simp (le-leb _ _ (part_room l at 4 h)) (ap (λ (x : List ℕ). four_bytes n ++ x) (part_none l at 4 h) ∙ append-nil (four_bytes n))
 
 -- a part that is eight bytes long, and one of four
-pub put_in_place : (l part : List ℕ) (at k n : ℕ) → k ≡ 8 → at + 8 ≤ length l → part ≡ with_u64 (mid_of at k l) n → put_mid at k l part ≡ sets l at (eight_bytes n)
+pub put_in_place : (l part : List ℕ) (at k n : ℕ) → k ≡ 8 → at + 8 ≤ length l → part ≡ with_u64 (mid_of at k l) n → put_mid at k l part ≡ sets l at
+    (eight_bytes n)
 put_in_place l part at k n ek h e = put-part l part (eight_bytes n) at k ek h (e ∙ ap (λ (j : ℕ). with_u64 (mid_of at j l) n) ek ∙ whole-8 l at n h)
 
-pub put-4-in-place : (l part : List ℕ) (at k n : ℕ) → k ≡ 4 → at + 4 ≤ length l → part ≡ with_u32 (mid_of at k l) n → put_mid at k l part ≡ sets l at (four_bytes n)
+pub put-4-in-place : (l part : List ℕ) (at k n : ℕ) → k ≡ 4 → at + 4 ≤ length l → part ≡ with_u32 (mid_of at k l) n → put_mid at k l part ≡ sets l at
+    (four_bytes n)
 put-4-in-place l part at k n ek h e = put-part l part (four_bytes n) at k ek h (e ∙ ap (λ (j : ℕ). with_u32 (mid_of at j l) n) ek ∙ whole-4 l at n h)
 
 -- ---- a list of numbers, one of which is written

@@ -23,7 +23,8 @@ pub set_inside : (vs l : List ℕ) (i k : ℕ) → i + length vs ≤ length l �
 set_inside [] l i k h b = let w : ⊥ = omega arith in absurd w
 set_inside (a ∷ vs) l i zero h b =
     let e : i + 0 ≡ i = omega arith in
-    ap (λ (j : ℕ). get_or (sets (set l i a) (suc i) vs) j 0) e ∙ set_outside vs (set l i a) (suc i) i (inl (omega arith)) ∙ get_or-set_same l i a 0 (omega arith)
+    ap (λ (j : ℕ). get_or (sets (set l i a) (suc i) vs) j 0) e ∙ set_outside vs (set l i a) (suc i) i (inl (omega arith)) ∙ get_or-set_same l i a 0
+    (omega arith)
 set_inside (a ∷ vs) l i (suc k) h b =
     let e : i + suc k ≡ suc i + k = omega arith in
     ap (λ (j : ℕ). get_or (sets (set l i a) (suc i) vs) j 0) e ∙ set_inside vs (set l i a) (suc i) k (omega (arith, length-set l i a)) (omega arith)

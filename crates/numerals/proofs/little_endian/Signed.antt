@@ -60,7 +60,8 @@ module _ (z : ℤ) (f : SFits w64 z) where
     back : to_z w64 (of_z w64 (negsuc 0 -ℤ to_z w64 (of_z w64 z))) ≡ pos b.k
     back = to_z-of_z {w = w64} less-fits ∙ less
 
-    pub less-cast : T (non_neg (to_z w64 (of_z w64 (negsuc 0 -ℤ to_z w64 (of_z w64 z))))) × Fits w64 (nat_abs (to_z w64 (of_z w64 (negsuc 0 -ℤ to_z w64 (of_z w64 z)))))
+    pub less-cast : T (non_neg (to_z w64 (of_z w64 (negsuc 0 -ℤ to_z w64 (of_z w64 z))))) × Fits w64
+        (nat_abs (to_z w64 (of_z w64 (negsuc 0 -ℤ to_z w64 (of_z w64 z)))))
     less-cast = subst (λ (x : ℤ). T (non_neg x) × Fits w64 (nat_abs x)) (sym back) (tt, record { fits = omega (arith, b.few) })
 
     pub less-few : nat_abs (to_z w64 (of_z w64 (negsuc 0 -ℤ to_z w64 (of_z w64 z)))) ≤ 18446744073709551615

@@ -12,25 +12,25 @@ use borrow.Author.Rules.{rules}
 use Rattle.parsing.proofs.dated.Statement.{statement}
 use Rattle.parsing.proofs.dated.Tie as tie
 
-returns : tie.Need-returns
+returns : tie.Need-returns-in-Refused
 unfolding parsed_utc_outcome dated onward utc_outcome
 returns c =
-    let a = c.before.before.before.before.before.args in
+    let a = c.args in
     let p = a.fields in
-    let fit : SFits w32 p.year = record { sfits = c.before.before.before.before.struct_told.given.0.1 } in
+    let fit : SFits w32 p.year = record { sfits = c.struct_told-1.given.0.1 } in
     rw (sym (λ i. utc_from_calendar (rows_in a.size a.months.now a.seconds.now) (to_z-of_z {w = w32} {z = p.year} fit i) p.month p.day
-    p.hour p.minute p.second) ∙ sym c.before.before.before.utc-from-calendar-by-arrays.ensures ∙ ap utc_outcome c.before.number.given.1)
+    p.hour p.minute p.second) ∙ sym c.utc_from_calendar_by_arrays.ensures ∙ ap utc_outcome c.in-Refused.is)
 
-returns-2 : tie.Need-returns-2
+returns-2 : tie.Need-returns-in-Date
 unfolding parsed_utc_outcome dated onward utc_outcome
 returns-2 c =
-    let a = c.before.before.before.before.before.args in
+    let a = c.args in
     let p = a.fields in
-    let fit : SFits w32 p.year = record { sfits = c.before.before.before.before.struct_told.given.0.1 } in
+    let fit : SFits w32 p.year = record { sfits = c.struct_told-1.given.0.1 } in
     rw (sym (λ i. utc_from_calendar (rows_in a.size a.months.now a.seconds.now) (to_z-of_z {w = w32} {z = p.year} fit i) p.month p.day
-    p.hour p.minute p.second) ∙ sym c.before.before.before.utc-from-calendar-by-arrays.ensures ∙ ap utc_outcome c.before.date.given.1)
+    p.hour p.minute p.second) ∙ sym c.utc_from_calendar_by_arrays.ensures ∙ ap utc_outcome c.in-Date.is)
 
-pub dated-spec : {M : Type 1} → statement M
-dated-spec =
+pub dated_spec : {M : Type 1} → statement M
+dated_spec =
     tie.close
     (tie.spec (λ c κs. search rules) (λ c. search rules) (λ c. search rules) returns returns-2)

@@ -7,20 +7,17 @@ use borrow.Author.Rules.{rules}
 use Rattle.parsing.proofs.from_str.Statement.{statement}
 use Rattle.parsing.proofs.from_str.Tie as tie
 
-returns : tie.Need-returns
+returns : tie.Need-returns-then-number-ne0
 unfolding parsed_utc_outcome
-returns c = let r = c.before in not_taken r.before.before.args.t2 r.table-refusal.result r.table-refusal.ensures _ c.if1.true
+returns c = not_taken c.args.table c.table_refusal-number.result c.table_refusal-number.ensures _ c.if-number-ne0.true
 
-returns-2 : tie.Need-returns-2
+returns-2 : tie.Need-returns
 returns-2 c =
-    let z = c.before.before.before.before in
-    let r = z.before.before in
-    let s = r.before.before in
-    let rows = rows_in_lem s.args.t2 z.size_of.result z.size_of.ensures in
-    c.from-str-by-arrays.ensures
-    ∙ (λ i. parsed_utc (rows i) s.args.text.now)
-    ∙ taken s.args.t2 r.table-refusal.result r.table-refusal.ensures _ z.before.if1.false
+    let rows = rows_in_lem c.args.table c.size_of.result c.size_of.ensures in
+    c.from_str_by_arrays.ensures
+    ∙ (λ i. parsed_utc (rows i) c.args.text.now)
+    ∙ taken c.args.table c.table_refusal-number.result c.table_refusal-number.ensures _ c.if-number-ne0.false
 
-pub from-str-spec : {M : Type 1} → statement M
-from-str-spec =
+pub from_str_spec : {M : Type 1} → statement M
+from_str_spec =
     tie.close (tie.spec (λ c κs. search rules) returns (λ c κs. search rules) (λ c κs. search rules) returns-2)

@@ -13,45 +13,45 @@ use borrow.Author.Rules.{rules}
 use Rattle.parsing.proofs.judged.Statement.{statement}
 use Rattle.parsing.proofs.judged.Tie as tie
 
-returns : tie.Need-returns
+returns : tie.Need-returns-then-form-gt13
 unfolding parsed_outcome
-returns c = too_many_digits c.before.before.args.form c.if1.true
+returns c = too_many_digits c.args.form c.if-form-gt13.true
 
-returns-2 : tie.Need-returns-2
+returns-2 : tie.Need-returns-then-not-time_in
 unfolding parsed_outcome check_outcome
 returns-2 c =
-    let f = c.before.before.before.before.before.before.before.before.before.before.args.form in
+    let f = c.args.form in
     let hy : f.year < 2147483648 = omega arith in
     let hm : f.month < 2147483648 = omega arith in
     let hd : f.day < 2147483648 = omega arith in
-    let read = sym (c.before.before.before.before.validate-calendar-date.ensures
+    let read = sym (c.validate_calendar_date.ensures
     ∙ (λ i. valid_date (to_z_pos w32 {n = f.year} hy i) (to_z_pos w32 {n = f.month} hm i) (to_z_pos w32 {n = f.day} hd i))) in
-    time-refused f c.before.before.before.before.before.before.before.before.if1.false
-    (read ∙ ap check_outcome c.before.before.enum_told.given.1) (sym c.before.time-in.ensures ∙ not-true _ c.if2.true)
+    time-refused f c.if-form-gt13.false
+    (read ∙ ap check_outcome c.in-Valid.is) (sym c.time_in.ensures ∙ c.if-not-time_in.true)
 
-returns-3 : tie.Need-returns-3
+returns-3 : tie.Need-returns-in-Refused
 unfolding parsed_outcome check_outcome
 returns-3 c =
-    let f = c.before.before.before.before.before.before.before.before.before.args.form in
+    let f = c.args.form in
     let hy : f.year < 2147483648 = omega arith in
     let hm : f.month < 2147483648 = omega arith in
     let hd : f.day < 2147483648 = omega arith in
-    let read = sym (c.before.before.before.validate-calendar-date.ensures
+    let read = sym (c.validate_calendar_date.ensures
     ∙ (λ i. valid_date (to_z_pos w32 {n = f.year} hy i) (to_z_pos w32 {n = f.month} hm i) (to_z_pos w32 {n = f.day} hd i))) in
-    date_refused f c.before.before.before.before.before.before.before.if1.false _ (read ∙ ap check_outcome c.before.number.given.1)
+    date_refused f c.if-form-gt13.false _ (read ∙ ap check_outcome c.in-Refused.is)
 
-returns-4 : tie.Need-returns-4
+returns-4 : tie.Need-returns-else-not-time_in
 unfolding parsed_outcome check_outcome
 returns-4 c =
-    let f = c.before.before.before.before.before.before.before.before.before.before.before.before.args.form in
+    let f = c.args.form in
     let hy : f.year < 2147483648 = omega arith in
     let hm : f.month < 2147483648 = omega arith in
     let hd : f.day < 2147483648 = omega arith in
-    let read = sym (c.before.before.before.before.before.before.validate-calendar-date.ensures
+    let read = sym (c.validate_calendar_date.ensures
     ∙ (λ i. valid_date (to_z_pos w32 {n = f.year} hy i) (to_z_pos w32 {n = f.month} hm i) (to_z_pos w32 {n = f.day} hd i))) in
-    fields-given f c.before.before.before.before.before.before.before.before.before.before.if1.false _
-    (read ∙ ap check_outcome c.before.before.before.before.enum_told.given.1)
-    (sym c.before.before.before.time-in.ensures ∙ not-false _ c.before.before.if2.false)
+    fields-given f c.if-form-gt13.false _
+    (read ∙ ap check_outcome c.in-Valid.is)
+    (sym c.time_in.ensures ∙ c.if-not-time_in.false)
     (λ i. record {
       year = to_z_pos w32 {n = f.year} hy i;
       month = f.month;
@@ -59,11 +59,11 @@ returns-4 c =
       hour = f.hour;
       minute = f.minute;
       second =
-          c.second-of.ensures i;
+          c.second_of.ensures i;
     })
 
-pub judged-spec : {M : Type 1} → statement M
-judged-spec =
+pub judged_spec : {M : Type 1} → statement M
+judged_spec =
     tie.close
     (tie.spec returns (λ c. search rules) (λ c. search rules) (λ c. search rules) (λ c κs. search rules) (λ c. search rules) (λ c. search rules)
     (λ c κs. search rules) returns-2 (λ c. search rules) (λ c κs. search rules) returns-3 returns-4)

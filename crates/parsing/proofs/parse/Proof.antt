@@ -13,21 +13,21 @@ use Rattle.parsing.proofs.parse.Tie as tie
 
 judged-requires : tie.Need-judged-requires
 unfolding scanned_outcome
-judged-requires c κs = within-small c.before.before.before.before.before.args.utc c.before.before.before.before.before.args.text.now _
-    (sym c.before.before.before.scan.ensures ∙ ap scanned_outcome c.before.form.given.1)
+judged-requires c κs = within-small c.args.utc c.args.text.now _
+    (sym c.scan.ensures ∙ ap scanned_outcome c.in-Within.is)
 
-returns : tie.Need-returns
+returns : tie.Need-returns-in-Outside
 unfolding parsed_outcome scanned_outcome onward
-returns c = sym (parsed-is c.before.before.before.before.args.utc c.before.before.before.before.args.text.now
-    ∙ ap (λ (o : Outcome Form). onward o judged_form) (sym c.before.before.scan.ensures ∙ ap scanned_outcome c.enum_told.given.1))
+returns c = sym (parsed-is c.args.utc c.args.text.now
+    ∙ ap (λ (o : Outcome Form). onward o judged_form) (sym c.scan.ensures ∙ ap scanned_outcome c.in-Outside.is))
 
-returns-2 : tie.Need-returns-2
+returns-2 : tie.Need-returns-in-Within
 unfolding scanned_outcome onward
 returns-2 c = c.judged.ensures
-    ∙ sym (parsed-is c.before.before.before.before.before.before.args.utc c.before.before.before.before.before.before.args.text.now
+    ∙ sym (parsed-is c.args.utc c.args.text.now
     ∙ ap (λ (o : Outcome Form). onward o judged_form)
-    (sym c.before.before.before.before.scan.ensures ∙ ap scanned_outcome c.before.before.form.given.1))
+    (sym c.scan.ensures ∙ ap scanned_outcome c.in-Within.is))
 
-pub parse-spec : {M : Type 1} → statement M
-parse-spec =
+pub parse_spec : {M : Type 1} → statement M
+parse_spec =
     tie.close (tie.spec (λ c κs. search rules) (λ c. search rules) (λ c. search rules) judged-requires returns returns-2)

@@ -48,7 +48,8 @@ pub not_end : (utc : Bool) (s : List ℕ) → end_right utc (after_fraction (dro
 unfolding right_form
 not_end utc s e = rw e (simp and-false)
 
-pub whole-form : (utc : Bool) (s : List ℕ) → date_right s ≡ true → time_right s ≡ true → end_right utc (after_fraction (drop 19 s)) ≡ true → right_form utc s ≡ true
+pub whole-form : (utc : Bool) (s : List ℕ) → date_right s ≡ true → time_right s ≡ true → end_right utc (after_fraction (drop 19 s)) ≡ true → right_form utc s
+    ≡ true
 unfolding right_form
 whole-form utc s d u e = rw (d, u, e)
 
@@ -75,13 +76,15 @@ module _ (t : List ℕ) (at : ℕ) where
       → n ≡ two_say (get_or t (at + 14) 0) (get_or t (at + 15) 0) → s ≡ two_say (get_or t (at + 17) 0) (get_or t (at + 18) 0)
       → form_with (100 * a + b) m d h n s whole places ≡ form_by (drop at t) whole places
   form-made whole places a b m d h n s ea eb em ed eh en es =
-      let first : a ≡ two_say (byte_at (drop at t) 0) (byte_at (drop at t) 1) = ea ∙ ap (λ (k : ℕ). two_say (get_or t k 0) (get_or t (at + 1) 0)) (sym (add-zero at))
+      let first : a ≡ two_say (byte_at (drop at t) 0) (byte_at (drop at t) 1) = ea ∙ ap (λ (k : ℕ). two_say (get_or t k 0) (get_or t (at + 1) 0))
+      (sym (add-zero at))
       ∙ both 0 1 in
       λ i. form_with (100 * first i + (eb ∙ both 2 3) i) ((em ∙ both 5 6) i) ((ed ∙ both 8 9) i) ((eh ∙ both 11 12) i) ((en ∙ both 14 15) i)
       ((es ∙ both 17 18) i) whole places
 
 -- the fields, with the fraction's run
-pub form-is : (t : List ℕ) (at second : ℕ) (r : Run) (f : Form) → second ≡ two_say (get_or t (at + 17) 0) (get_or t (at + 18) 0) → FractionRun second (at + 19) t r
+pub form-is : (t : List ℕ) (at second : ℕ) (r : Run) (f : Form) → second ≡ two_say (get_or t (at + 17) 0) (get_or t (at + 18) 0) → FractionRun second
+    (at + 19) t r
     → f ≡ form_by (drop at t) r.whole r.places → f ≡ form_at (drop at t)
 unfolding form_at
 form-is t at second r f e k i =

@@ -12,7 +12,7 @@ use borrow.Author.Rules.{rules}
 use Rattle.parsing.proofs.second_of.Statement.{statement}
 use Rattle.parsing.proofs.second_of.Tie as tie
 
-int-to-float-result : tie.Need-int-to-float-result
+int-to-float-result : tie.Need-int_to_float-result
 unfolding in_float
 int-to-float-result c = le→leb c.before.args.whole (2 ^ 53) (omega arith)
 
@@ -21,5 +21,5 @@ unfolding quotient values_from power round of_bits
 returns c = ap (div binary64 (of_int binary64 (pos c.before.args.whole)))
     (value-at power 14 0 c.before.args.places _ (omega arith) ∙ ap power (zero-add c.before.args.places))
 
-pub second-of-spec : {M : Type 1} → statement M
-second-of-spec = tie.close (tie.spec int-to-float-result (λ c. search rules) (λ c. search rules) returns)
+pub second_of_spec : {M : Type 1} → statement M
+second_of_spec = tie.close (tie.spec int-to-float-result (λ c. search rules) (λ c. search rules) returns)

@@ -49,7 +49,8 @@ form_with y m d h n s whole places = record { year = y; month = m; day = d; hour
 -- the fields of a text of the right form, with what its fraction gave
 abbrev pub form_by : List ℕ → ℕ → ℕ → Form
 form_by s whole places =
-    form_with (100 * two_say (byte_at s 0) (byte_at s 1) + two_say (byte_at s 2) (byte_at s 3)) (two_say (byte_at s 5) (byte_at s 6)) (two_say (byte_at s 8) (byte_at s 9))
+    form_with (100 * two_say (byte_at s 0) (byte_at s 1) + two_say (byte_at s 2) (byte_at s 3)) (two_say (byte_at s 5) (byte_at s 6))
+    (two_say (byte_at s 8) (byte_at s 9))
     (two_say (byte_at s 11) (byte_at s 12)) (two_say (byte_at s 14) (byte_at s 15)) (two_say (byte_at s 17) (byte_at s 18)) whole places
 
 unfoldable pub form_at : List ℕ → Form

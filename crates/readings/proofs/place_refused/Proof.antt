@@ -10,16 +10,13 @@ use Rattle.readings.proofs.place_refused.Tie as tie
 returns : tie.Need-returns
 unfolding reading_words
 returns c =
-    let d = c.before.before in
-    let b = d.before.before.before.before in
-    let st = b.before.before.before.before in
-    let room = st.requires in
-    let p1 = b.place-bytes.ensures.written (omega arith) in
+    let room = c.requires in
+    let p1 = c.place_bytes-next.ensures.written (omega arith) in
     let l = placed-length p1 (omega arith) in
-    let p2 = decimal-placed d.place-decimal.ensures.0 d.place-decimal.ensures.1 (omega arith) in
+    let p2 = decimal-placed c.place_decimal.ensures.0 c.place_decimal.ensures.1 (omega arith) in
     (then p1 p2.0 (omega arith), omega arith)
 
-pub place-refused-spec : {M : Type 1} → statement M
-place-refused-spec =
+pub place_refused_spec : {M : Type 1} → statement M
+place_refused_spec =
     tie.close
-    (tie.spec (λ c. search rules) (λ c κs. search rules) (λ c κs. search rules) (λ c. search rules) returns)
+    (tie.spec (λ c κs. search rules) (λ c κs. search rules) (λ c. search rules) returns)

@@ -52,7 +52,8 @@ pub put-patterns : (o : Outcome JulianDate) (d : JulianDate) (i : ℕ) (out1 out
     → out1' ≡ sets out1 (8 * i) (eight_bytes a) → out2' ≡ sets out2 (8 * i) (eight_bytes b)
     → StampPut o i out1 out2 0 out1' out2'
 put-patterns o d i out1 out2 out1' out2' a b e p q f g =
-    put-answered o d i out1 out2 out1' out2' e (f ∙ ap (λ (n : ℕ). sets out1 (8 * i) (eight_bytes n)) p) (g ∙ ap (λ (n : ℕ). sets out2 (8 * i) (eight_bytes n)) q)
+    put-answered o d i out1 out2 out1' out2' e (f ∙ ap (λ (n : ℕ). sets out1 (8 * i) (eight_bytes n)) p)
+    (g ∙ ap (λ (n : ℕ). sets out2 (8 * i) (eight_bytes n)) q)
 
 -- ---- a run
 pub run-same : {f g : ℕ → Outcome JulianDate} {n r : ℕ} {out1 out2 numbers out1' out2' numbers' : List ℕ} → ((i : ℕ) → f i ≡ g i)

@@ -7,52 +7,62 @@ use borrow.Author.Rules.{rules}
 use Rattle.runs.proofs.convert_run_by_arrays.Statement.{statement}
 use Rattle.runs.proofs.convert_run_by_arrays.Tie as tie
 
-returns : tie.Need-returns
+returns : tie.Need-returns-then-number-ne0
 returns c =
-    let a = c.before.before.before.before.before.before.before.args in
-    let q = c.before.run-refusal in
+    let a = c.args in
+    let q = c.run_refusal-number in
     run-refused (rows_in a.size a.months.now a.seconds.now) a.from a.to a.jd1s.now a.jd2s.now a.out1.now a.out2.now
-    a.numbers.now q.result q.ensures c.if1.true
+    a.numbers.now q.result q.ensures c.if-number-ne0.true
 
-returns-2 : tie.Need-returns-2
+returns-2 : tie.Need-returns-then-is_short
 returns-2 c =
-    let at-formula-run = c.before.before.before.before.before.before in
-    let at-if2 = at-formula-run.before.before.before.before.before in
-    let at-is-short = at-if2.before in
-    let start = at-is-short.before.before.before.before.before.before.before.before in
-    let a = start.args in
-    at-formula-run.formula-run.ensures
+    let a = c.args in
+    c.formula_run.ensures
     ∙ short-run (rows_in a.size a.months.now a.seconds.now) a.from a.to
-    (sym at-is-short.is-short.ensures
-    ∙ at-if2.if2.true) a.jd1s.now a.jd2s.now _
+    (sym c.is_short.ensures
+    ∙ c.if-is_short.true) a.jd1s.now a.jd2s.now _
     a.out1.now a.out2.now a.numbers.now refl
 
-convert-all-requires : tie.Need-convert-all-requires
-convert-all-requires c κs =
-    let at-if1 = c.before.before.before.before.before in
-    let at-run-refusal = at-if1.before in
-    let start = at-run-refusal.before.before.before.before.before.before in
-    let a = start.args in
-    let q = at-run-refusal.run-refusal in
-    roomy (rows_in a.size a.months.now a.seconds.now) a.from a.to a.jd1s.now a.jd2s.now a.out1.now a.out2.now
-    a.numbers.now q.result q.ensures at-if1.if1.false
+change-all-requires : tie.Need-change_all-count-requires
+change-all-requires c κs =
+    let a = c.args in
+    let q = c.run_refusal-number in (
+      roomy (rows_in a.size a.months.now a.seconds.now) a.from a.to a.jd1s.now a.jd2s.now a.out1.now a.out2.now
+          a.numbers.now q.result q.ensures c.if-number-ne0.false,
+      (sym c.reads_day.ensures ∙ c.if-not-reads_day.true, sym c.is_short.ensures ∙ c.if-is_short.false),
+    )
 
-returns-3 : tie.Need-returns-3
+returns-3 : tie.Need-returns-then-not-reads_day
 returns-3 c =
-    let at-convert-all = c.before.before.before.before.before.before in
-    let at-if1 = at-convert-all.before.before.before.before.before.before in
-    let at-run-refusal = at-if1.before in
-    let start = at-run-refusal.before.before.before.before.before.before in
-    let a = start.args in
-    let q = at-run-refusal.run-refusal in
+    let a = c.args in
+    let q = c.run_refusal-number in
+    let rows = rows_in a.size a.months.now a.seconds.now in
+    run_ends rows a.from a.to a.jd1s.now a.jd2s.now a.out1.now a.out2.now a.numbers.now q.result q.ensures
+    c.if-number-ne0.false _ _ _ _
+    (c.change_all-count.ensures rows)
+
+convert-all-requires : tie.Need-convert_all-requires
+convert-all-requires c κs =
+    let a = c.args in
+    let q = c.run_refusal-number in (
+      roomy (rows_in a.size a.months.now a.seconds.now) a.from a.to a.jd1s.now a.jd2s.now a.out1.now a.out2.now
+          a.numbers.now q.result q.ensures c.if-number-ne0.false,
+      sym c.reads_day.ensures ∙ c.if-not-reads_day.false,
+    )
+
+returns-4 : tie.Need-returns
+returns-4 c =
+    let a = c.args in
+    let q = c.run_refusal-number in
     run_ends (rows_in a.size a.months.now a.seconds.now) a.from a.to a.jd1s.now a.jd2s.now a.out1.now a.out2.now
     a.numbers.now q.result q.ensures
-    at-if1.if1.false _ _ _ _
-    at-convert-all.convert-all.ensures
+    c.if-number-ne0.false _ _ _ _
+    c.convert_all.ensures
 
-pub convert-run-by-arrays-spec : {M : Type 1} → statement M
-convert-run-by-arrays-spec =
+pub convert_run_by_arrays_spec : {M : Type 1} → statement M
+convert_run_by_arrays_spec =
     tie.close
     (tie.spec (λ c κs. search rules) returns (λ c κs. search rules) (λ c. search rules) (λ c. search rules) (λ c. search rules) (λ c κs. search rules)
-    (λ c. search rules) (λ c. search rules) (λ c. search rules) returns-2 convert-all-requires (λ c. search rules) (λ c. search rules)
-    (λ c. search rules) returns-3)
+    (λ c. search rules) (λ c. search rules) (λ c. search rules) returns-2 (λ c κs. search rules) change-all-requires (λ c. search rules) (λ c. search rules)
+    (λ c. search rules) returns-3 convert-all-requires (λ c. search rules) (λ c. search rules)
+    (λ c. search rules) returns-4)

@@ -4,45 +4,45 @@ use Rattle.runs.specs.ways.Ways.{is_run_scale}
 use Rattle.runs.proofs.is_run_scale.Statement.{statement}
 use Rattle.runs.proofs.is_run_scale.Tie as tie
 
-returns : tie.Need-returns
+returns : tie.Need-returns-then-n-eq-UTC
 unfolding is_run_scale
 returns c =
-    let n = c.before.args.n in
-    rw (eq-eqb n 0 c.if1.true)
+    let n = c.args.n in
+    rw (eq-eqb n 0 c.if-n-eq-UTC.true)
 
-returns-2 : tie.Need-returns-2
+returns-2 : tie.Need-returns-then-n-eq-TAI
 unfolding is_run_scale
 returns-2 c =
-    let n = c.before.before.args.n in
-    rw (ne_eqb n 0 c.before.if1.false, eq-eqb n 1 c.if2.true)
+    let n = c.args.n in
+    rw (ne_eqb n 0 c.if-n-eq-UTC.false, eq-eqb n 1 c.if-n-eq-TAI.true)
 
-returns-3 : tie.Need-returns-3
+returns-3 : tie.Need-returns-then-n-eq-TT
 unfolding is_run_scale
 returns-3 c =
-    let n = c.before.before.before.args.n in
-    rw (ne_eqb n 0 c.before.before.if1.false, ne_eqb n 1 c.before.if2.false, eq-eqb n 3 c.if3.true)
+    let n = c.args.n in
+    rw (ne_eqb n 0 c.if-n-eq-UTC.false, ne_eqb n 1 c.if-n-eq-TAI.false, eq-eqb n 3 c.if-n-eq-TT.true)
 
-returns-4 : tie.Need-returns-4
+returns-4 : tie.Need-returns-then-n-eq-GPS
 unfolding is_run_scale
 returns-4 c =
-    let n = c.before.before.before.before.args.n in
+    let n = c.args.n in
     rw (
-      ne_eqb n 0 c.before.before.before.if1.false,
-      ne_eqb n 1 c.before.before.if2.false,
-      ne_eqb n 3 c.before.if3.false,
-      eq-eqb n 4 c.if4.true,
+      ne_eqb n 0 c.if-n-eq-UTC.false,
+      ne_eqb n 1 c.if-n-eq-TAI.false,
+      ne_eqb n 3 c.if-n-eq-TT.false,
+      eq-eqb n 4 c.if-n-eq-GPS.true,
     )
 
-returns-5 : tie.Need-returns-5
+returns-5 : tie.Need-returns
 unfolding is_run_scale
 returns-5 c =
-    let n = c.before.before.before.before.args.n in
+    let n = c.args.n in
     rw (
-      ne_eqb n 0 c.before.before.before.if1.false,
-      ne_eqb n 1 c.before.before.if2.false,
-      ne_eqb n 3 c.before.if3.false,
-      ne_eqb n 4 c.if4.false,
+      ne_eqb n 0 c.if-n-eq-UTC.false,
+      ne_eqb n 1 c.if-n-eq-TAI.false,
+      ne_eqb n 3 c.if-n-eq-TT.false,
+      ne_eqb n 4 c.if-n-eq-GPS.false,
     )
 
-pub is-run-scale-spec : {M : Type 1} → statement M
-is-run-scale-spec = tie.close (tie.spec returns returns-2 returns-3 returns-4 returns-5)
+pub is_run_scale_spec : {M : Type 1} → statement M
+is_run_scale_spec = tie.close (tie.spec returns returns-2 returns-3 returns-4 returns-5)

@@ -134,7 +134,8 @@ module _ (seconds : Float) (d : JulianDate) where
   not_finite_offset_by : (f : Float → Float → Float → Float) → finite_parts d ≡ true → finite seconds ≡ false → converted_by f seconds d ≡ refusal 10
   not_finite_offset_by f h k = first_by f seconds d ∙ rw (h, k)
 
-  pub not_finite_offset_refused : (from to : ℕ) → OffsetPair from to → finite_parts d ≡ true → finite seconds ≡ false → by_formula from to seconds d ≡ refusal 10
+  pub not_finite_offset_refused : (from to : ℕ) → OffsetPair from to → finite_parts d ≡ true → finite seconds ≡ false → by_formula from to seconds d
+      ≡ refusal 10
   unfolding by_formula formula_of onward answer_of
   not_finite_offset_refused _ _ tai_ut1_pair h k = not_finite_offset_by _ h k
   not_finite_offset_refused _ _ ut1_tai_pair h k = not_finite_offset_by _ h k
@@ -342,7 +343,8 @@ module _ (from to : ℕ) (js ks os out1 out2 numbers : List ℕ)
   formula_spare_stays = subst (SpareStays n out1 out2 numbers) (sym written) (spare-kept f n out1 out2 numbers room1 room2 fits.bytes)
 
   -- THE COUNT is of the numbers that are not 0
-  pub formula_count_is : (formula_run from to js ks os out1 out2 numbers).answer ≡ answer (not_zero_in n (formula_run from to js ks os out1 out2 numbers).numbers)
+  pub formula_count_is : (formula_run from to js ks os out1 out2 numbers).answer ≡ answer
+      (not_zero_in n (formula_run from to js ks os out1 out2 numbers).numbers)
   formula_count_is = subst (λ (c : RunCall). c.answer ≡ answer (not_zero_in n c.numbers)) (sym written)
       (count-written f n out1 out2 numbers room1 room2 fits.bytes)
 

@@ -54,7 +54,8 @@ module _ (rows : List Row) (from to : ℕ) (f : Five from) (t : Five to) (js ks 
   run = converted_run (answer rows) from to (all_bytes eight_bytes js) (all_bytes eight_bytes ks) out1 out2 numbers
 
   run-passes : run_refusal from to (length (all_bytes eight_bytes js)) (length (all_bytes eight_bytes ks)) (length out1) (length out2) (length numbers) ≡ 0
-  run-passes = run-taken from to (length js) (length (all_bytes eight_bytes js)) (length (all_bytes eight_bytes ks)) (length out1) (length out2) (length numbers) f
+  run-passes = run-taken from to (length js) (length (all_bytes eight_bytes js)) (length (all_bytes eight_bytes ks)) (length out1) (length out2)
+      (length numbers) f
       t (eight-each js) (eight-each ks ∙ ap (λ (n : ℕ). 8 * n) same) room
 
   pub run-of-lists : ListedRun (λ (i : ℕ). way_of rows from to (listed_date js ks i)) (length js) out1 out2 numbers
@@ -92,7 +93,8 @@ module _ (from to : ℕ) (p : FormulaPair from to) (js ks os out1 out2 numbers :
   abbrev formula : RunCall
   formula = formula_run from to (all_bytes eight_bytes js) (all_bytes eight_bytes ks) (all_bytes eight_bytes os) out1 out2 numbers
 
-  formula_passes : formula_refusal from to (length (all_bytes eight_bytes js)) (length (all_bytes eight_bytes ks)) (length (all_bytes eight_bytes os)) (length out1)
+  formula_passes : formula_refusal from to (length (all_bytes eight_bytes js)) (length (all_bytes eight_bytes ks)) (length (all_bytes eight_bytes os))
+      (length out1)
       (length out2) (length numbers) ≡ 0
   formula_passes =
       lengths-answered (length (all_bytes eight_bytes js)) (length (all_bytes eight_bytes ks)) (length (all_bytes eight_bytes os)) (length out1) (length out2)

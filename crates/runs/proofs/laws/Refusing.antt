@@ -217,7 +217,8 @@ module _ (rows : List Row) where
   out to gps d g = any (earlier gps_days d g)
   out to tcg d g = holds-onward (converted tt_to_tcg) (later tt_days d g) (λ x h. any (to-tcg x h))
 
-  pub way_refusals : (from to : ℕ) → is_run_scale from ≡ true → is_run_scale to ≡ true → (d : JulianDate) → Held d → Holds Any OneSixNine (way_of rows from to d)
+  pub way_refusals : (from to : ℕ) → is_run_scale from ≡ true → is_run_scale to ≡ true → (d : JulianDate) → Held d → Holds Any OneSixNine
+      (way_of rows from to d)
   unfolding way_of between answer_of finite_jd
   way_refusals from to a b d g = same (eqb from to) (eqb from 3 && eqb to 5) (eqb from 5 && eqb to 3)
     where

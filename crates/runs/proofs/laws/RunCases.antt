@@ -1,13 +1,14 @@
 -- WORKED RUNS, by computation: by a fixed offset with a stamp that is refused, by the offsets of the stamps, through TAI, and single dates by a rate. The
 -- answers are said by their bits, from the same sums in 64-bit floats by another program. Assumes nothing.
-use Prim.Native.Nat.{ℕ, zero, suc, ◌*◌, ◌/◌, ◌%◌}
+use Prim.Native.Nat.{ℕ, zero, suc}
 use mathlib.Core.Path.{◌≡◌, refl, ◌∙◌}
 use mathlib.Core.List.{List, [], ◌∷◌, ◌++◌}
-use lib.Ieee.{Float, binary64, of_bits, to_bits, round, add, sub, mul, div, neg, lt}
+use lib.Ieee.{binary64, of_bits, to_bits, round, add, sub, mul, div, neg, lt}
 use Rattle.refusals.specs.Outcome.{Outcome, answer, refusal, onward}
 use Rattle.numerals.specs.little_endian.LittleEndian.{u64_at, four_at, eight_bytes}
 use Rattle.floats.specs.Whole.{abs, nought}
-use Rattle.constants.specs.Constants.{seconds_per_day, mjd_zero_point, gps_to_tai_offset_seconds, tt_tai_offset, tcg_rate_lg, tcb_rate_lb, tdb_offset1977, mjd1977_jan1}
+use Rattle.constants.specs.Constants.{seconds_per_day, mjd_zero_point, gps_to_tai_offset_seconds, tt_tai_offset, tcg_rate_lg, tcb_rate_lb, tdb_offset1977}
+use Rattle.constants.specs.Constants.{mjd1977_jan1}
 use Rattle.constants.specs.Constants.{tcg_reference_epoch, ratio, tcg_rate_ratio, tcb_rate_ratio}
 use Rattle.julian.specs.declared.JulianDate.{JulianDate}
 use Rattle.julian.specs.JulianDate.{julian}
@@ -54,7 +55,8 @@ three a b c = eight_bytes a ++ two b c
 pub gps-run : formula_run 4 1 (three midnight not_a_number midnight) (three quarter quarter half) [] (three spare spare spare) (three spare spare spare)
     (7 ∷ 7 ∷ 7 ∷ []) ≡ run_call (answer 1) (three midnight spare midnight) (three 0x3fd0_039a_5bc7_dea0 spare 0x3fe0_01cd_2de3_ef50) (0 ∷ 9 ∷ 0 ∷ [])
 unfolding formula_run formula_refusal formula_of lengths_refusal takes_offset by_formula run_written refused_among with_parts with_part with_numbers number_byte
-    stamp_of u64_at four_at answer_of converted finite_jd finite_arg onward changed map_smaller_part parts_of put_back first_is_larger plus days_of gps_days seconds_per_day
+    stamp_of u64_at four_at answer_of converted finite_jd finite_arg onward changed map_smaller_part parts_of put_back first_is_larger plus days_of gps_days
+    seconds_per_day
     gps_to_tai_offset_seconds abs lt of_bits to_bits round add div
 gps-run = refl
 
@@ -62,12 +64,14 @@ gps-run = refl
 pub ut1-run : formula_run 1 2 (two midnight midnight) (two quarter half) (two 0x40e5_1800_0000_0000 0x40f5_1800_0000_0000) (two spare spare) (two spare spare)
     (7 ∷ 7 ∷ []) ≡ run_call (answer 0) (two midnight midnight) (two 0x3fe8_0000_0000_0000 0x3ff8_0000_0000_0000) (0 ∷ 0 ∷ [])
 unfolding formula_run formula_refusal formula_of lengths_refusal takes_offset by_formula run_written refused_among with_parts with_part with_numbers number_byte
-    stamp_of u64_at four_at answer_of converted_by finite_both finite_offset finite_jd finite_arg onward changed map_smaller_part parts_of put_back first_is_larger plus
+    stamp_of u64_at four_at answer_of converted_by finite_both finite_offset finite_jd finite_arg onward changed map_smaller_part parts_of put_back
+    first_is_larger plus
     minus days_of seconds_per_day abs lt of_bits to_bits round add sub div
 ut1-run = refl
 
 -- a stamp whose second part and whose offset are both a NaN is refused by 9, before 10
-pub nine-before-ten : formula_run 1 2 (eight_bytes midnight) (eight_bytes not_a_number) (eight_bytes not_a_number) (eight_bytes spare) (eight_bytes spare) (7 ∷ [])
+pub nine-before-ten : formula_run 1 2 (eight_bytes midnight) (eight_bytes not_a_number) (eight_bytes not_a_number) (eight_bytes spare) (eight_bytes spare)
+    (7 ∷ [])
     ≡ run_call (answer 1) (eight_bytes spare) (eight_bytes spare) (9 ∷ [])
 unfolding formula_run formula_refusal formula_of lengths_refusal takes_offset by_formula run_written refused_among with_parts with_part with_numbers number_byte
     stamp_of u64_at four_at answer_of converted_by finite_both finite_offset finite_jd finite_arg onward of_bits
@@ -91,28 +95,35 @@ unfolding formula_of by_formula answer_of converted finite_jd finite_arg onward 
 tai-gps-six = refl
 
 pub tcg-tt-six : by_formula 5 3 nought at_six ≡ beside 0x3fcf_ffaa_95a9_9b15
-unfolding formula_of by_formula answer_of converted finite_jd finite_arg onward changed map_smaller_part parts_of put_back first_is_larger tcg_to_tt tt_to_tcg since
+unfolding formula_of by_formula answer_of converted finite_jd finite_arg onward changed map_smaller_part parts_of put_back first_is_larger tcg_to_tt tt_to_tcg
+    since
     mjd_zero_point tcg_reference_epoch mjd1977_jan1 tt_tai_offset seconds_per_day tcg_rate_lg tcg_rate_ratio ratio abs lt of_bits round add sub mul div
 tcg-tt-six = refl
 
 pub tdb_tcb_six : by_formula 7 6 nought at_six ≡ beside 0x3fd0_03b6_28b7_6590
-unfolding formula_of by_formula answer_of converted finite_jd finite_arg onward changed map_smaller_part parts_of put_back first_is_larger tcb_to_tdb tdb_to_tcb since
-    jd1977 tdb0 tt_days days_of seconds_per_day tt_tai_offset mjd_zero_point mjd1977_jan1 tdb_offset1977 tcb_rate_ratio tcb_rate_lb ratio abs lt of_bits round add sub
+unfolding formula_of by_formula answer_of converted finite_jd finite_arg onward changed map_smaller_part parts_of put_back first_is_larger tcb_to_tdb tdb_to_tcb
+    since
+    jd1977 tdb0 tt_days days_of seconds_per_day tt_tai_offset mjd_zero_point mjd1977_jan1 tdb_offset1977 tcb_rate_ratio tcb_rate_lb ratio abs lt of_bits round
+    add sub
     mul div neg
 tdb_tcb_six = refl
 
 -- TT TO GPS, two stamps through TAI: 32.184 s less and then 19 s less
 pub tt_gps_run : converted_run (answer fixed) 3 4 (two midnight midnight) (two quarter half) (two spare spare) (two spare spare) (7 ∷ 7 ∷ [])
     ≡ run_call (answer 0) (two midnight midnight) (two 0x3fcf_ec96_86c7_9664 0x3fdf_f64b_4363_cb32) (0 ∷ 0 ∷ [])
-unfolding converted_run run_by run_refusal is_run_scale way_of between into_tai out_of_tai run_written refused_among with_parts with_part with_numbers number_byte stamp_of
-    u64_at four_at answer_of converted finite_jd finite_arg onward changed map_smaller_part parts_of put_back first_is_larger plus minus days_of gps_days tt_days
+unfolding converted_run run_by run_refusal is_run_scale way_of between into_tai out_of_tai run_written refused_among with_parts with_part with_numbers
+    number_byte stamp_of
+    u64_at four_at answer_of converted finite_jd finite_arg onward changed map_smaller_part parts_of put_back first_is_larger plus minus days_of gps_days
+    tt_days
     seconds_per_day gps_to_tai_offset_seconds tt_tai_offset abs lt of_bits to_bits round add sub div
 tt_gps_run = refl
 
 -- TT to TCG one second after that midnight: through TAI the last digits would be another
 pub tt_tcg_second : way_of fixed 3 5 (julian (of_bits binary64 midnight) (of_bits binary64 0x3ee8_45c8_a0ce_5129)) ≡ beside 0x3ef6_d023_2428_7dce
-unfolding way_of between into_tai out_of_tai answer_of converted finite_jd finite_arg onward changed map_smaller_part parts_of put_back first_is_larger plus minus days_of
-    tt_days tt_tai_offset seconds_per_day tt_to_tcg since mjd_zero_point tcg_reference_epoch mjd1977_jan1 tcg_rate_lg tcg_rate_ratio ratio abs lt of_bits round add sub
+unfolding way_of between into_tai out_of_tai answer_of converted finite_jd finite_arg onward changed map_smaller_part parts_of put_back first_is_larger plus
+    minus days_of
+    tt_days tt_tai_offset seconds_per_day tt_to_tcg since mjd_zero_point tcg_reference_epoch mjd1977_jan1 tcg_rate_lg tcg_rate_ratio ratio abs lt of_bits round
+    add sub
     mul div
 tt_tcg_second = refl
 
@@ -148,10 +159,10 @@ two-written : written-two (refusal 1) (answer (at last-of-2016 0x3fe0_0375_f31a_
 unfolding run_written refused_among with_parts with_part with_numbers number_byte of_bits to_bits round
 two-written = refl
 
-pub told-by-1 : converted_run (answer fixed) 0 1 (two before-4799 last-of-2016) (two 0 half) (two spare spare) (two spare spare) (7 ∷ 7 ∷ [])
+pub number-1-written : converted_run (answer fixed) 0 1 (two before-4799 last-of-2016) (two 0 half) (two spare spare) (two spare spare) (7 ∷ 7 ∷ [])
     ≡ run_call (answer 1) (two spare last-of-2016) (two spare 0x3fe0_0375_f31a_ed6a) (1 ∷ 0 ∷ [])
 unfolding converted_run run_by run_refusal is_run_scale run_written refused_among with_parts with_numbers stamp_of u64_at four_at
-told-by-1 = (λ i. written-two (before-refused i) (noon_answered i)) ∙ two-written
+number-1-written = (λ i. written-two (before-refused i) (noon_answered i)) ∙ two-written
 
 -- from TAI to TAI a NaN does not pass
 pub nan_same_scale : way_of fixed 1 1 (julian (of_bits binary64 not_a_number) (of_bits binary64 quarter)) ≡ refusal 9

@@ -3,7 +3,7 @@
 use Prim.Native.Nat.{ℕ, ◌*◌, ◌/◌, ◌<◌, ◌≤◌, ◌^◌}
 use native.Mathlib.Omega.{arith}
 use native.Mathlib.Nat.{div-mul-le_self}
-use mathlib.Core.Path.{◌≡◌, refl, sym, ap, subst, ◌∙◌}
+use mathlib.Core.Path.{◌≡◌, refl, sym, ap, subst}
 use mathlib.Core.Logic.{inl, inr}
 use mathlib.Core.Bool.{Bool, true, false, cond}
 use mathlib.Core.List.{List}
@@ -26,7 +26,7 @@ use Rattle.runs.proofs.Calls.{Fitting, fitting}
 use Rattle.runs.proofs.by_formula.Judged.{pattern_back}
 use Rattle.utc_scales.specs.laws.Claims.{Holds, refuses, Any}
 use Rattle.runs.specs.laws.NotFiniteStamps.{StampNotFinite, number_of_not_finite, OneSixNine, not_zero_in}
-use Rattle.runs.specs.laws.Done.{StampDone, SpareStays}
+use Rattle.runs.specs.laws.Done.{RunConverted, SpareStays, StampDone}
 use Rattle.runs.proofs.laws.Refusing.{five, not_finite_way, pattern_not_finite, same-passes, way_refusals, stamp-held}
 use Rattle.runs.proofs.laws.Written.{stamp-written, spare-kept, count-written}
 
@@ -121,6 +121,15 @@ module _ (rows : List Row) (from to : ℕ) (js ks out1 out2 numbers : List ℕ)
   pub not_finite_stamp_numbered : (i : ℕ) → i < n → StampNotFinite js ks i
       → get_or (converted_run (answer rows) from to js ks out1 out2 numbers).numbers i 0 ≡ number_of_not_finite from to
   not_finite_stamp_numbered i h d = (each-stamp i h).numbered (number_of_not_finite from to) (not_finite_stamp_refused i d)
+
+-- THE RUN whole
+pub run-converted : (rows : List Row) (from to : ℕ) (js ks out1 out2 numbers : List ℕ) → RunConverted rows from to js ks out1 out2 numbers
+run-converted rows from to js ks out1 out2 numbers z = record {
+  each = each-stamp rows from to js ks out1 out2 numbers z;
+  not_finite = not_finite_stamp_numbered rows from to js ks out1 out2 numbers z;
+  count = count-is rows from to js ks out1 out2 numbers z;
+  spare = spare-stays rows from to js ks out1 out2 numbers z;
+}
 
 -- ---- FROM A SCALE TO THE SAME a stamp passes with its bits
 pub same-scale-passes : (rows : List Row) (n : ℕ) (js ks : List ℕ) (i : ℕ) → finite_parts (stamp_of js ks i) ≡ true

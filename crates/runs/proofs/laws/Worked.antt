@@ -30,7 +30,8 @@ scales-taken = (refl, refl, refl, refl, refl, refl, refl, refl, refl)
 pub second-offset-not-finite :
     number_byte (formula_answer 1 2 (all_bytes eight_bytes (0x4142b42c80000000 ∷ 0x4142b42c80000000 ∷ [])) (all_bytes eight_bytes (0 ∷ 0 ∷ []))
     (all_bytes eight_bytes (0xc042400000000000 ∷ 0x7ff8000000000000 ∷ [])) 1) ≡ 10
-unfolding number_byte by_formula formula_of onward answer_of converted_by changed all_bytes stamp_of u64_at four_at finite_both finite_jd of_bits finite_offset finite_arg
+unfolding number_byte by_formula formula_of onward answer_of converted_by changed all_bytes stamp_of u64_at four_at finite_both finite_jd of_bits finite_offset
+    finite_arg
 second-offset-not-finite = refl
 
 -- EACH NUMBER AS IT IS: of five stamps the second, third, fourth and last are refused, by 1, 6, 9 and 10, and the first is answered
@@ -41,9 +42,9 @@ refused-each (suc (suc zero)) = refusal 6
 refused-each (suc (suc (suc zero))) = refusal 9
 refused-each (suc (suc (suc (suc k)))) = refusal 10
 
-pub numbers-told : with_numbers refused-each 5 (7 ∷ 7 ∷ 7 ∷ 7 ∷ 7 ∷ 7 ∷ []) ≡ (0 ∷ 1 ∷ 6 ∷ 9 ∷ 10 ∷ 7 ∷ [])
+pub numbers-written : with_numbers refused-each 5 (7 ∷ 7 ∷ 7 ∷ 7 ∷ 7 ∷ 7 ∷ []) ≡ (0 ∷ 1 ∷ 6 ∷ 9 ∷ 10 ∷ 7 ∷ [])
 unfolding with_numbers number_byte
-numbers-told = refl
+numbers-written = refl
 
 -- of two that are refused, by 6 and by 9, both count
 pub two-refused : refused_among (λ (i : ℕ). refusal (6 + 3 * i)) 2 ≡ 2

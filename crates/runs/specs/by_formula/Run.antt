@@ -61,4 +61,5 @@ run_call o out1 out2 numbers = record { answer = o; out1 = out1; out2 = out2; nu
 
 -- n stamps with these answers
 unfoldable pub run_written : (ℕ → Outcome JulianDate) → ℕ → List ℕ → List ℕ → List ℕ → RunCall
-run_written f n out1 out2 numbers = run_call (answer (refused_among f n)) (with_parts first_part f n out1) (with_parts second_part f n out2) (with_numbers f n numbers)
+run_written f n out1 out2 numbers = run_call (answer (refused_among f n)) (with_parts first_part f n out1) (with_parts second_part f n out2)
+    (with_numbers f n numbers)

@@ -24,7 +24,7 @@ pub(crate) const TCB_TO_TDB: u32 = 6;
 pub(crate) const TDB_TO_TCB: u32 = 7;
 
 // A kind, and the days of a fixed offset.
-#[derive(Drop)]
+#[derive(Clone, Copy)]
 pub(crate) struct Formula {
     pub kind: u32,
     pub days: f64,

@@ -1,5 +1,6 @@
 -- Every week's date on the calendar: its day is exact, for every week and millisecond. Assumes nothing.
-use Rattle.std.proofs.Common.{◌≡◌, ℕ, zero, suc, ◌+◌, ◌-◌, ◌*◌, ◌/◌, ◌%◌, ◌^◌, ◌<◌, ◌≤◌, false, ℤ, pos, ◌+ℤ◌, sym, refl, ap, ◌∙◌, subst, arith, lit<, lit≤, le-ltb}
+use Rattle.std.proofs.Common.{◌≡◌, ℕ, zero, suc, ◌+◌, ◌-◌, ◌*◌, ◌/◌, ◌%◌, ◌^◌, ◌<◌, ◌≤◌, false, ℤ, pos, ◌+ℤ◌, sym, refl, ap, ◌∙◌, subst, arith, lit<, lit≤}
+use Rattle.std.proofs.Common.{le-ltb}
 use lib.Ieee.{Float, binary64, round}
 use lib.Ieee.Fits.{round-fits}
 use Rattle.refusals.specs.Outcome.{answer, onward}

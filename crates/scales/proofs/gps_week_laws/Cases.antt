@@ -48,27 +48,32 @@ at x y = week_of (julian (of_bits binary64 x) (of_bits binary64 y))
 
 -- (2444244.5, 5.787037037037036e-09): the product is the float below 0.5, so millisecond 0, though it plus 0.5 rounds to 1.0
 pub below-a-half : at 0x4142_a5ea_4000_0000 0x3e38_daea_1d7f_4cf6 ≡ answer (week_time 0 0)
-unfolding week_of finite_jd onward week_of_day week_at day_millis product_of from_zero to_whole to_signed mul round day_number_and_fraction of_bits lt add sub div neg
+unfolding week_of finite_jd onward week_of_day week_at day_millis product_of from_zero to_whole to_signed mul round day_number_and_fraction of_bits lt add sub
+    div neg
 below-a-half = refl
 
 -- (2444244.5, 5.787037037037037e-09): the product is exactly 0.5, and a half goes up, to the odd millisecond too
 pub up_from_a_half : at 0x4142_a5ea_4000_0000 0x3e38_daea_1d7f_4cf7 ≡ answer (week_time 0 1)
-unfolding week_of finite_jd onward week_of_day week_at day_millis product_of from_zero to_whole to_signed mul round day_number_and_fraction of_bits lt add sub div neg
+unfolding week_of finite_jd onward week_of_day week_at day_millis product_of from_zero to_whole to_signed mul round day_number_and_fraction of_bits lt add sub
+    div neg
 up_from_a_half = refl
 
 -- (2444244.5, -0.5 ms): its day is 1980-01-05, and the rounded count is the first of week 0; 2^-27 day, 0.64 ms, before it the date is before the first week
 pub into-the-first-week : (at 0x4142_a5ea_4000_0000 0xbe38_daea_1d7f_4cf7 ≡ answer (week_time 0 0))
     × (at 0x4142_a5ea_4000_0000 0xbe40_0000_0000_0000 ≡ refusal 18)
-unfolding week_of finite_jd onward week_of_day week_at day_millis product_of from_zero to_whole to_signed mul round day_number_and_fraction of_bits lt add sub div neg
+unfolding week_of finite_jd onward week_of_day week_at day_millis product_of from_zero to_whole to_signed mul round day_number_and_fraction of_bits lt add sub
+    div neg
 into-the-first-week = (refl, refl)
 
 -- (3144251.5, -0.5 ms): half a millisecond before the end of week 100,000 is past the last week; 0.64 ms before it is the week's last millisecond
 pub out-of-the-last-week : (at 0x4147_fd1d_c000_0000 0xbe38_daea_1d7f_4cf7 ≡ refusal 18)
     × (at 0x4147_fd1d_c000_0000 0xbe40_0000_0000_0000 ≡ answer (week_time 100000 604799999))
-unfolding week_of finite_jd onward week_of_day week_at day_millis product_of from_zero to_whole to_signed mul round day_number_and_fraction of_bits lt add sub div neg
+unfolding week_of finite_jd onward week_of_day week_at day_millis product_of from_zero to_whole to_signed mul round day_number_and_fraction of_bits lt add sub
+    div neg
 out-of-the-last-week = (refl, refl)
 
 -- (infinity, -infinity) is 9, though its sum is no number; (1.7e308, 1.7e308) is finite and 6
 pub nine-before-six : (at 0x7ff0_0000_0000_0000 0xfff0_0000_0000_0000 ≡ refusal 9) × (at 0x7fee_42d1_3077_3b76 0x7fee_42d1_3077_3b76 ≡ refusal 6)
-unfolding week_of finite_jd onward week_of_day week_at day_millis product_of from_zero to_whole to_signed mul round day_number_and_fraction of_bits lt add sub div neg
+unfolding week_of finite_jd onward week_of_day week_at day_millis product_of from_zero to_whole to_signed mul round day_number_and_fraction of_bits lt add sub
+    div neg
 nine-before-six = (refl, refl)

@@ -1,5 +1,6 @@
 -- Which refusals the two ways give, and exactly when: 18 alone for a week; 9, then 6, then 18 for a date. Assumes nothing.
-use Rattle.std.proofs.Common.{◌≡◌, ℕ, ◌+◌, ◌-◌, ◌*◌, ◌/◌, ◌%◌, ◌<◌, ◌≤◌, Bool, true, false, cond, ◌&&◌, ltb, leb, ◌⊎◌, ℤ, pos, negsuc, refl, inl, inr, arith, ltb-false, ltb-true, leb-false, leb-true}
+use Rattle.std.proofs.Common.{◌≡◌, ℕ, ◌+◌, ◌-◌, ◌*◌, ◌/◌, ◌%◌, ◌<◌, ◌≤◌, Bool, true, false, cond, ◌&&◌, ltb, leb, ◌⊎◌, ℤ, pos, negsuc, refl, inl, inr, arith}
+use Rattle.std.proofs.Common.{ltb-false, ltb-true, leb-false, leb-true}
 use Rattle.refusals.specs.Outcome.{Outcome, answer, refusal, onward}
 use Rattle.julian.specs.declared.day_number.DayNumber.{DayNumber}
 use Rattle.julian.specs.day_number.DayNumber.{accepted, day_of}

@@ -1,5 +1,7 @@
 -- A week and its milliseconds turned into a date and back are the same pair. Assumes nothing.
-use Rattle.std.proofs.Common.{◌≡◌, ℕ, ◌+◌, ◌-◌, ◌*◌, ◌/◌, ◌%◌, ◌^◌, ◌<◌, ◌≤◌, Bool, true, false, cond, ◌&&◌, T, ltb, leb, pos, sym, refl, ap, ◌∙◌, subst, add-zero, mul-le-mul_right, mul_assoc, mul_comm, add-mul, lt_of_mul-lt-mul_right, mul-lt-mul_of_pos_right, one-mul, mul_left_comm, arith, lit<, lit≤, ltb-true, le-ltb, le-leb, leb-true}
+use Rattle.std.proofs.Common.{◌≡◌, ℕ, ◌+◌, ◌-◌, ◌*◌, ◌/◌, ◌%◌, ◌^◌, ◌<◌, ◌≤◌, Bool, true, false, cond, ◌&&◌, T, ltb, leb, pos, sym, refl, ap, ◌∙◌, subst}
+use Rattle.std.proofs.Common.{add-zero, mul-le-mul_right, mul_assoc, mul_comm, add-mul, lt_of_mul-lt-mul_right, mul-lt-mul_of_pos_right, one-mul, mul_left_comm}
+use Rattle.std.proofs.Common.{arith, lit<, lit≤, ltb-true, le-ltb, le-leb, leb-true}
 use lib.Ieee.{Float, binary64, fits}
 use lib.Ieee.Fits.{round-fits}
 use Rattle.refusals.specs.Outcome.{answer, refusal, onward}
@@ -98,7 +100,8 @@ module _ (n r : ℕ) (early : 2444245 ≤ n) (late : n ≤ 3144252) (short : r <
   X = ap (λ (x : ℕ). n * x) H-L ∙ mul_left_comm n 2 H ∙ sym (mul_assoc 2 n H)
 
   pub first : Val (week_midnight n) (n * L) H L
-  first = subst (λ (x : ℕ). Val (week_midnight n) (n * L) H x) (sym H-L) (val-move (val-scale H (midnight-val n (omega arith) (omega arith))) (omega (arith, X)))
+  first = subst (λ (x : ℕ). Val (week_midnight n) (n * L) H x) (sym H-L)
+      (val-move (val-scale H (midnight-val n (omega arith) (omega arith))) (omega (arith, X)))
 
   pub second : Val (part_of_day r) q m L
   unfolding q m
@@ -134,7 +137,8 @@ module _ (n r : ℕ) (early : 2444245 ≤ n) (late : n ≤ 3144252) (short : r <
   pub given : day_number_and_fraction (week_midnight n) (part_of_day r) ≡ answer number
   unfolding number
   given = answered (week_midnight n) (part_of_day r)
-      (accepts (week_midnight n) (part_of_day r) (n * L) H q m first second (omega (arith, high, q-high, E-L, g-le)) (omega (arith, low, q-low, H-L, E-L, g-le)))
+      (accepts (week_midnight n) (part_of_day r) (n * L) H q m first second (omega (arith, high, q-high, E-L, g-le))
+      (omega (arith, low, q-low, H-L, E-L, g-le)))
 
   pub day : (k : ℕ) × (number.day ≡ pos k)
   day = N.from-day-0 d (n * L + q) (H + m) small worth number given (omega (arith, low, q-low, H-L, g-le)) number.day refl

@@ -1,5 +1,6 @@
 -- The two parts of a week's date: the code's operations give the floats of the definition, the first is exact; and a count by one cast. Assumes nothing.
-use Rattle.std.proofs.Common.{◌≡◌, ℕ, zero, suc, ◌+◌, ◌-◌, ◌*◌, ◌/◌, ◌^◌, ◌<◌, ◌≤◌, min, Bool, true, false, ℤ, pos, negsuc, neg_ℤ, sym, refl, ap, ◌∙◌, subst, true≢false, div-lt_iff_lt-mul, mul-one, arith, lit<, lit≤, w64, SFits, ltb-true}
+use Rattle.std.proofs.Common.{◌≡◌, ℕ, zero, suc, ◌+◌, ◌-◌, ◌*◌, ◌/◌, ◌^◌, ◌<◌, ◌≤◌, min, Bool, true, false, ℤ, pos, negsuc, neg_ℤ, sym, refl, ap, ◌∙◌, subst}
+use Rattle.std.proofs.Common.{true≢false, div-lt_iff_lt-mul, mul-one, arith, lit<, lit≤, w64, SFits, ltb-true}
 use lib.Ieee.{Float, nan, inf, fin, binary64, up, down, round, of_int, of_bits, sub, div, lt, to_unsigned, to_signed}
 use lib.Ieee.Fits.{down_pos}
 use Rattle.floats.specs.Whole.{half}
@@ -57,7 +58,8 @@ unfolding from_zero
 from-negative zero = refl
 from-negative (suc k) = refl
 
-pub short-cast : (r : Float) → lt r (fin false 1 (pos 52)) ≡ true → (k : ℕ) → k ≡ to_unsigned 64 r → (k ≡ from_zero (to_signed 63 r)) × (k ≤ 9223372036854775807)
+pub short-cast : (r : Float) → lt r (fin false 1 (pos 52)) ≡ true → (k : ℕ) → k ≡ to_unsigned 64 r → (k ≡ from_zero (to_signed 63 r)) ×
+    (k ≤ 9223372036854775807)
 unfolding lt to_unsigned to_signed from_zero
 short-cast nan h k e = (e, omega arith)
 short-cast (inf true) h k e = (e, omega arith)

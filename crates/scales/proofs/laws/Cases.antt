@@ -4,7 +4,8 @@ use Rattle.std.proofs.Common.{◌≡◌, ℕ, ◌+◌, ◌*◌, ◌^◌, true, f
 use lib.Ieee.{Float, inf, nan, binary64, of_bits, round, add, sub, mul, div, neg, fits, lt, le, eq}
 use Rattle.floats.specs.Whole.{abs}
 use Rattle.rounding.specs.Value.{L}
-use Rattle.constants.specs.Constants.{seconds_per_day, mjd_zero_point, gps_to_tai_offset_seconds, tt_tai_offset, tcg_rate_lg, tcb_rate_lb, tdb_offset1977, mjd1977_jan1}
+use Rattle.constants.specs.Constants.{seconds_per_day, mjd_zero_point, gps_to_tai_offset_seconds, tt_tai_offset, tcg_rate_lg, tcb_rate_lb, tdb_offset1977}
+use Rattle.constants.specs.Constants.{mjd1977_jan1}
 use Rattle.constants.specs.Constants.{tcg_reference_epoch, ratio, tcg_rate_ratio, tcb_rate_ratio}
 use Rattle.refusals.specs.Outcome.{answer, refusal, onward}
 use Rattle.julian.specs.declared.JulianDate.{JulianDate}
@@ -25,8 +26,10 @@ bits n = of_bits binary64 n
 
 -- GPS to TAI at J2000.0
 noon : answer_of gps-tai (at (bits 0x4142_b42c_8000_0000) (bits 0x0000_0000_0000_0000)) ≡ answer (at (bits 0x4142_b42c_8000_0000) (bits 0x3f2c_d2de_3ef5_0061))
-unfolding answer_of converted converted_by finite_both finite_offset finite_jd finite_arg onward changed map_smaller_part parts_of put_back first_is_larger plus minus
-    since days_of gps_days tt_days tdb0 jd1977 tcg_to_tt tt_to_tcg tcb_to_tdb tdb_to_tcb seconds_per_day gps_to_tai_offset_seconds tt_tai_offset mjd_zero_point mjd1977_jan1
+unfolding answer_of converted converted_by finite_both finite_offset finite_jd finite_arg onward changed map_smaller_part parts_of put_back first_is_larger plus
+    minus
+    since days_of gps_days tt_days tdb0 jd1977 tcg_to_tt tt_to_tcg tcb_to_tdb tdb_to_tcb seconds_per_day gps_to_tai_offset_seconds tt_tai_offset mjd_zero_point
+    mjd1977_jan1
     tcg_reference_epoch tcg_rate_lg tcb_rate_lb tcg_rate_ratio tcb_rate_ratio ratio tdb_offset1977 abs lt of_bits round add sub mul div neg
 noon = refl
 
@@ -36,76 +39,98 @@ module _ where
   six-hours = at (bits 0x4142_b42c_8000_0000) (bits 0x3fd0_0000_0000_0000)
 
   tcg-to-tt : answer_of tcg-tt six-hours ≡ answer (at (bits 0x4142_b42c_8000_0000) (bits 0x3fcf_ffce_e312_42ae))
-  unfolding answer_of converted converted_by finite_both finite_offset finite_jd finite_arg onward changed map_smaller_part parts_of put_back first_is_larger plus minus
-      since days_of gps_days tt_days tdb0 jd1977 tcg_to_tt tt_to_tcg tcb_to_tdb tdb_to_tcb seconds_per_day gps_to_tai_offset_seconds tt_tai_offset mjd_zero_point mjd1977_jan1
+  unfolding answer_of converted converted_by finite_both finite_offset finite_jd finite_arg onward changed map_smaller_part parts_of put_back first_is_larger
+      plus minus
+      since days_of gps_days tt_days tdb0 jd1977 tcg_to_tt tt_to_tcg tcb_to_tdb tdb_to_tcb seconds_per_day gps_to_tai_offset_seconds tt_tai_offset
+      mjd_zero_point mjd1977_jan1
       tcg_reference_epoch tcg_rate_lg tcb_rate_lb tcg_rate_ratio tcb_rate_ratio ratio tdb_offset1977 abs lt of_bits round add sub mul div neg
   tcg-to-tt = refl
 
   tt-to-tcg : answer_of tt_tcg six-hours ≡ answer (at (bits 0x4142_b42c_8000_0000) (bits 0x3fd0_0018_8e76_def2))
-  unfolding answer_of converted converted_by finite_both finite_offset finite_jd finite_arg onward changed map_smaller_part parts_of put_back first_is_larger plus minus
-      since days_of gps_days tt_days tdb0 jd1977 tcg_to_tt tt_to_tcg tcb_to_tdb tdb_to_tcb seconds_per_day gps_to_tai_offset_seconds tt_tai_offset mjd_zero_point mjd1977_jan1
+  unfolding answer_of converted converted_by finite_both finite_offset finite_jd finite_arg onward changed map_smaller_part parts_of put_back first_is_larger
+      plus minus
+      since days_of gps_days tt_days tdb0 jd1977 tcg_to_tt tt_to_tcg tcb_to_tdb tdb_to_tcb seconds_per_day gps_to_tai_offset_seconds tt_tai_offset
+      mjd_zero_point mjd1977_jan1
       tcg_reference_epoch tcg_rate_lg tcb_rate_lb tcg_rate_ratio tcb_rate_ratio ratio tdb_offset1977 abs lt of_bits round add sub mul div neg
   tt-to-tcg = refl
 
   tcb-to-tdb : answer_of tcb-tdb six-hours ≡ answer (at (bits 0x4142_b42c_8000_0000) (bits 0x3fcf_fbbb_5547_c2e8))
-  unfolding answer_of converted converted_by finite_both finite_offset finite_jd finite_arg onward changed map_smaller_part parts_of put_back first_is_larger plus minus
-      since days_of gps_days tt_days tdb0 jd1977 tcg_to_tt tt_to_tcg tcb_to_tdb tdb_to_tcb seconds_per_day gps_to_tai_offset_seconds tt_tai_offset mjd_zero_point mjd1977_jan1
+  unfolding answer_of converted converted_by finite_both finite_offset finite_jd finite_arg onward changed map_smaller_part parts_of put_back first_is_larger
+      plus minus
+      since days_of gps_days tt_days tdb0 jd1977 tcg_to_tt tt_to_tcg tcb_to_tdb tdb_to_tcb seconds_per_day gps_to_tai_offset_seconds tt_tai_offset
+      mjd_zero_point mjd1977_jan1
       tcg_reference_epoch tcg_rate_lg tcb_rate_lb tcg_rate_ratio tcb_rate_ratio ratio tdb_offset1977 abs lt of_bits round add sub mul div neg
   tcb-to-tdb = refl
 
   tdb-to-tcb : answer_of tdb-tcb six-hours ≡ answer (at (bits 0x4142_b42c_8000_0000) (bits 0x3fd0_0222_555c_acab))
-  unfolding answer_of converted converted_by finite_both finite_offset finite_jd finite_arg onward changed map_smaller_part parts_of put_back first_is_larger plus minus
-      since days_of gps_days tt_days tdb0 jd1977 tcg_to_tt tt_to_tcg tcb_to_tdb tdb_to_tcb seconds_per_day gps_to_tai_offset_seconds tt_tai_offset mjd_zero_point mjd1977_jan1
+  unfolding answer_of converted converted_by finite_both finite_offset finite_jd finite_arg onward changed map_smaller_part parts_of put_back first_is_larger
+      plus minus
+      since days_of gps_days tt_days tdb0 jd1977 tcg_to_tt tt_to_tcg tcb_to_tdb tdb_to_tcb seconds_per_day gps_to_tai_offset_seconds tt_tai_offset
+      mjd_zero_point mjd1977_jan1
       tcg_reference_epoch tcg_rate_lg tcb_rate_lb tcg_rate_ratio tcb_rate_ratio ratio tdb_offset1977 abs lt of_bits round add sub mul div neg
   tdb-to-tcb = refl
 
 -- on equal sizes jd1 changes
 tie : answer_of gps-tai (at (bits 0x3ff0_0000_0000_0000) (bits 0xbff0_0000_0000_0000)) ≡ answer (at (bits 0x3ff0_00e6_96f1_f7a8) (bits 0xbff0_0000_0000_0000))
-unfolding answer_of converted converted_by finite_both finite_offset finite_jd finite_arg onward changed map_smaller_part parts_of put_back first_is_larger plus minus
-    since days_of gps_days tt_days tdb0 jd1977 tcg_to_tt tt_to_tcg tcb_to_tdb tdb_to_tcb seconds_per_day gps_to_tai_offset_seconds tt_tai_offset mjd_zero_point mjd1977_jan1
+unfolding answer_of converted converted_by finite_both finite_offset finite_jd finite_arg onward changed map_smaller_part parts_of put_back first_is_larger plus
+    minus
+    since days_of gps_days tt_days tdb0 jd1977 tcg_to_tt tt_to_tcg tcb_to_tdb tdb_to_tcb seconds_per_day gps_to_tai_offset_seconds tt_tai_offset mjd_zero_point
+    mjd1977_jan1
     tcg_reference_epoch tcg_rate_lg tcb_rate_lb tcg_rate_ratio tcb_rate_ratio ratio tdb_offset1977 abs lt of_bits round add sub mul div neg
 tie = refl
 
 -- jd2 is the larger part
 second-larger : answer_of tt-tai (at (bits 0x3fd0_0000_0000_0000) (bits 0x4142_b42c_8000_0000)) ≡ answer
     (at (bits 0x3fcf_f3cb_3e57_53a4) (bits 0x4142_b42c_8000_0000))
-unfolding answer_of converted converted_by finite_both finite_offset finite_jd finite_arg onward changed map_smaller_part parts_of put_back first_is_larger plus minus
-    since days_of gps_days tt_days tdb0 jd1977 tcg_to_tt tt_to_tcg tcb_to_tdb tdb_to_tcb seconds_per_day gps_to_tai_offset_seconds tt_tai_offset mjd_zero_point mjd1977_jan1
+unfolding answer_of converted converted_by finite_both finite_offset finite_jd finite_arg onward changed map_smaller_part parts_of put_back first_is_larger plus
+    minus
+    since days_of gps_days tt_days tdb0 jd1977 tcg_to_tt tt_to_tcg tcb_to_tdb tdb_to_tcb seconds_per_day gps_to_tai_offset_seconds tt_tai_offset mjd_zero_point
+    mjd1977_jan1
     tcg_reference_epoch tcg_rate_lg tcb_rate_lb tcg_rate_ratio tcb_rate_ratio ratio tdb_offset1977 abs lt of_bits round add sub mul div neg
 second-larger = refl
 
 -- document 01's case of 9: a part is an infinity
 infinite : answer_of gps-tai (at (inf false) (bits 0)) ≡ refusal 9
-unfolding answer_of converted converted_by finite_both finite_offset finite_jd finite_arg onward changed map_smaller_part parts_of put_back first_is_larger plus minus
-    since days_of gps_days tt_days tdb0 jd1977 tcg_to_tt tt_to_tcg tcb_to_tdb tdb_to_tcb seconds_per_day gps_to_tai_offset_seconds tt_tai_offset mjd_zero_point mjd1977_jan1
+unfolding answer_of converted converted_by finite_both finite_offset finite_jd finite_arg onward changed map_smaller_part parts_of put_back first_is_larger plus
+    minus
+    since days_of gps_days tt_days tdb0 jd1977 tcg_to_tt tt_to_tcg tcb_to_tdb tdb_to_tcb seconds_per_day gps_to_tai_offset_seconds tt_tai_offset mjd_zero_point
+    mjd1977_jan1
     tcg_reference_epoch tcg_rate_lg tcb_rate_lb tcg_rate_ratio tcb_rate_ratio ratio tdb_offset1977 abs lt of_bits round add sub mul div neg
 infinite = refl
 
 -- a part and the offset are not finite: 9 before 10
 nine-first : answer_of (tai-ut1 nan) (at (inf false) (bits 0)) ≡ refusal 9
-unfolding answer_of converted converted_by finite_both finite_offset finite_jd finite_arg onward changed map_smaller_part parts_of put_back first_is_larger plus minus
-    since days_of gps_days tt_days tdb0 jd1977 tcg_to_tt tt_to_tcg tcb_to_tdb tdb_to_tcb seconds_per_day gps_to_tai_offset_seconds tt_tai_offset mjd_zero_point mjd1977_jan1
+unfolding answer_of converted converted_by finite_both finite_offset finite_jd finite_arg onward changed map_smaller_part parts_of put_back first_is_larger plus
+    minus
+    since days_of gps_days tt_days tdb0 jd1977 tcg_to_tt tt_to_tcg tcb_to_tdb tdb_to_tcb seconds_per_day gps_to_tai_offset_seconds tt_tai_offset mjd_zero_point
+    mjd1977_jan1
     tcg_reference_epoch tcg_rate_lg tcb_rate_lb tcg_rate_ratio tcb_rate_ratio ratio tdb_offset1977 abs lt of_bits round add sub mul div neg
 nine-first = refl
 
 -- the offset is not finite
 ten : answer_of (tai-ut1 nan) (at (bits 0x3ff0_0000_0000_0000) (bits 0)) ≡ refusal 10
-unfolding answer_of converted converted_by finite_both finite_offset finite_jd finite_arg onward changed map_smaller_part parts_of put_back first_is_larger plus minus
-    since days_of gps_days tt_days tdb0 jd1977 tcg_to_tt tt_to_tcg tcb_to_tdb tdb_to_tcb seconds_per_day gps_to_tai_offset_seconds tt_tai_offset mjd_zero_point mjd1977_jan1
+unfolding answer_of converted converted_by finite_both finite_offset finite_jd finite_arg onward changed map_smaller_part parts_of put_back first_is_larger plus
+    minus
+    since days_of gps_days tt_days tdb0 jd1977 tcg_to_tt tt_to_tcg tcb_to_tdb tdb_to_tcb seconds_per_day gps_to_tai_offset_seconds tt_tai_offset mjd_zero_point
+    mjd1977_jan1
     tcg_reference_epoch tcg_rate_lg tcb_rate_lb tcg_rate_ratio tcb_rate_ratio ratio tdb_offset1977 abs lt of_bits round add sub mul div neg
 ten = refl
 
 -- finite TCG parts whose TT date in between is not finite: 9
 between : answer_of tcg-tai (at (bits 0x7fee_42d1_3077_3b76) (bits 0x7fee_42d1_3077_3b76)) ≡ refusal 9
-unfolding answer_of converted converted_by finite_both finite_offset finite_jd finite_arg onward changed map_smaller_part parts_of put_back first_is_larger plus minus
-    since days_of gps_days tt_days tdb0 jd1977 tcg_to_tt tt_to_tcg tcb_to_tdb tdb_to_tcb seconds_per_day gps_to_tai_offset_seconds tt_tai_offset mjd_zero_point mjd1977_jan1
+unfolding answer_of converted converted_by finite_both finite_offset finite_jd finite_arg onward changed map_smaller_part parts_of put_back first_is_larger plus
+    minus
+    since days_of gps_days tt_days tdb0 jd1977 tcg_to_tt tt_to_tcg tcb_to_tdb tdb_to_tcb seconds_per_day gps_to_tai_offset_seconds tt_tai_offset mjd_zero_point
+    mjd1977_jan1
     tcg_reference_epoch tcg_rate_lg tcb_rate_lb tcg_rate_ratio tcb_rate_ratio ratio tdb_offset1977 abs lt of_bits round add sub mul div neg
 between = refl
 
 -- huge finite TCB parts give an infinity
 overflow : answer_of tcb-tdb (at (bits 0x7fee_42d1_3077_3b76) (bits 0x7fee_42d1_3077_3b76)) ≡ answer (at (inf true) (bits 0x7fee_42d1_3077_3b76))
-unfolding answer_of converted converted_by finite_both finite_offset finite_jd finite_arg onward changed map_smaller_part parts_of put_back first_is_larger plus minus
-    since days_of gps_days tt_days tdb0 jd1977 tcg_to_tt tt_to_tcg tcb_to_tdb tdb_to_tcb seconds_per_day gps_to_tai_offset_seconds tt_tai_offset mjd_zero_point mjd1977_jan1
+unfolding answer_of converted converted_by finite_both finite_offset finite_jd finite_arg onward changed map_smaller_part parts_of put_back first_is_larger plus
+    minus
+    since days_of gps_days tt_days tdb0 jd1977 tcg_to_tt tt_to_tcg tcb_to_tdb tdb_to_tcb seconds_per_day gps_to_tai_offset_seconds tt_tai_offset mjd_zero_point
+    mjd1977_jan1
     tcg_reference_epoch tcg_rate_lg tcb_rate_lb tcg_rate_ratio tcb_rate_ratio ratio tdb_offset1977 abs lt of_bits round add sub mul div neg
 overflow = refl
 

@@ -5,7 +5,8 @@ use Rattle.std.proofs.Common.{◌*◌, ◌^◌, true, false, refl, lit<, lit≤}
 use lib.Ieee.{round, add, sub, div, neg}
 use Rattle.rounding.specs.Value.{Val, L}
 use Rattle.rounding.proofs.About.{U, About}
-use Rattle.constants.specs.Constants.{seconds_per_day, mjd_zero_point, gps_to_tai_offset_seconds, tt_tai_offset, tcg_rate_lg, tcb_rate_lb, tdb_offset1977, mjd1977_jan1}
+use Rattle.constants.specs.Constants.{seconds_per_day, mjd_zero_point, gps_to_tai_offset_seconds, tt_tai_offset, tcg_rate_lg, tcb_rate_lb, tdb_offset1977}
+use Rattle.constants.specs.Constants.{mjd1977_jan1}
 use Rattle.constants.specs.Constants.{tcg_reference_epoch, ratio, tcg_rate_ratio, tcb_rate_ratio}
 use Rattle.scales.specs.Formulas.{gps_days, tt_days, jd1977, tdb0}
 use Rattle.julian.specs.shifts.Shifts.{days_of}

@@ -1,5 +1,6 @@
 -- From the smaller part to the date: one law for every formula. Assumes nothing.
-use Rattle.std.proofs.Common.{◌≡◌, ℕ, ◌+◌, ◌*◌, ◌<◌, ◌≤◌, Bool, true, false, not, T, ltb, ◌⊎◌, sym, refl, ap, ◌∙◌, subst, subst₂, inl, inr, le_trans, le_of_eq, add-zero, mul-le-mul_right, mul_assoc, mul_comm, add-mul, mul-add, mul_right_comm, le_of_mul-le-mul_right, arith, ltb→lt, nltb→le}
+use Rattle.std.proofs.Common.{◌≡◌, ℕ, ◌+◌, ◌*◌, ◌<◌, ◌≤◌, Bool, true, false, not, T, ltb, ◌⊎◌, sym, refl, ap, ◌∙◌, subst, subst₂, inl, inr, le_trans, le_of_eq}
+use Rattle.std.proofs.Common.{add-zero, mul-le-mul_right, mul_assoc, mul_comm, add-mul, mul-add, mul_right_comm, le_of_mul-le-mul_right, arith, ltb→lt, nltb→le}
 use lib.Ieee.{Float, lt}
 use lib.Ieee.Exact.{HasValue}
 use Rattle.floats.specs.Whole.{abs}

@@ -1,7 +1,8 @@
 -- Demand 1 of the sixteen conversions, as one theorem: a date whose parts are under 2 ^ 52 in size, with an offset of at most 10 ^ 9 seconds, has an answer,
 -- both parts of it finite. `tests/scale_numbers` makes the numbers of the four rates: the places of the roundings (the bit length of what is rounded, less 54),
 -- the size of the correction and its error, the last two the least that the laws of `About` allow, in units of 2 ^ -90. Assumes nothing.
-use Rattle.std.proofs.Common.{◌≡◌, ℕ, ◌+◌, ◌*◌, ◌^◌, ◌≤◌, Bool, true, false, T, pos, sym, refl, ap, ◌∙◌, subst, le_trans, add-zero, mul-le-mul_right, mul_assoc, arith, lit<, lit≤, leb→le}
+use Rattle.std.proofs.Common.{◌≡◌, ℕ, ◌+◌, ◌*◌, ◌^◌, ◌≤◌, Bool, true, false, T, pos, sym, refl, ap, ◌∙◌, subst, le_trans, add-zero, mul-le-mul_right, mul_assoc}
+use Rattle.std.proofs.Common.{arith, lit<, lit≤, leb→le}
 use lib.Ieee.{Float, fin, binary64, lt, le, eq, round}
 use lib.Ieee.Scale.{finite}
 use lib.Ieee.Exact.{HasValue}

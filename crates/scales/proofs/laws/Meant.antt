@@ -1,6 +1,7 @@
 -- All sixteen conversions mean what SOFA's formulas say, to so many picoseconds: one part of the date at most 2 ^ 23 days in size, the other at most 1 day
 -- (`practical`) or at most 2 ^ 17 - 1 days (`modified`), and the offset at most half a day. Assumes nothing.
-use Rattle.std.proofs.Common.{◌≡◌, ℕ, ◌+◌, ◌*◌, ◌^◌, ◌≤◌, Bool, true, false, sym, refl, ap, ◌∙◌, subst, inl, inr, le_trans, mul-le-mul_right, mul_assoc, mul_comm, add-mul, mul-le-mul_left, mul-add, mul_left_comm, arith}
+use Rattle.std.proofs.Common.{◌≡◌, ℕ, ◌+◌, ◌*◌, ◌^◌, ◌≤◌, Bool, true, false, sym, refl, ap, ◌∙◌, subst, inl, inr, le_trans, mul-le-mul_right, mul_assoc}
+use Rattle.std.proofs.Common.{mul_comm, add-mul, mul-le-mul_left, mul-add, mul_left_comm, arith}
 use lib.Ieee.{Float, binary64, round}
 use lib.Ieee.Scale.{finite}
 use Rattle.rounding.specs.Value.{Val, L}

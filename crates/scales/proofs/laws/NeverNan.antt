@@ -1,6 +1,7 @@
 -- A date whose parts are finite f64's is never answered by a NaN, whatever their size; at the ends of the range a part of the answer may be an infinity.
 -- Assumes nothing.
-use Rattle.std.proofs.Common.{◌≡◌, ℕ, zero, suc, ◌+◌, ◌-◌, ◌*◌, ◌^◌, Bool, true, false, cond, not, ◌&&◌, T, eqb, ltb, sym, refl, ap, ◌∙◌, subst, true≢false, arith}
+use Rattle.std.proofs.Common.{◌≡◌, ℕ, zero, suc, ◌+◌, ◌-◌, ◌*◌, ◌^◌, Bool, true, false, cond, not, ◌&&◌, T, eqb, ltb, sym, refl, ap, ◌∙◌, subst, true≢false}
+use Rattle.std.proofs.Common.{arith}
 use mathlib.Core.Bool.{beq}
 use lib.Ieee.{Float, nan, inf, fin, Format, binary64, prec, low, emax, up, down, odd, units, round, fits, is_nan, sum, add, sub, mul, div, neg, unlike}
 use lib.Ieee.Fits.{round_is, add-fits, sub-fits}

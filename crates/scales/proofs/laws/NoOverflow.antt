@@ -1,6 +1,7 @@
 -- A finite f64 stays finite when a number of at most 2 ^ 969 in size is added to it or taken from it: the largest f64 is 2 ^ 971 below the next power of 2.
 -- Assumes nothing.
-use Rattle.std.proofs.Common.{◌≡◌, ℕ, ◌+◌, ◌-◌, ◌*◌, ◌^◌, ◌<◌, ◌≤◌, Bool, true, false, not, T, leb, sym, refl, subst, le_trans, le_of_eq, lt_of_lt_of_le, lt_of_le_of_lt, mul-le-mul_right, lt_of_mul-lt-mul_right, arith, lit<, lit≤, leb→le}
+use Rattle.std.proofs.Common.{◌≡◌, ℕ, ◌+◌, ◌-◌, ◌*◌, ◌^◌, ◌<◌, ◌≤◌, Bool, true, false, not, T, leb, sym, refl, subst, le_trans, le_of_eq, lt_of_lt_of_le}
+use Rattle.std.proofs.Common.{lt_of_le_of_lt, mul-le-mul_right, lt_of_mul-lt-mul_right, arith, lit<, lit≤, leb→le}
 use lib.Dec.{nleb→lt}
 use lib.Ieee.{Float, binary64, add, sub, fits}
 use lib.Ieee.Scale.{finite}

@@ -1,6 +1,7 @@
 -- What the customer's recorders need of GPS to TAI: one instant that the GPS recorder and the TAI recorder stamp to e ps comes out within 10 + e ps (0.63
 -- microseconds and e ps where the smaller part is a modified Julian date), and the order of stamps that share their larger part is kept. Assumes nothing.
-use Rattle.std.proofs.Common.{◌≡◌, ℕ, ◌+◌, ◌*◌, ◌≤◌, Bool, true, false, T, sym, ap, ◌∙◌, subst, mul-le-mul_right, add-mul, one-mul, mul-add, mul_left_comm, arith}
+use Rattle.std.proofs.Common.{◌≡◌, ℕ, ◌+◌, ◌*◌, ◌≤◌, Bool, true, false, T, sym, ap, ◌∙◌, subst, mul-le-mul_right, add-mul, one-mul, mul-add, mul_left_comm}
+use Rattle.std.proofs.Common.{arith}
 use lib.Ieee.{Float, binary64, fits, round, add, lt, le, eq}
 use lib.Ieee.Scale.{finite}
 use Rattle.floats.specs.Whole.{abs}
@@ -95,7 +96,8 @@ adds_in_order x y k f g hx hy {q} {m} w l =
     wide p n p' n' h = let s : (p + n') * L ≤ (p' + n) * L = mul-le-mul_right L h in simp add-mul (omega (arith, simp add-mul at s))
 
 -- two stamps whose larger part is the same and stands in the same place, the first not later: nor is its answer
-pub order-kept : (b : Bool) (d d' : JulianDate) → Held d → Held d' → finite_parts d ≡ true → finite_parts d' ≡ true → first_is_larger d ≡ b → first_is_larger d' ≡ b
+pub order-kept : (b : Bool) (d d' : JulianDate) → Held d → Held d' → finite_parts d ≡ true → finite_parts d' ≡ true → first_is_larger d ≡ b → first_is_larger d'
+    ≡ b
     → NotLater b d d'
     → (u : JulianDate) × (u' : JulianDate) × (answer_of gps-tai d ≡ answer u) × (answer_of gps-tai d' ≡ answer u') × NotLater b u u'
 unfolding answer_of plus

@@ -53,7 +53,8 @@ given f s d = subst (DecidedFinite (finite_parts d) (finite s)) (sym (first_by f
     go false true = refl
     go false false = refl
 
-after : (g : Float → Float → Float) (e : JulianDate) (b : Bool) → DecidedFinite (b && finite_parts e) true (onward (cond b (answer e) (refusal 9)) (converted g))
+after : (g : Float → Float → Float) (e : JulianDate) (b : Bool) → DecidedFinite (b && finite_parts e) true
+    (onward (cond b (answer e) (refusal 9)) (converted g))
 unfolding onward
 after g e true = plain g e
 after g e false = refl

@@ -5,13 +5,13 @@ use Rattle.scales.specs.Scales.{tai_outcome}
 use Rattle.scales.proofs.tai_answer.Statement.{statement}
 use Rattle.scales.proofs.tai_answer.Tie as tie
 
-returns : tie.Need-returns
+returns : tie.Need-returns-in-Date
 unfolding tai_outcome julian_outcome
-returns c = sym (ap julian_outcome c.before.a.given.1)
+returns c = sym (ap julian_outcome c.in-Date.is)
 
-returns-2 : tie.Need-returns-2
+returns-2 : tie.Need-returns-in-Refused
 unfolding tai_outcome julian_outcome
-returns-2 c = sym (ap julian_outcome c.before.a2.given.1)
+returns-2 c = sym (ap julian_outcome c.in-Refused.is)
 
-pub tai-answer-spec : {M : Type 1} → statement M
-tai-answer-spec = tie.close (tie.spec (λ c. search rules) (λ c. search rules) returns returns-2)
+pub tai_answer_spec : {M : Type 1} → statement M
+tai_answer_spec = tie.close (tie.spec (λ c. search rules) (λ c. search rules) returns returns-2)

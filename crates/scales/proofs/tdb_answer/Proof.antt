@@ -5,13 +5,13 @@ use Rattle.scales.specs.Scales.{tdb_outcome}
 use Rattle.scales.proofs.tdb_answer.Statement.{statement}
 use Rattle.scales.proofs.tdb_answer.Tie as tie
 
-returns : tie.Need-returns
+returns : tie.Need-returns-in-Date
 unfolding tdb_outcome julian_outcome
-returns c = sym (ap julian_outcome c.before.a.given.1)
+returns c = sym (ap julian_outcome c.in-Date.is)
 
-returns-2 : tie.Need-returns-2
+returns-2 : tie.Need-returns-in-Refused
 unfolding tdb_outcome julian_outcome
-returns-2 c = sym (ap julian_outcome c.before.a2.given.1)
+returns-2 c = sym (ap julian_outcome c.in-Refused.is)
 
-pub tdb-answer-spec : {M : Type 1} → statement M
-tdb-answer-spec = tie.close (tie.spec (λ c. search rules) (λ c. search rules) returns returns-2)
+pub tdb_answer_spec : {M : Type 1} → statement M
+tdb_answer_spec = tie.close (tie.spec (λ c. search rules) (λ c. search rules) returns returns-2)

@@ -1,5 +1,6 @@
 -- What the recorders' stamps must keep: the order of two stamps that have the same larger part in the same place. That a stamp t by TAI and a stamp d by GPS
--- are of one instant to e picoseconds is `Means e tai_over_gps d t` (Meaning): to e, because no two dates in floats are exactly 19 s apart. Written from document
+-- are of one instant to e picoseconds is `Means e tai_over_gps d t` (Meaning): to e, because no two dates in floats are exactly 19 s apart. Written from
+-- document
 -- 01, "Scale dates". Assumes nothing.
 use Rattle.std.specs.Prelude.{◌≡◌, Bool, T}
 use Rattle.std.specs.Float.Ieee.{le}

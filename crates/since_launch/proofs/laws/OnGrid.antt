@@ -43,7 +43,8 @@ module _ (d : JulianDate) (g : GridDate d) where
 
   pub place-exact : units_of (place_of (exact_day_number (sum_of g))) + minus_z (sum_of g) ≡ plus_z (sum_of g) + 2251799813685248 + 68570 * 4503599627370496
   unfolding place_of
-  place-exact = plain (from_zero (exact_day (sum_of g) +ℤ pos 68570)) _ (exact_fraction (sum_of g)) (plus_z (exact_day (sum_of g))) (minus_z (exact_day (sum_of g)))
+  place-exact = plain (from_zero (exact_day (sum_of g) +ℤ pos 68570)) _ (exact_fraction (sum_of g)) (plus_z (exact_day (sum_of g)))
+      (minus_z (exact_day (sum_of g)))
       (plus_z (sum_of g)) (minus_z (sum_of g)) units (days-are (exact_day (sum_of g)) days) (exact-day (sum_of g)).total
     where
       plain : (a x u p n P N : ℕ) → x ≡ u → a + n ≡ p + 68570 → P + 2 ^ 51 + n * 2 ^ 52 ≡ N + p * 2 ^ 52 + u
@@ -80,7 +81,8 @@ module _ (from to : JulianDate) (a : GridDate from) (b : GridDate to) where
 
 -- (e) of two dates on the grid, the later one never has fewer milliseconds
 pub never-backwards : (from to to' : JulianDate) (a : GridDate from) (b : GridDate to) (c : GridDate to') (r s : ℕ)
-    → plus_z (sum_of b) + minus_z (sum_of c) ≤ minus_z (sum_of b) + plus_z (sum_of c) → millis_from_to from to ≡ answer r → millis_from_to from to' ≡ answer s → r ≤ s
+    → plus_z (sum_of b) + minus_z (sum_of c) ≤ minus_z (sum_of b) + plus_z (sum_of c) → millis_from_to from to ≡ answer r → millis_from_to from to' ≡ answer s
+    → r ≤ s
 never-backwards from to to' a b c r s h e f =
     let n = (answered-nearest (on-grid-nearest from to a b) e).0 in
     let m = (answered-nearest (on-grid-nearest from to' a c) f).0 in

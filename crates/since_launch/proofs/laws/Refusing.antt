@@ -76,7 +76,8 @@ module _ (a b c d : ℕ) where
 
   pub not_finite_is_9 : OneNotFinite a b c d → millis_from_to from to ≡ refusal 9
   unfolding millis_from_to
-  not_finite_is_9 h = rw (none (finite (of_bits binary64 a)) (finite (of_bits binary64 b)) (finite (of_bits binary64 c)) (finite (of_bits binary64 d)) (fields h))
+  not_finite_is_9 h = rw (none (finite (of_bits binary64 a)) (finite (of_bits binary64 b)) (finite (of_bits binary64 c)) (finite (of_bits binary64 d))
+      (fields h))
     where
       fields : OneNotFinite a b c d → ((finite (of_bits binary64 a) ≡ false) ⊎ (finite (of_bits binary64 b) ≡ false))
           ⊎ ((finite (of_bits binary64 c) ≡ false) ⊎ (finite (of_bits binary64 d) ≡ false))

@@ -80,7 +80,8 @@ module _ (f : ℕ → Outcome ℕ) (l : List ℕ) where
   number_step : (n i : ℕ) → (i ≡ n) ⊎ (i < n) → suc n ≤ length l → (i < n → get_or (with_millis_numbers f n l) i 0 ≡ millis_number_byte (f i))
       → get_or (set (with_millis_numbers f n l) n (millis_number_byte (f n))) i 0 ≡ millis_number_byte (f i)
   number_step n i (inl q) room before = rw q (get_or-set_same (with_millis_numbers f n l) n (millis_number_byte (f n)) 0 (omega (arith, numbers-kept f n l)))
-  number_step n i (inr m) room before = get_or-set_other (with_millis_numbers f n l) n i (millis_number_byte (f n)) 0 (λ e. let w : ⊥ = omega arith in w) ∙ before m
+  number_step n i (inr m) room before = get_or-set_other (with_millis_numbers f n l) n i (millis_number_byte (f n)) 0 (λ e. let w : ⊥ = omega arith in w)
+      ∙ before m
 
   pub number-at : (n i : ℕ) → i < n → n ≤ length l → get_or (with_millis_numbers f n l) i 0 ≡ millis_number_byte (f i)
   unfolding with_millis_numbers

@@ -135,7 +135,8 @@ module _ (n r : ℕ) (early : 2444245 ≤ n) (late : n ≤ 3144252) (short : r <
     second = R.under52 fits3 close.to.second (omega (arith, later-high, same1, close.to.total)) (omega (arith, later-low, same1, close.to.total));
   }
 
-  given : day_number_and_fraction (week_midnight n) (add binary64 (part_of_day r) gps_days) ≡ answer (day_of (week_midnight n) (add binary64 (part_of_day r) gps_days))
+  given : day_number_and_fraction (week_midnight n) (add binary64 (part_of_day r) gps_days) ≡ answer
+      (day_of (week_midnight n) (add binary64 (part_of_day r) gps_days))
   given = answered (week_midnight n) (add binary64 (part_of_day r) gps_days)
       (accepts (week_midnight n) (add binary64 (part_of_day r) gps_days) (n * L) H close.to.q close.to.m (R.first n r early late short) close.to.second
       (omega (arith, later-high, same1, close.to.total, R.high n r early late short, E-L))

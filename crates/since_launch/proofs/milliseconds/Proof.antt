@@ -10,31 +10,27 @@ use Rattle.since_launch.proofs.milliseconds.Tie as tie
 
 since-requires : tie.Need-since-requires
 unfolding AllPlaced
-since-requires c κs = subst AllPlaced c.before.launch.given.1 c.before.before.before.place_at.ensures.1
+since-requires c κs = subst AllPlaced c.in-At.is c.place_at.ensures.1
 
-returns : tie.Need-returns
+returns : tie.Need-returns-in-Refused
 unfolding millis_outcome julian_outcome
-returns c = stamp-not-finite _ _ _ (sym c.before.before.before.finite-jd.ensures ∙ ap julian_outcome c.before.number.given.1)
+returns c = stamp-not-finite _ _ _ (sym c.finite_jd.ensures ∙ ap julian_outcome c.in-Refused.is)
 
-returns-2 : tie.Need-returns-2
+returns-2 : tie.Need-returns-in-Refused-place_at
 unfolding millis_outcome place_outcome julian_outcome
 returns-2 c =
-    let p = c.before.before.before in
-    let j = p.before.before in
-    launch-refused _ _ _ _ (sym j.before.before.finite-jd.ensures ∙ ap julian_outcome j.stamp.given.1)
-    (sym p.place_at.ensures.0 ∙ ap place_outcome c.before.number2.given.1)
+    launch-refused _ _ _ _ (sym c.finite_jd.ensures ∙ ap julian_outcome c.in-Date.is)
+    (sym c.place_at.ensures.0 ∙ ap place_outcome c.in-Refused-place_at.is)
 
-returns-3 : tie.Need-returns-3
+returns-3 : tie.Need-returns-in-At
 unfolding place_outcome julian_outcome
 returns-3 c =
-    let p = c.before.before.before.before in
-    let j = p.before.before in
     c.since.ensures
-    ∙ from-launch _ _ _ _ (sym j.before.before.finite-jd.ensures ∙ ap julian_outcome j.stamp.given.1)
-    (sym p.place_at.ensures.0 ∙ ap place_outcome c.before.before.launch.given.1)
+    ∙ from-launch _ _ _ _ (sym c.finite_jd.ensures ∙ ap julian_outcome c.in-Date.is)
+    (sym c.place_at.ensures.0 ∙ ap place_outcome c.in-At.is)
 
-pub milliseconds-spec : {M : Type 1} → statement M
-milliseconds-spec =
+pub milliseconds_spec : {M : Type 1} → statement M
+milliseconds_spec =
     tie.close
     (tie.spec (λ c κs. search rules) (λ c. search rules) (λ c. search rules) (λ c κs. search rules) (λ c. search rules) (λ c. search rules)
     since-requires returns returns-2 returns-3)

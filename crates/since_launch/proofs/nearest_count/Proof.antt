@@ -11,5 +11,5 @@ returns c =
     let u = c.args.units in
     (two-parts u, subst (λ (k : ℕ). k ≤ 172800000) (sym (two-parts u)) (count_most u c.requires))
 
-pub nearest-count-spec : {M : Type 1} → statement M
-nearest-count-spec = tie.close (tie.spec (λ c. search rules) (λ c. search rules) (λ c. search rules) (λ c. search rules) returns)
+pub nearest_count_spec : {M : Type 1} → statement M
+nearest_count_spec = tie.close (tie.spec (λ c. search rules) (λ c. search rules) (λ c. search rules) (λ c. search rules) returns)

@@ -8,19 +8,18 @@ use borrow.Author.Rules.{rules}
 use Rattle.since_launch.proofs.place_at.Statement.{statement}
 use Rattle.since_launch.proofs.place_at.Tie as tie
 
-returns : tie.Need-returns
+returns : tie.Need-returns-in-Refused
 unfolding place_outcome julian_outcome AllPlaced
-returns c = (place-not-finite _ _ (sym c.before.before.before.finite-jd.ensures ∙ ap julian_outcome c.before.number.given.1), tt)
+returns c = (place-not-finite _ _ (sym c.finite_jd.ensures ∙ ap julian_outcome c.in-Refused.is), tt)
 
-returns-2 : tie.Need-returns-2
+returns-2 : tie.Need-returns-in-Date
 unfolding julian_outcome
-returns-2 c =
-    let f = c.before.before.before.before in (
-      c.IsPlace-in.ensures.0 ∙ place-goes-on _ _ (sym f.finite-jd.ensures ∙ ap julian_outcome c.before.before.jd.given.1),
-      c.IsPlace-in.ensures.1,
-    )
+returns-2 c = (
+  c.place_in.ensures.0 ∙ place-goes-on _ _ (sym c.finite_jd.ensures ∙ ap julian_outcome c.in-Date.is),
+  c.place_in.ensures.1,
+)
 
-pub place-at-spec : {M : Type 1} → statement M
-place-at-spec =
+pub place_at_spec : {M : Type 1} → statement M
+place_at_spec =
     tie.close
     (tie.spec (λ c κs. search rules) (λ c. search rules) (λ c. search rules) (λ c κs. search rules) returns returns-2)

@@ -11,32 +11,28 @@ use borrow.Author.Rules.{rules}
 use Rattle.since_launch.proofs.place_in.Statement.{statement}
 use Rattle.since_launch.proofs.place_in.Tie as tie
 
-place-of-requires : tie.Need-place-of-requires
+place-of-requires : tie.Need-place_of-requires
 unfolding day_outcome
 place-of-requires c κs =
-    let n = c.before.before.before in
-    let s = n.before in
-    let e = sym n.day-number-and-fraction.ensures ∙ ap day_outcome c.before.found.given.1 in
-    day-range _ _ (yes s.well_formed.0.1) (yes s.well_formed.1.0.1) _ e
+    let e = sym c.day_number_and_fraction.ensures ∙ ap day_outcome c.in-Day.is in
+    day-range _ _ (yes c.well_formed.0.1) (yes c.well_formed.1.0.1) _ e
 
-returns : tie.Need-returns
+returns : tie.Need-returns-in-Refused
 unfolding place_outcome day_outcome AllPlaced
 returns c = (
-  place-no-day _ _ (sym c.before.before.before.day-number-and-fraction.ensures ∙ ap day_outcome c.before.number.given.1),
+  place-no-day _ _ (sym c.day_number_and_fraction.ensures ∙ ap day_outcome c.in-Refused.is),
   tt,
 )
 
-returns-2 : tie.Need-returns-2
+returns-2 : tie.Need-returns-in-Day
 unfolding place_outcome day_outcome AllPlaced
 returns-2 c =
-    let n = c.before.before.before.before in
-    let s = n.before in
-    let e = sym n.day-number-and-fraction.ensures ∙ ap day_outcome c.before.before.found.given.1 in (
+    let e = sym c.day_number_and_fraction.ensures ∙ ap day_outcome c.in-Day.is in (
       ap answer c.place_of.ensures ∙ place_found _ _ e,
-      subst PlaceWithin (sym c.place_of.ensures) (placed _ _ (yes s.well_formed.0.1) (yes s.well_formed.1.0.1) _ e),
+      subst PlaceWithin (sym c.place_of.ensures) (placed _ _ (yes c.well_formed.0.1) (yes c.well_formed.1.0.1) _ e),
     )
 
-pub place-in-spec : {M : Type 1} → statement M
-place-in-spec =
+pub place_in_spec : {M : Type 1} → statement M
+place_in_spec =
     tie.close
     (tie.spec (λ c κs. search rules) (λ c. search rules) (λ c. search rules) place-of-requires returns returns-2)

@@ -12,19 +12,16 @@ use borrow.Author.Rules.{rules}
 use Rattle.since_launch.proofs.place_of.Statement.{statement}
 use Rattle.since_launch.proofs.place_of.Tie as tie
 
-add-from-zero : tie.Need-overflow-add-from-zero
-add-from-zero c =
-    let s = c.before.before in
-    subst (λ (z : ℤ). SFits w64 (z +ℤ pos 68570)) (sym (day-read s.args.found.day s.requires)) (days-fit s.args.found.day s.requires)
+add-from-zero : tie.Need-overflow_add-found
+add-from-zero c = subst (λ (z : ℤ). SFits w64 (z +ℤ pos 68570)) (sym (day-read c.args.found.day c.requires)) (days-fit c.args.found.day c.requires)
 
 returns : tie.Need-returns
 unfolding place_of
 returns c =
-    let s = c.before.before.before.before in
-    let z = s.args.found.day in
-    let e = ap (λ (y : ℤ). to_z w64 (of_z w64 (y +ℤ pos 68570))) (day-read z s.requires) in
-    let d = c.before.from_zero.ensures ∙ ap from_zero (e ∙ to_z-of_z {w = w64} (days-fit z s.requires)) in
-    λ i. record { days = d i; units = c.grid-units.ensures i }
+    let z = c.args.found.day in
+    let e = ap (λ (y : ℤ). to_z w64 (of_z w64 (y +ℤ pos 68570))) (day-read z c.requires) in
+    let d = c.from_zero.ensures ∙ ap from_zero (e ∙ to_z-of_z {w = w64} (days-fit z c.requires)) in
+    λ i. record { days = d i; units = c.grid_units.ensures i }
 
-pub place-of-spec : {M : Type 1} → statement M
-place-of-spec = tie.close (tie.spec add-from-zero (λ c κs. search rules) (λ c κs. search rules) returns)
+pub place_of_spec : {M : Type 1} → statement M
+place_of_spec = tie.close (tie.spec add-from-zero (λ c κs. search rules) (λ c κs. search rules) returns)

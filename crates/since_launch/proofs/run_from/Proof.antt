@@ -4,34 +4,27 @@ use borrow.Author.Rules.{rules}
 use Rattle.since_launch.proofs.run_from.Statement.{statement}
 use Rattle.since_launch.proofs.run_from.Tie as tie
 
-returns : tie.Need-returns
+returns : tie.Need-returns-then-number-ne0
 returns c =
-    let q = c.before in
-    let a = q.before.before.before.before.before.args in
-    run-refused a.launch a.jd1s.now a.jd2s.now a.out.now a.numbers.now q.lengths-refusal.result q.lengths-refusal.ensures
-    c.if1.true
+    let a = c.args in
+    run-refused a.launch a.jd1s.now a.jd2s.now a.out.now a.numbers.now c.lengths_refusal-number.result c.lengths_refusal-number.ensures
+    c.if-number-ne0.true
 
-put-all-requires : tie.Need-put-all-requires
+put-all-requires : tie.Need-put_all-requires
 put-all-requires c κs =
-    let i = c.before.before in
-    let q = i.before in
-    let s = q.before.before.before.before.before in
-    let a = s.args in (
-      s.requires,
-      roomy a.launch a.jd1s.now a.jd2s.now a.out.now a.numbers.now q.lengths-refusal.result q.lengths-refusal.ensures
-          i.if1.false,
+    let a = c.args in (
+      c.requires,
+      roomy a.launch a.jd1s.now a.jd2s.now a.out.now a.numbers.now c.lengths_refusal-number.result c.lengths_refusal-number.ensures
+          c.if-number-ne0.false,
     )
 
-returns-2 : tie.Need-returns-2
+returns-2 : tie.Need-returns
 returns-2 c =
-    let p = c.before.before.before.before in
-    let i = p.before.before.before in
-    let q = i.before in
-    let a = q.before.before.before.before.before.args in
-    run_ends a.launch a.jd1s.now a.jd2s.now a.out.now a.numbers.now q.lengths-refusal.result q.lengths-refusal.ensures
-    i.if1.false _ _ _ p.put_all.ensures
+    let a = c.args in
+    run_ends a.launch a.jd1s.now a.jd2s.now a.out.now a.numbers.now c.lengths_refusal-number.result c.lengths_refusal-number.ensures
+    c.if-number-ne0.false _ _ _ c.put_all.ensures
 
-pub run-from-spec : {M : Type 1} → statement M
-run-from-spec =
+pub run_from_spec : {M : Type 1} → statement M
+run_from_spec =
     tie.close
     (tie.spec (λ c κs. search rules) returns put-all-requires (λ c. search rules) (λ c. search rules) returns-2)

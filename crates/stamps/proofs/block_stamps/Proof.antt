@@ -5,38 +5,34 @@ use borrow.Author.Rules.{rules}
 use Rattle.stamps.proofs.block_stamps.Statement.{statement}
 use Rattle.stamps.proofs.block_stamps.Tie as tie
 
-returns : tie.Need-returns
+returns : tie.Need-returns-then-block-lt8
 unfolding block_outcome
-returns c = short _ c.if1.true
+returns c = short _ c.if-block-lt8.true
 
-returns-2 : tie.Need-returns-2
+returns-2 : tie.Need-returns-then-size-second_size
 unfolding block_outcome
 returns-2 c =
-    let b = c.before in
-    sizes-differ _ _ _ b.before.u32-at.ensures b.u32-at2.ensures b.before.before.if1.false c.if2.true
+    sizes-differ _ _ _ c.u32_at-size.ensures c.u32_at-second_size.ensures c.if-block-lt8.false c.if-size-second_size.true
 
-returns-3 : tie.Need-returns-3
+returns-3 : tie.Need-returns-then-size-gt4000
 unfolding block_outcome
 returns-3 c =
-    let b = c.before.before in
-    too_large _ _ _ b.before.u32-at.ensures b.u32-at2.ensures b.before.before.if1.false c.before.if2.false c.if3.true
+    too_large _ _ _ c.u32_at-size.ensures c.u32_at-second_size.ensures c.if-block-lt8.false c.if-size-second_size.false c.if-size-gt4000.true
 
-returns-4 : tie.Need-returns-4
+returns-4 : tie.Need-returns-then-block-stamps
 unfolding block_outcome
 returns-4 c =
-    let b = c.before.before.before in
-    length-wrong _ _ _ b.before.u32-at.ensures b.u32-at2.ensures b.before.before.if1.false c.before.before.if2.false c.before.if3.false
-    c.if4.true
+    length-wrong _ _ _ c.u32_at-size.ensures c.u32_at-second_size.ensures c.if-block-lt8.false c.if-size-second_size.false c.if-size-gt4000.false
+    c.if-block-stamps.true
 
-returns-5 : tie.Need-returns-5
+returns-5 : tie.Need-returns
 unfolding block_outcome
 returns-5 c =
-    let b = c.before.before.before in
-    all_there _ _ _ b.before.u32-at.ensures b.u32-at2.ensures b.before.before.if1.false c.before.before.if2.false c.before.if3.false
-    c.if4.false
+    all_there _ _ _ c.u32_at-size.ensures c.u32_at-second_size.ensures c.if-block-lt8.false c.if-size-second_size.false c.if-size-gt4000.false
+    c.if-block-stamps.false
 
-pub block-stamps-spec : {M : Type 1} → statement M
-block-stamps-spec =
+pub block_stamps_spec : {M : Type 1} → statement M
+block_stamps_spec =
     tie.close
     (tie.spec returns (λ c κs. search rules) (λ c κs. search rules) returns-2 returns-3 (λ c. search rules) (λ c. search rules) (λ c. search rules)
     returns-4 returns-5)

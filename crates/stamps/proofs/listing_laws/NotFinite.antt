@@ -4,7 +4,7 @@ use mathlib.Core.Path.{◌≡◌, refl, sym, ap, ◌∙◌}
 use mathlib.Core.Logic.{◌⊎◌, inl, inr}
 use mathlib.Core.Bool.{Bool, true, false, cond, ◌&&◌, ◌||◌}
 use mathlib.Core.List.{List, [], ◌∷◌, ◌++◌}
-use Prim.Native.Nat.{ℕ, zero, suc, ◌+◌, ◌≤◌, ◌<◌}
+use Prim.Native.Nat.{ℕ, zero, suc, ◌≤◌, ◌<◌}
 use native.Mathlib.Omega.{arith}
 use lib.Dec.{eqb}
 use lib.Ieee.Scale.{finite}
@@ -82,7 +82,8 @@ not_finite_counted rows s n (suc k) = let before = not_finite_counted rows s n k
     by false e = omega arith
 
 -- and it is that number where each stamp is not finite or has a text
-one_each : (rows : List Row) (s : List ℕ) (n i : ℕ) → NotFinite s n i ⊎ HasText rows s n i → one_if_refused (text_at rows s n i) ≡ cond (is_not_finite s n i) 1 0
+one_each : (rows : List Row) (s : List ℕ) (n i : ℕ) → NotFinite s n i ⊎ HasText rows s n i → one_if_refused (text_at rows s n i) ≡ cond
+    (is_not_finite s n i) 1 0
 unfolding one_if_refused
 one_each rows s n i (inl d) = not_finite_one rows s n i d ∙ ap (λ (b : Bool). cond {A = ℕ} b 1 0) (sym (not_finite_tested s n i d))
 one_each rows s n i (inr h) = by (is_not_finite s n i) refl

@@ -52,7 +52,8 @@ module _ (a b : List Row) where
   unfolding text_at
   refused-alike s n i k e = text-refused-alike (stamp_at s n i) k e
 
-one_alike : (o p : Outcome (List ℕ)) → ((k : ℕ) → o ≡ refusal k → p ≡ refusal k) → ((k : ℕ) → p ≡ refusal k → o ≡ refusal k) → one_if_refused o ≡ one_if_refused p
+one_alike : (o p : Outcome (List ℕ)) → ((k : ℕ) → o ≡ refusal k → p ≡ refusal k) → ((k : ℕ) → p ≡ refusal k → o ≡ refusal k) → one_if_refused o
+    ≡ one_if_refused p
 unfolding one_if_refused
 one_alike (answer t) (answer u) f g = refl
 one_alike (answer t) (refusal k) f g = absurd (not_both (answer t) t k refl (g k refl))

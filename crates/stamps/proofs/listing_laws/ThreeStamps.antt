@@ -26,7 +26,7 @@ use Rattle.utc.proofs.laws.DayTexts.{text-refused-by}
 use Rattle.utc.proofs.laws.ExpandedTexts.{expanded-not-finite}
 use Rattle.stamps.specs.Block.{jd1_bits, jd2_bits, stamp_at}
 use Rattle.stamps.specs.Listing.{text_at, one_if_refused, refused_in, header}
-use Rattle.stamps.specs.listing_laws.Writer.{Stamp, block_bytes}
+use Rattle.stamps.specs.listing_laws.Writer.{block_bytes}
 use Rattle.stamps.proofs.listing_laws.Longest.{zero_text}
 
 abbrev three : List ℕ

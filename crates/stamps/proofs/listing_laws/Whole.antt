@@ -39,7 +39,8 @@ module _ (how : Reporting) (rows : List Row) (s : List ℕ) (n : ℕ) (is : bloc
       ∙ ap (λ (l : List ℕ). (header n (refused_in rows s n n) ++ stamp_lines how rows s n k) ++ l) (stamp-next k)
       ∙ append_assoc (header n (refused_in rows s n n)) (stamp_lines how rows s n k) (stamp_line how rows s n k)
 
-all-lines-by : (how : Reporting) (rows : List Row) (s : List ℕ) (o : Outcome ℕ) → block_of s ≡ o → lines_from how rows s 0 (lines_in o) ≡ listing_of how rows o s
+all-lines-by : (how : Reporting) (rows : List Row) (s : List ℕ) (o : Outcome ℕ) → block_of s ≡ o → lines_from how rows s 0 (lines_in o)
+    ≡ listing_of how rows o s
 unfolding lines_in listing_of lines_from line_of
 all-lines-by how rows s (answer n) is = ap (lines_from how rows s 0) (add-one n) ∙ lines_are how rows s n is n
 all-lines-by how rows s (refusal k) is = rw is refl
@@ -75,7 +76,8 @@ module _ (how : Reporting) (rows : List Row) (s : List ℕ) where
         parts_are k ∙ ap (lines_from how rows s 0) e ∙ all_lines how rows s
 
     -- and so the parts up to one that says it is the last
-    pub whole-at-last : (k : ℕ) → (part_of how rows s (line_after how rows s room k) room).done ≡ true → parts_joined how rows s room (suc k) ≡ listing how rows s
+    pub whole-at-last : (k : ℕ) → (part_of how rows s (line_after how rows s room k) room).done ≡ true → parts_joined how rows s room (suc k)
+        ≡ listing how rows s
     unfolding part_of line_after
     whole-at-last k e = whole-when-done (suc k) (leb-true _ _ e)
 
@@ -86,7 +88,8 @@ module _ (how : Reporting) (rows : List Row) (s : List ℕ) where
       reached (suc k) n hn hk = by (ltb (line_after how rows s room k) (lines_in (block_of s))) refl (reached k (n - 1) (omega arith) (omega arith))
         where
           by : (b : Bool) → ltb (line_after how rows s room k) (lines_in (block_of s)) ≡ b → n - 1 ≤ line_after how rows s room k
-              → n ≤ line_after how rows s room k + held_lines how rows s (line_after how rows s room k) room (lines_in (block_of s) - line_after how rows s room k)
+              → n ≤ line_after how rows s room k + held_lines how rows s (line_after how rows s room k) room
+              (lines_in (block_of s) - line_after how rows s room k)
           by true e before =
               let h : line_after how rows s room k < lines_in (block_of s) = ltb-true _ _ e in
               let one = held-some how rows s (line_after how rows s room k) room (lines_in (block_of s) - line_after how rows s room k) enough (omega arith) in
@@ -120,5 +123,6 @@ pub comes_to_last : (how : Reporting) (rows : List Row) (s : List ℕ) (room : �
 unfolding part_of
 comes_to_last how rows s room enough =
     let far = reached how rows s room enough (lines_in (block_of s)) (lines_in (block_of s)) (le_refl _) (le_refl _) in
-    le-leb (lines_in (block_of s)) (line_after how rows s room (lines_in (block_of s)) + part_lines how rows s (line_after how rows s room (lines_in (block_of s)))
+    le-leb (lines_in (block_of s)) (line_after how rows s room (lines_in (block_of s)) + part_lines how rows s
+    (line_after how rows s room (lines_in (block_of s)))
     room) (omega arith)

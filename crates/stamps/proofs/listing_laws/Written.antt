@@ -146,7 +146,8 @@ module _ (how : Reporting) (rows : List Row) (xs : List Stamp) (d : Stamp) (bits
       let l : length (take k xs) ≡ k = length-take-le k xs (omega arith) in
       let z : 0 + length (take k xs) ≡ k = omega arith in
       ap (λ (t : List ℕ). t ++ stamp_line how rows (block_bytes xs) (length xs) k) (first-lines k (omega arith))
-      ∙ ap (λ (t : List ℕ). lines_of_stamps how rows 0 (take k xs) ++ t) (one_line k (omega arith) ∙ ap (λ (n : ℕ). line_of_stamp how rows n (get_or xs k d)) (sym z))
+      ∙ ap (λ (t : List ℕ). lines_of_stamps how rows 0 (take k xs) ++ t)
+      (one_line k (omega arith) ∙ ap (λ (n : ℕ). line_of_stamp how rows n (get_or xs k d)) (sym z))
       ∙ sym (lines-behind how rows 0 (take k xs) (get_or xs k d))
       ∙ ap (lines_of_stamps how rows 0) (sym (take-suc xs k d (omega arith)))
 

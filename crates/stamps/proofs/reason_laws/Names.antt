@@ -329,7 +329,8 @@ module _ (s : List ℕ) where
 
   pub size-reported : block_of s ≡ refusal 13 → reason_of 13 (Block (length s) (u32_at s 0) (u32_at s 4)) ≡ names 13 (Size (u32_at s 0))
   unfolding reason_of offending block_field block_of
-  size-reported e = rw (by_size (u32_at s 0) (ltb (length s) 8) (eqb (u32_at s 0) (u32_at s 4)) (leb (u32_at s 0) 4000) (eqb (length s) (8 + 16 * u32_at s 0)) e)
+  size-reported e = rw (by_size (u32_at s 0) (ltb (length s) 8) (eqb (u32_at s 0) (u32_at s 4)) (leb (u32_at s 0) 4000)
+      (eqb (length s) (8 + 16 * u32_at s 0)) e)
 
   pub length-reported : block_of s ≡ refusal 14 → reason_of 14 (Block (length s) (u32_at s 0) (u32_at s 4)) ≡ names 14 (WholeLength (length s))
   unfolding reason_of offending block_field block_of

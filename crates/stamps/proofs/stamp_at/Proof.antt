@@ -8,8 +8,8 @@ returns : tie.Need-returns
 unfolding jd1_bits jd2_bits stamp_at
 returns c = cc
 
-pub stamp-at-spec : {M : Type 1} → statement M
-stamp-at-spec =
+pub stamp_at_spec : {M : Type 1} → statement M
+stamp_at_spec =
     tie.close
     (tie.spec (λ c. search rules) (λ c. search rules) (λ c κs. search rules) (λ c. search rules) (λ c. search rules) (λ c. search rules)
     (λ c. search rules) (λ c κs. search rules) (λ c κs. search rules) (λ c κs. search rules) returns)

@@ -30,58 +30,49 @@ offset-limit table t day next d =
     (offset-small table (rows_of table) d.taken t.year t.month d.from_1972 a.m_low a.m_high).1
 
 -- TAI-UTC, as it was looked up
-module _ (c : tie.After-whole-seconds-by-rows) where
-  offset-is : let s = c.before.before.before in c.whole-seconds-by-rows.result ≡ offset_on_date (rows_of s.args.table) s.args.t
+module _ (c : tie.After-whole_seconds_by_rows-offset) where
+  offset-is : c.whole_seconds_by_rows-offset.result ≡ offset_on_date (rows_of c.args.table) c.args.t
   offset-is =
-      let s = c.before.before.before in
-      c.whole-seconds-by-rows.ensures.0
-      ∙ ap (λ (y : ℤ). whole_seconds (rows_of s.args.table) y s.args.t.month)
-      (to_z-of_z {w = w32} (record { sfits = c.before.struct_told.given.0.1 }))
+      c.whole_seconds_by_rows-offset.ensures.0
+      ∙ ap (λ (y : ℤ). whole_seconds (rows_of c.args.table) y c.args.t.month)
+      (to_z-of_z {w = w32} (record { sfits = c.struct_told-1.given.0.1 }))
 
-  offset-few : c.whole-seconds-by-rows.result ≤ most_seconds
+  offset-few : c.whole_seconds_by_rows-offset.result ≤ most_seconds
   offset-few =
-      let s = c.before.before.before in
-      let a = s.args in
-      omega (arith, offset-is, offset-limit a.table a.t a.day a.next s.requires)
+      let a = c.args in
+      omega (arith, offset-is, offset-limit a.table a.t a.day a.next c.requires)
 
 -- the test of the time
-module _ (c : tie.After-in-its-day) where
-  tested : (v : Bool) → c.in-its-day.result ≡ v → let s =
-      c.before.before.before.before.before in in_its_day s.args.t (last_minute (rows_of s.args.table) s.args.t s.args.next) ≡ v
+module _ (c : tie.After-in_its_day) where
+  tested : (v : Bool) → c.in_its_day.result ≡ v → in_its_day c.args.t (last_minute (rows_of c.args.table) c.args.t c.args.next) ≡ v
   tested v p =
-      let s = c.before.before.before.before.before in
-      ap (in_its_day s.args.t) (sym c.before.last-minute.ensures) ∙ sym c.in-its-day.ensures ∙ p
+      ap (in_its_day c.args.t) (sym c.last_minute-last.ensures) ∙ sym c.in_its_day.ensures ∙ p
 
-returns : tie.Need-returns
+returns : tie.Need-returns-then-in_its_day
 unfolding instant_outcome tai_ms
 returns c =
-    let i = c.before in
-    let d = i.before in
-    let o = d.before.before in
-    let s = o.before.before.before in
-    let a = s.args in
-    let e = tested d true i.if1.true in
+    let a = c.args in
+    let e = tested c.before.before true c.if-in_its_day.true in
     record {
       says =
-          (λ j. answer (1000 * (86400 * (s.requires.day_is j) + (c.time-seconds.ensures.0 j) + (offset-is o j)) + a.t.millis))
+          (λ j. answer (1000 * (86400 * (c.requires.day_is j) + (c.time_seconds.ensures.0 j) + (offset-is c.before.before.before.before j)) + a.t.millis))
           ∙ time-fits (rows_of a.table) a.t a.next e;
       small = λ x p. subst (λ (y : Instant). SmallInstant y) (same-instant p)
           (record {
-            few_seconds = omega (arith, s.requires.few_days, c.time-seconds.ensures.1, offset-few o);
+            few_seconds = omega (arith, c.requires.few_days, c.time_seconds.ensures.1, offset-few c.before.before.before.before);
             few_millis =
                 few_millis a.t (last_minute (rows_of a.table) a.t a.next) e;
           });
     }
 
-returns-2 : tie.Need-returns-2
+returns-2 : tie.Need-returns-else-in_its_day
 unfolding instant_outcome
 returns-2 c =
-    let d = c.before in
-    let a = d.before.before.before.before.before.args in
-    record { says = time-refused (rows_of a.table) a.t a.next (tested d _ c.if1.false); small = λ x p. never-at 4 x p }
+    let a = c.args in
+    record { says = time-refused (rows_of a.table) a.t a.next (tested c.before _ c.if-in_its_day.false); small = λ x p. never-at 4 x p }
 
-pub at-time-spec : {M : Type 1} → statement M
-at-time-spec =
+pub at_time_spec : {M : Type 1} → statement M
+at_time_spec =
     tie.close
     (tie.spec (λ c. search rules) (λ c κs. search rules) (λ c κs. (offset-is c, omega (arith, offset-few c))) (λ c κs. search rules)
     (λ c. search rules) (λ c κs. search rules) (λ c. search rules) (λ c. search rules) (λ c. search rules) returns returns-2)

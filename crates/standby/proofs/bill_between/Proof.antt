@@ -14,92 +14,80 @@ use Rattle.standby.proofs.bill_between.Statement.{statement}
 use Rattle.standby.proofs.bill_between.Tie as tie
 
 -- the end is not before the start
-module _ (c : tie.Else1) where
-  in_order : let s = c.before.before in instant_ms s.args.start ≤ instant_ms s.args.end
+module _ (c : tie.Else-is_before) where
+  in_order : instant_ms c.args.start ≤ instant_ms c.args.end
   in_order =
-      let r = c.before in
-      let s = r.before in
-      ltb-false (instant_ms s.args.end) (instant_ms s.args.start) (sym r.is-before.ensures ∙ c.if1.false)
+      ltb-false (instant_ms c.args.end) (instant_ms c.args.start) (sym c.is_before.ensures ∙ c.if-is_before.false)
 
 -- the quarters, and what their limit test says
-module _ (c : tie.After-over-limit) where
+module _ (c : tie.After-over_limit) where
   abbrev s₁ : tie.Start
   s₁ = c.before.before.before.before
 
-  limits : (v : Bool) → c.over-limit.result ≡ v
-      → over_limit (quarters_between (instant_ms s₁.args.start) (instant_ms s₁.args.end)) s₁.args.rate s₁.args.first-metres
-      s₁.args.second-metres ≡ v
+  limits : (v : Bool) → c.over_limit.result ≡ v
+      → over_limit (quarters_between (instant_ms s₁.args.start) (instant_ms s₁.args.end)) s₁.args.rate s₁.args.first_metres
+      s₁.args.second_metres ≡ v
   limits v p =
-      ap (λ (q : ℕ). over_limit q s₁.args.rate s₁.args.first-metres s₁.args.second-metres) (sym c.before.quarters-between.ensures)
-      ∙ sym c.over-limit.ensures
+      ap (λ (q : ℕ). over_limit q s₁.args.rate s₁.args.first_metres s₁.args.second_metres) (sym c.quarters_between-quarters.ensures)
+      ∙ sym c.over_limit.ensures
       ∙ p
 
 -- no number is over its limit
-all-within : (c : tie.Else2)
-    → let q = c.before.before in let s = q.before.before.before in
-    (q.quarters-between.result ≤ 1000000) × (s.args.rate ≤ 1000000) × (s.args.first-metres ≤ 1000000) × (s.args.second-metres ≤ 1000000)
+all-within : (c : tie.Else-over_limit)
+    →
+    (c.quarters_between-quarters.result ≤ 1000000) × (c.args.rate ≤ 1000000) × (c.args.first_metres ≤ 1000000) × (c.args.second_metres ≤ 1000000)
 all-within c =
-    let q = c.before.before in
-    let s = q.before.before.before in
-    within q.quarters-between.result s.args.rate s.args.first-metres s.args.second-metres (sym c.before.over-limit.ensures ∙ c.if2.false)
+    within c.quarters_between-quarters.result c.args.rate c.args.first_metres c.args.second_metres (sym c.over_limit.ensures ∙ c.if-over_limit.false)
 
-returns : tie.Need-returns
+returns : tie.Need-returns-then-is_before
 unfolding bill_outcome
 returns c =
-    let r = c.before in
-    let a = r.before.args in
-    backward (instant_ms a.start) (instant_ms a.end) a.rate a.first-metres a.second-metres
-    (ltb-true (instant_ms a.end) (instant_ms a.start) (sym r.is-before.ensures ∙ c.if1.true))
+    let a = c.args in
+    backward (instant_ms a.start) (instant_ms a.end) a.rate a.first_metres a.second_metres
+    (ltb-true (instant_ms a.end) (instant_ms a.start) (sym c.is_before.ensures ∙ c.if-is_before.true))
 
-quarters-between-requires : tie.Need-quarters-between-requires
-quarters-between-requires c κs = let s = c.before.before in record { small_start = s.requires.0; small_end = s.requires.1; order = in_order c }
+quarters-between-requires : tie.Need-quarters_between-quarters-requires
+quarters-between-requires c κs = record { small_start = c.requires.0; small_end = c.requires.1; order = in_order c }
 
-returns-2 : tie.Need-returns-2
+returns-2 : tie.Need-returns-then-over_limit
 unfolding bill_outcome
 returns-2 c =
-    let l = c.before in
-    let e = l.before.before in
-    let a = e.before.before.args in
-    over (instant_ms a.start) (instant_ms a.end) a.rate a.first-metres a.second-metres (in_order e) (limits l true c.if2.true)
+    let a = c.args in
+    over (instant_ms a.start) (instant_ms a.end) a.rate a.first_metres a.second_metres (in_order c.before.before.before)
+    (limits c.before true c.if-over_limit.true)
 
-add-if3 : tie.Need-overflow-add-if3
+add-if3 : tie.Need-overflow_add-first_metres
 add-if3 c = let w = all-within c in record { fits = omega (arith, w.2, w.3) }
 
-returns-3 : tie.Need-returns-3
+returns-3 : tie.Need-returns-then-first_metres-second_metres-eq0
 unfolding bill_outcome
 returns-3 c =
-    let n = c.before in
-    let l = n.before in
-    let e = l.before.before in
-    let a = e.before.before.args in
-    no_line (instant_ms a.start) (instant_ms a.end) a.rate a.first-metres a.second-metres (in_order e) (limits l false n.if2.false)
-    c.if3.true
+    let a = c.args in
+    no_line (instant_ms a.start) (instant_ms a.end) a.rate a.first_metres a.second_metres (in_order c.before.before.before.before)
+    (limits c.before.before false c.if-over_limit.false)
+    c.if-first_metres-second_metres-eq0.true
 
 shared-requires : tie.Need-shared-requires
 shared-requires c κs =
     let w = all-within c.before in
-    record { few_quarters = w.0; low_rate = w.1; short_first = w.2; short_second = w.3; some_line = positive _ c.if3.false }
+    record { few_quarters = w.0; low_rate = w.1; short_first = w.2; short_second = w.3; some_line = positive _ c.if-first_metres-second_metres-eq0.false }
   where
     positive : (n : ℕ) → (n ≡ 0 → ⊥) → 0 < n
     positive zero h = absurd (h refl)
     positive (suc n) h = omega arith
 
-returns-4 : tie.Need-returns-4
+returns-4 : tie.Need-returns
 unfolding bill_outcome
 returns-4 c =
-    let t = c.before in
-    let n = t.before in
-    let l = n.before in
-    let q = l.before in
-    let e = q.before in
-    let a = e.before.before.args in
+    let a = c.args in
     ap answer
     (c.shared.ensures
-    ∙ ap (λ (k : ℕ). shares k (k * a.rate) a.first-metres a.second-metres) q.quarters-between.ensures)
-    ∙ billed (instant_ms a.start) (instant_ms a.end) a.rate a.first-metres a.second-metres (in_order e) (limits l false n.if2.false)
-    t.if3.false
+    ∙ ap (λ (k : ℕ). shares k (k * a.rate) a.first_metres a.second_metres) c.quarters_between-quarters.ensures)
+    ∙ billed (instant_ms a.start) (instant_ms a.end) a.rate a.first_metres a.second_metres (in_order c.before.before.before.before.before)
+    (limits c.before.before.before false c.if-over_limit.false)
+    c.if-first_metres-second_metres-eq0.false
 
-pub bill-between-spec : {M : Type 1} → statement M
-bill-between-spec =
+pub bill_between_spec : {M : Type 1} → statement M
+bill_between_spec =
     tie.close
     (tie.spec (λ c κs. search rules) returns quarters-between-requires (λ c κs. search rules) returns-2 add-if3 returns-3 shared-requires returns-4)

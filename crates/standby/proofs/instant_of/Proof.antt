@@ -28,39 +28,39 @@ read-fields : {A : Type 0} (f : ℤ → ℤ → ℤ → A) (y : ℤ) (m d : ℕ)
 read-fields f y m d p q r = λ i. f (to_z-of_z p i) (to_z_pos w32 {n = m} (omega arith) i) (to_z_pos w32 {n = d} (omega arith) i)
 
 -- ---- the year
-year_fits : (c : tie.After-struct-told) → SFits w32 c.before.before.args.t.year
-year_fits c = record { sfits = c.struct_told.given.0.1 }
+year_fits : (c : tie.After-struct_told-1) → SFits w32 c.args.t.year
+year_fits c = record { sfits = c.struct_told-1.given.0.1 }
 
-from_1972 : (c : tie.Else1) → lt_z c.before.before.before.args.t.year (pos 1972) ≡ false
-from_1972 c = lt_left c.before.before.before.args.t.year (pos 1972) _ (year_fits c.before) c.if1.false
+from_1972 : (c : tie.Else-t-lt1972) → lt_z c.args.t.year (pos 1972) ≡ false
+from_1972 c = lt_left c.args.t.year (pos 1972) _ (year_fits c.before) c.if-t-lt1972.false
 
 -- ---- the day
-module _ (v : tie.After-modified-julian-day) where
+module _ (v : tie.After-modified_julian_day) where
   abbrev start : tie.Start
   start = v.before.before.before.before.before.before.before
 
-  said : mjd_outcome v.modified-julian-day.result ≡ mjd_of start.args.t.year (pos start.args.t.month) (pos start.args.t.day)
+  said : mjd_outcome v.modified_julian_day.result ≡ mjd_of start.args.t.year (pos start.args.t.month) (pos start.args.t.day)
   said =
       let a = start.args.t in
-      v.modified-julian-day.ensures
+      v.modified_julian_day.ensures
       ∙ read-fields mjd_of a.year a.month a.day (year_fits v.before.before.before.before.before) (omega arith) (omega arith)
 
-module _ (k : tie.After-known-told2) where
+module _ (k : tie.In-Mjd) where
   abbrev begin : tie.Start
-  begin = start k.before.before.before
+  begin = start k.before
 
   abbrev n : ℤ
-  n = k.before.n.given.0.0
+  n = k.in-Mjd.n
 
   mjd : mjd_of begin.args.t.year (pos begin.args.t.month) (pos begin.args.t.day) ≡ answer n
   unfolding mjd_outcome
-  mjd = sym (said k.before.before.before) ∙ ap mjd_outcome k.before.n.given.1
+  mjd = sym (said k.before) ∙ ap mjd_outcome k.in-Mjd.is
 
   n-is : n ≡ mjd_number begin.args.t.year (pos begin.args.t.month) (pos begin.args.t.day)
   n-is = same_answer (sym mjd ∙ mjd-given _ _ _ (mjd-valid _ _ _ _ mjd))
 
   n-small : nat_abs n < 1000000000000
-  n-small = mjd-small _ _ _ _ (year_fits k.before.before.before.before.before.before.before.before) mjd
+  n-small = mjd-small _ _ _ _ (year_fits k.before.before.before.before.before.before) mjd
 
   n-read : to_z w64 (of_z w64 n) ≡ n
   n-read = read n n-small
@@ -70,89 +70,86 @@ module _ (k : tie.After-known-told2) where
       n-read
       ∙ n-is
       ∙ mjd-natural begin.args.t.year (pos begin.args.t.month) (pos begin.args.t.day)
-      (from_1972 k.before.before.before.before.before.before.before)
+      (from_1972 k.before.before.before.before.before)
       ∙ ap (λ (z : ℤ). pos (nat_abs z)) (sym n-is)
 
 -- ---- the next date
-module _ (w : tie.After-next-calendar-day) where
-  abbrev day : tie.After-known-told2
+module _ (w : tie.After-next_calendar_day) where
+  abbrev day : tie.In-Mjd
   day = w.before.before.before.before
 
-  told : next_outcome w.next-calendar-day.result ≡ next_of (begin day).args.t.year (pos (begin day).args.t.month) (pos (begin day).args.t.day)
+  told : next_outcome w.next_calendar_day.result ≡ next_of (begin day).args.t.year (pos (begin day).args.t.month) (pos (begin day).args.t.day)
   told =
       let a = (begin day).args.t in
-      w.next-calendar-day.ensures ∙ read-fields next_of a.year a.month a.day
-      (year_fits day.before.before.before.before.before.before.before.before) (omega arith) (omega arith)
+      w.next_calendar_day.ensures ∙ read-fields next_of a.year a.month a.day
+      (year_fits day.before.before.before.before.before.before) (omega arith) (omega arith)
 
-returns : tie.Need-returns
+returns : tie.Need-returns-then-t-lt1972
 unfolding instant_outcome
 returns c =
-    let a = c.before.before.before.args in
+    let a = c.args in
     record {
-      says = early-year (rows_of a.table) a.t (lt_left a.t.year (pos 1972) _ (year_fits c.before) c.if1.true);
+      says = early-year (rows_of a.table) a.t (lt_left a.t.year (pos 1972) _ (year_fits c.before) c.if-t-lt1972.true);
       small =
           λ i p. never-at 1 i p;
     }
 
-cast-at-time : tie.Need-overflow-cast-at-time
+cast-at-time : tie.Need-overflow_cast-n
 cast-at-time c =
-    let k = c.before.before.before.before.before.before.before in
-    cast_fits {w = w64} (to_z w64 (of_z w64 (n k))) (nat_abs (n k)) (n-natural k) (record { fits = omega (arith, n-small k) })
+    cast_fits {w = w64} (to_z w64 (of_z w64 (n c.before.before.before.before.before))) (nat_abs (n c.before.before.before.before.before))
+    (n-natural c.before.before.before.before.before) (record { fits = omega (arith, n-small c.before.before.before.before.before) })
 
-at-time-requires : tie.Need-at-time-requires
+at-time-requires : tie.Need-at_time-requires
 unfolding next_outcome
 at-time-requires c κs =
-    let w = c.before.before.before in
-    let k = w.before.before.before.before in
+    let back = c.before.before.before.before.before.before in
     record {
-      taken = (begin k).requires;
-      from_1972 = from_1972 k.before.before.before.before.before.before.before;
-      has_next = sym (told w) ∙ ap next_outcome c.before.next.given.1;
-      day_is = ap nat_abs (n-read k ∙ n-is k);
-      few_days = subst (λ (z : ℤ). nat_abs z < 1000000000000) (sym (n-read k)) (n-small k);
+      taken = (begin c.before.before.before.before.before).requires;
+      from_1972 = from_1972 back.before.before.before.before;
+      has_next = sym (told c.before) ∙ ap next_outcome c.in-Date.is;
+      day_is = ap nat_abs (n-read c.before.before.before.before.before ∙ n-is c.before.before.before.before.before);
+      few_days = subst (λ (z : ℤ). nat_abs z < 1000000000000) (sym (n-read c.before.before.before.before.before))
+          (n-small c.before.before.before.before.before);
     }
 
-returns-2 : tie.Need-returns-2
+returns-2 : tie.Need-returns-in-Refused
 unfolding instant_outcome mjd_outcome
 returns-2 c =
-    let v = c.before.before.before in
-    let a = (start v).args in
+    let a = (start c.before).args in
     record {
-      says = no_date (rows_of a.table) a.t (from_1972 v.before.before.before.before) c.before.number.given.0.0
-          (sym (said v) ∙ ap mjd_outcome c.before.number.given.1);
-      small = λ i p. never-at c.before.number.given.0.0 i p;
+      says = no_date (rows_of a.table) a.t (from_1972 c.before.before.before.before.before) c.in-Refused.number
+          (sym (said c.before) ∙ ap mjd_outcome c.in-Refused.is);
+      small = λ i p. never-at c.in-Refused.number i p;
     }
 
-returns-3 : tie.Need-returns-3
+returns-3 : tie.Need-returns-in-Refused-next_calendar_day
 unfolding instant_outcome next_outcome
 returns-3 c =
-    let w = c.before.before.before in
-    let k = w.before.before.before.before in
-    let a = (begin k).args in
+    let back = c.before.before.before.before.before.before in
+    let a = (begin c.before.before.before.before.before).args in
     record {
       says =
-          no_next (rows_of a.table) a.t (from_1972 k.before.before.before.before.before.before.before) c.before.number2.given.0.0
-          (sym (told w) ∙ ap next_outcome c.before.number2.given.1);
-      small = λ i p. never-at c.before.number2.given.0.0 i p;
+          no_next (rows_of a.table) a.t (from_1972 back.before.before.before.before)
+          c.in-Refused-next_calendar_day.number
+          (sym (told c.before) ∙ ap next_outcome c.in-Refused-next_calendar_day.is);
+      small = λ i p. never-at c.in-Refused-next_calendar_day.number i p;
     }
 
-returns-4 : tie.Need-returns-4
+returns-4 : tie.Need-returns-in-Date
 unfolding next_outcome
 returns-4 c =
-    let d = c.before in
-    let w = d.before.before.before in
-    let k = w.before.before.before.before in
-    let a = (begin k).args in
+    let back = c.before.before.before.before.before.before in
+    let a = (begin c.before.before.before.before.before.before).args in
     record {
       says =
-          c.at-time.ensures.says
-          ∙ on-date (rows_of a.table) a.t (from_1972 k.before.before.before.before.before.before.before) d.before.next.given.0.0
-          (sym (told w) ∙ ap next_outcome d.before.next.given.1);
-      small = c.at-time.ensures.small;
+          c.at_time.ensures.says
+          ∙ on-date (rows_of a.table) a.t (from_1972 back.before.before.before.before.before) c.in-Date.next
+          (sym (told c.before.before) ∙ ap next_outcome c.in-Date.is);
+      small = c.at_time.ensures.small;
     }
 
-pub instant-of-spec : {M : Type 1} → statement M
-instant-of-spec =
+pub instant_of_spec : {M : Type 1} → statement M
+instant_of_spec =
     tie.close
     (tie.spec returns (λ c. search rules) (λ c. search rules) (λ c κs. search rules) (λ c. search rules) (λ c. search rules) (λ c. search rules)
     (λ c. search rules) (λ c κs. search rules) (λ c. search rules) (λ c. search rules) cast-at-time at-time-requires returns-2 returns-3 returns-4)

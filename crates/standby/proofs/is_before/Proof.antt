@@ -3,28 +3,23 @@ use Rattle.standby.proofs.Numbers.{earlier-second, later_second, same_second}
 use Rattle.standby.proofs.is_before.Statement.{statement}
 use Rattle.standby.proofs.is_before.Tie as tie
 
-returns : tie.Need-returns
+returns : tie.Need-returns-then-a-b
 returns c =
-    let s = c.before.before.before in
-    let a = s.args.a in
-    let b = s.args.b in
-    earlier-second a.seconds a.millis b.seconds b.millis s.requires.0.few_millis s.requires.1.few_millis c.if1.true
+    let a = c.args.a in
+    let b = c.args.b in
+    earlier-second a.seconds a.millis b.seconds b.millis c.requires.0.few_millis c.requires.1.few_millis c.if-a-b.true
 
-returns-2 : tie.Need-returns-2
+returns-2 : tie.Need-returns-then-b-a
 returns-2 c =
-    let s = c.before.before.before.before.before.before in
-    let a = s.args.a in
-    let b = s.args.b in
-    later_second a.seconds a.millis b.seconds b.millis s.requires.0.few_millis s.requires.1.few_millis c.if2.true
+    let a = c.args.a in
+    let b = c.args.b in
+    later_second a.seconds a.millis b.seconds b.millis c.requires.0.few_millis c.requires.1.few_millis c.if-b-a.true
 
-returns-3 : tie.Need-returns-3
+returns-3 : tie.Need-returns
 returns-3 c =
-    let j = c.before.before in
-    let i = j.before.before.before in
-    let s = i.before.before.before in
-    let a = s.args.a in
-    let b = s.args.b in
-    same_second a.seconds a.millis b.seconds b.millis s.requires.0.few_millis s.requires.1.few_millis j.if2.false i.if1.false
+    let a = c.args.a in
+    let b = c.args.b in
+    same_second a.seconds a.millis b.seconds b.millis c.requires.0.few_millis c.requires.1.few_millis c.if-b-a.false c.if-a-b.false
 
-pub is-before-spec : {M : Type 1} → statement M
-is-before-spec = tie.close (tie.spec returns returns-2 returns-3)
+pub is_before_spec : {M : Type 1} → statement M
+is_before_spec = tie.close (tie.spec returns returns-2 returns-3)

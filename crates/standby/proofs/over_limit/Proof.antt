@@ -3,21 +3,21 @@ use Rattle.standby.proofs.Numbers.{many-quarters, high-rate, long-first, by-seco
 use Rattle.standby.proofs.over_limit.Statement.{statement}
 use Rattle.standby.proofs.over_limit.Tie as tie
 
-returns : tie.Need-returns
-returns c = let a = c.before.args in many-quarters a.quarters a.rate a.first-metres a.second-metres c.if1.true
+returns : tie.Need-returns-then-quarters-gt-LIMIT
+returns c = let a = c.args in many-quarters a.quarters a.rate a.first_metres a.second_metres c.if-quarters-gt-LIMIT.true
 
-returns-2 : tie.Need-returns-2
-returns-2 c = let a = c.before.before.args in high-rate a.quarters a.rate a.first-metres a.second-metres c.before.if1.false c.if2.true
+returns-2 : tie.Need-returns-then-rate-gt-LIMIT
+returns-2 c = let a = c.args in high-rate a.quarters a.rate a.first_metres a.second_metres c.if-quarters-gt-LIMIT.false c.if-rate-gt-LIMIT.true
 
-returns-3 : tie.Need-returns-3
+returns-3 : tie.Need-returns-then-first_metres-gt-LIMIT
 returns-3 c =
-    let a = c.before.before.before.args in
-    long-first a.quarters a.rate a.first-metres a.second-metres c.before.before.if1.false c.before.if2.false c.if3.true
+    let a = c.args in
+    long-first a.quarters a.rate a.first_metres a.second_metres c.if-quarters-gt-LIMIT.false c.if-rate-gt-LIMIT.false c.if-first_metres-gt-LIMIT.true
 
-returns-4 : tie.Need-returns-4
+returns-4 : tie.Need-returns
 returns-4 c =
-    let a = c.before.before.before.args in
-    by-second a.quarters a.rate a.first-metres a.second-metres c.before.before.if1.false c.before.if2.false c.if3.false
+    let a = c.args in
+    by-second a.quarters a.rate a.first_metres a.second_metres c.if-quarters-gt-LIMIT.false c.if-rate-gt-LIMIT.false c.if-first_metres-gt-LIMIT.false
 
-pub over-limit-spec : {M : Type 1} → statement M
-over-limit-spec = tie.close (tie.spec returns returns-2 returns-3 returns-4)
+pub over_limit_spec : {M : Type 1} → statement M
+over_limit_spec = tie.close (tie.spec returns returns-2 returns-3 returns-4)

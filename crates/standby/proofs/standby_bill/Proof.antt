@@ -33,80 +33,64 @@ module _ (rows : List Row) (s e : UtcTime) (rate a b : ℕ) where
   both-given i j p q = rw (p, q)
 
 -- the start, and the end
-module _ (c : tie.After-known-told2) where
-  start-at : let a = c.before.before.before.before.before.before.args in instant (rows_of a.table) a.start ≡ answer
-      (instant_ms c.before.s.given.0.0)
+module _ (c : tie.In-At) where
+  start-at : let a = c.args in instant (rows_of a.table) a.start ≡ answer
+      (instant_ms c.in-At.s)
   unfolding instant_outcome
-  start-at = sym c.before.before.before.instant-of.ensures.says ∙ ap instant_outcome c.before.s.given.1
+  start-at = sym c.instant_of.ensures.says ∙ ap instant_outcome c.in-At.is
 
-module _ (c : tie.After-known-told4) where
-  end-at : let s = c.before.before.before.before in let a =
-      s.before.before.before.before.before.before.args in instant (rows_of a.table) a.end ≡ answer
-      (instant_ms c.before.e.given.0.0)
+module _ (c : tie.In-At-instant_of) where
+  end-at : let a =
+      c.args in instant (rows_of a.table) a.end ≡ answer
+      (instant_ms c.in-At-instant_of.e)
   unfolding instant_outcome
-  end-at = sym c.before.before.before.instant-of2.ensures.says ∙ ap instant_outcome c.before.e.given.1
+  end-at = sym c.instant_of-in-At.ensures.says ∙ ap instant_outcome c.in-At-instant_of.is
 
-returns : tie.Need-returns
+returns : tie.Need-returns-then-number-ne0
 unfolding bill_outcome
-returns c = let r = c.before in not_taken r.before.args.table r.table-refusal.result r.table-refusal.ensures _ c.if1.true
+returns c = not_taken c.args.table c.table_refusal-number.result c.table_refusal-number.ensures _ c.if-number-ne0.true
 
-instant-of-requires : tie.Need-instant-of-requires
-instant-of-requires c κs = let r = c.before in all-rows r.before.args.table r.table-refusal.result r.table-refusal.ensures c.if1.false
+instant-of-requires : tie.Need-instant_of-requires
+instant-of-requires c κs = all-rows c.args.table c.table_refusal-number.result c.table_refusal-number.ensures c.if-number-ne0.false
 
-instant-of-requires-2 : tie.Need-instant-of-requires-2
+instant-of-requires-2 : tie.Need-instant_of-requires-in-At
 instant-of-requires-2 c κs =
-    let i = c.before.before.before.before in
-    let r = i.before in
-    all-rows r.before.args.table r.table-refusal.result r.table-refusal.ensures i.if1.false
+    all-rows c.args.table c.table_refusal-number.result c.table_refusal-number.ensures c.if-number-ne0.false
 
-bill-between-requires : tie.Need-bill-between-requires
+bill-between-requires : tie.Need-bill_between-requires
 bill-between-requires c κs =
-    let w = c.before.before.before in
-    let k = w.before in
-    (k.before.before.before.instant-of.ensures.small _ k.before.s.given.1, w.instant-of2.ensures.small _ c.before.e.given.1)
+    (c.instant_of.ensures.small _ c.in-At.is, c.instant_of-in-At.ensures.small _ c.in-At-instant_of.is)
 
-returns-2 : tie.Need-returns-2
+returns-2 : tie.Need-returns-in-Refused
 unfolding bill_outcome instant_outcome
 returns-2 c =
-    let v = c.before.before.before in
-    let i = v.before in
-    let r = i.before in
-    let a = r.before.args in
-    let p = sym v.instant-of.ensures.says ∙ ap instant_outcome c.before.number.given.1 in
-    start-refused (rows_of a.table) a.start a.end a.rate a.first-metres a.second-metres c.before.number.given.0.0 p
-    ∙ taken a.table r.table-refusal.result r.table-refusal.ensures
-    (λ rows. standby_bill rows a.start a.end a.rate a.first-metres a.second-metres) i.if1.false
+    let a = c.args in
+    let p = sym c.instant_of.ensures.says ∙ ap instant_outcome c.in-Refused.is in
+    start-refused (rows_of a.table) a.start a.end a.rate a.first_metres a.second_metres c.in-Refused.number p
+    ∙ taken a.table c.table_refusal-number.result c.table_refusal-number.ensures
+    (λ rows. standby_bill rows a.start a.end a.rate a.first_metres a.second_metres) c.if-number-ne0.false
 
-returns-3 : tie.Need-returns-3
+returns-3 : tie.Need-returns-in-Refused-instant_of
 unfolding bill_outcome instant_outcome
 returns-3 c =
-    let w = c.before.before.before in
-    let k = w.before in
-    let i = k.before.before.before.before in
-    let r = i.before in
-    let a = r.before.args in
-    let q = sym w.instant-of2.ensures.says ∙ ap instant_outcome c.before.number2.given.1 in
-    end_refused (rows_of a.table) a.start a.end a.rate a.first-metres a.second-metres (instant_ms k.before.s.given.0.0)
-    c.before.number2.given.0.0 (start-at k) q
-    ∙ taken a.table r.table-refusal.result r.table-refusal.ensures
-    (λ rows. standby_bill rows a.start a.end a.rate a.first-metres a.second-metres) i.if1.false
+    let a = c.args in
+    let q = sym c.instant_of-in-At.ensures.says ∙ ap instant_outcome c.in-Refused-instant_of.is in
+    end_refused (rows_of a.table) a.start a.end a.rate a.first_metres a.second_metres (instant_ms c.in-At.s)
+    c.in-Refused-instant_of.number (start-at c.before.before) q
+    ∙ taken a.table c.table_refusal-number.result c.table_refusal-number.ensures
+    (λ rows. standby_bill rows a.start a.end a.rate a.first_metres a.second_metres) c.if-number-ne0.false
 
-returns-4 : tie.Need-returns-4
+returns-4 : tie.Need-returns-in-At-instant_of
 returns-4 c =
-    let d = c.before in
-    let w = d.before.before.before in
-    let k = w.before in
-    let i = k.before.before.before.before in
-    let r = i.before in
-    let a = r.before.args in
-    c.bill-between.ensures
-    ∙ both-given (rows_of a.table) a.start a.end a.rate a.first-metres a.second-metres (instant_ms k.before.s.given.0.0)
-    (instant_ms d.before.e.given.0.0) (start-at k) (end-at d)
-    ∙ taken a.table r.table-refusal.result r.table-refusal.ensures
-    (λ rows. standby_bill rows a.start a.end a.rate a.first-metres a.second-metres) i.if1.false
+    let a = c.args in
+    c.bill_between.ensures
+    ∙ both-given (rows_of a.table) a.start a.end a.rate a.first_metres a.second_metres (instant_ms c.in-At.s)
+    (instant_ms c.in-At-instant_of.e) (start-at c.before.before.before) (end-at c.before)
+    ∙ taken a.table c.table_refusal-number.result c.table_refusal-number.ensures
+    (λ rows. standby_bill rows a.start a.end a.rate a.first_metres a.second_metres) c.if-number-ne0.false
 
-pub standby-bill-spec : {M : Type 1} → statement M
-standby-bill-spec =
+pub standby_bill_spec : {M : Type 1} → statement M
+standby_bill_spec =
     tie.close
     (tie.spec (λ c κs. search rules) returns instant-of-requires (λ c. search rules) (λ c. search rules) instant-of-requires-2 (λ c. search rules)
     (λ c. search rules) bill-between-requires returns-2 returns-3 returns-4)

@@ -10,8 +10,8 @@ returns : tie.Need-returns
 unfolding time_seconds
 returns c = (refl, omega arith)
 
-pub time-seconds-spec : {M : Type 1} → statement M
-time-seconds-spec =
+pub time_seconds_spec : {M : Type 1} → statement M
+time_seconds_spec =
     tie.close
     (tie.spec (λ c. search rules) (λ c. search rules) (λ c. search rules) (λ c. search rules) (λ c. search rules) (λ c. search rules)
     (λ c. search rules) returns)

@@ -86,7 +86,8 @@ module _ (ps ms : List ℕ) where
   unfolding passes_refusal
   passes-right = go (usable ps ms) (both_rising ps ms) refl refl
     where
-      go : (a b : Bool) → usable ps ms ≡ a → both_rising ps ms ≡ b → ◌≡◌ {A = ℕ} (cond a (cond b 0 24) 23) 0 → (usable ps ms ≡ true) × (both_rising ps ms ≡ true)
+      go : (a b : Bool) → usable ps ms ≡ a → both_rising ps ms ≡ b → ◌≡◌ {A = ℕ} (cond a (cond b 0 24) 23) 0 → (usable ps ms ≡ true) ×
+          (both_rising ps ms ≡ true)
       go true true p q h = (p, q)
       go true false p q h = absurd (omega arith)
       go false b p q h = absurd (omega arith)
@@ -141,7 +142,8 @@ pub record NothingRefused (ps ms ts : List ℕ) (room : ℕ) : Type 0 where
 
 pub ladder_passed : (ps ms ts : List ℕ) (room : ℕ) → refused_by ps ms ts room ≡ 0 → NothingRefused ps ms ts room
 unfolding refused_by
-ladder_passed ps ms ts room = go (whole_numbers ps && (whole_numbers ms && whole_numbers ts)) (leb (numbers_in ts) (room / 8)) (usable ps ms) (both_rising ps ms)
+ladder_passed ps ms ts room = go (whole_numbers ps && (whole_numbers ms && whole_numbers ts)) (leb (numbers_in ts) (room / 8)) (usable ps ms)
+    (both_rising ps ms)
     (all_inside ps ts) refl refl refl refl refl
   where
     go : (a b c d e : Bool) → (whole_numbers ps && (whole_numbers ms && whole_numbers ts)) ≡ a → leb (numbers_in ts) (room / 8) ≡ b → usable ps ms ≡ c

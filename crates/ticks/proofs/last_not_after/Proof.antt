@@ -5,56 +5,57 @@ use mathlib.Core.Path.{sym, subst}
 use mathlib.Core.Logic.{⊎_elim}
 use Rattle.ticks.specs.judging.Refusing.{number_at}
 use Rattle.ticks.proofs.Search.{Seeking, seek_starts, seek_up, seek_down, seek_ends}
+use Rattle.ticks.proofs.last_not_after.Lts.{then-number_at-t, else-number_at-t}
 use Rattle.ticks.proofs.last_not_after.Statement.{statement}
 use Rattle.ticks.proofs.last_not_after.Tie as tie
 
-abbrev invariant-loop : tie.invariant-loop
+abbrev invariant-loop : tie.invariant-loop-left
 invariant-loop passes low high t from₀ left₀ from left = Seeking (number_at passes) low high t from left
 
-abbrev decreases-loop : tie.decreases-loop
+abbrev decreases-loop : tie.decreases-loop-left
 decreases-loop passes low high t from₀ left₀ from left = left
 
-sub-left : tie.Need-overflow-sub-left invariant-loop decreases-loop
-sub-left c = c.before.requires.order
+sub-left : tie.Need-overflow_sub-left invariant-loop decreases-loop
+sub-left c = c.requires.order
 
-loop-holds : tie.Need-loop-init invariant-loop decreases-loop
+loop-holds : tie.Need-loop-left-init invariant-loop decreases-loop
 loop-holds c =
-    let s = c.before in
+    let s = c in
     seek_starts (number_at s.args.passes.now) s.args.low s.args.high s.args.t s.requires.order s.requires.from
 
-add-middle : tie.Need-overflow-add-middle invariant-loop decreases-loop
-add-middle c = record { fits = omega (arith, c.before.loop.invariant.over, c.before.before.before.requires.few) }
+add-middle : tie.Need-overflow_add-middle invariant-loop decreases-loop
+add-middle c = record { fits = omega (arith, c.loop-left.invariant.over, c.requires.few) }
 
-add-middle-2 : tie.Need-overflow-add-middle-2 invariant-loop decreases-loop
-add-middle-2 c = record { fits = omega (arith, c.before.loop.invariant.over, c.before.before.before.requires.few) }
+add-middle-2 : tie.Need-overflow_add-middle-in-loop-left invariant-loop decreases-loop
+add-middle-2 c = record { fits = omega (arith, c.loop-left.invariant.over, c.requires.few) }
 
-number-at-requires : tie.Need-number-at-requires invariant-loop decreases-loop
-number-at-requires c κs = omega (arith, c.loop-test.true, c.before.loop.invariant.over, c.before.before.before.requires.there)
+number-at-requires : tie.Need-number_at-requires invariant-loop decreases-loop
+number-at-requires c κs = omega (arith, c.loop-left-test.true, c.loop-left.invariant.over, c.requires.there)
 
-loop-less : tie.Need-loop-smaller invariant-loop decreases-loop
-loop-less c = omega (arith, c.before.before.loop-test.true)
+loop-less : tie.Need-loop-left-smaller invariant-loop decreases-loop
+loop-less c = omega (arith, c.loop-left-test.true)
 
-loop-again : tie.Need-loop-preserved invariant-loop decreases-loop
+loop-again : tie.Need-loop-left-preserved invariant-loop decreases-loop
 loop-again c =
-    let q = c.before in
-    let l = q.before.before in
-    let a = l.before.before.args in
-    ⊎_elim
-    (λ w. subst (λ (x : ℕ). Seeking (number_at a.passes.now) a.low a.high a.t x (l.loop.left / 2)) (sym w.1)
-    (seek_up (number_at a.passes.now) a.low a.high a.t l.loop.from l.loop.left l.loop.invariant q.before.loop-test.true
-    q.number-at.result q.number-at.ensures (omega (arith, w.0.taken))))
-    (λ w. subst (λ (x : ℕ). Seeking (number_at a.passes.now) a.low a.high a.t x (l.loop.left / 2)) (sym w.1)
-    (seek_down (number_at a.passes.now) a.low a.high a.t l.loop.from l.loop.left l.loop.invariant q.before.loop-test.true
-    q.number-at.result q.number-at.ensures l.before.before.requires.rises (omega (arith, w.0.left))))
-    c.if1.branch
+    let q = c in
+    let l = q in
+    let a = l.args in
+    elim c.if-number_at-t.branch [
+      | then-number_at-t w ↦ subst (λ (x : ℕ). Seeking (number_at a.passes.now) a.low a.high a.t x (l.loop-left.left / 2)) (sym w.from-is)
+          (seek_up (number_at a.passes.now) a.low a.high a.t l.loop-left.from l.loop-left.left l.loop-left.invariant q.loop-left-test.true
+          q.number_at.result q.number_at.ensures (omega (arith, w.if-number_at-t.true)))
+      | else-number_at-t w ↦ subst (λ (x : ℕ). Seeking (number_at a.passes.now) a.low a.high a.t x (l.loop-left.left / 2)) (sym w.from-is)
+          (seek_down (number_at a.passes.now) a.low a.high a.t l.loop-left.from l.loop-left.left l.loop-left.invariant q.loop-left-test.true
+          q.number_at.result q.number_at.ensures l.requires.rises (omega (arith, w.if-number_at-t.false)))
+    ]
 
 returns : tie.Need-returns invariant-loop decreases-loop
 returns c =
-    let l = c.before in
-    let a = l.before.before.args in
-    seek_ends (number_at a.passes.now) a.low a.high a.t l.loop.from l.loop.left l.loop.invariant (omega (arith, c.loop-test.false))
+    let l = c in
+    let a = l.args in
+    seek_ends (number_at a.passes.now) a.low a.high a.t l.loop-left.from l.loop-left.left l.loop-left.invariant (omega (arith, c.loop-left-test.false))
 
-pub last-not-after-spec : {M : Type 1} → statement M
-last-not-after-spec =
+pub last_not_after_spec : {M : Type 1} → statement M
+last_not_after_spec =
     tie.close
     (tie.spec invariant-loop decreases-loop sub-left loop-holds add-middle add-middle-2 number-at-requires loop-less loop-again returns)

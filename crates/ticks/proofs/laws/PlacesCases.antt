@@ -10,7 +10,8 @@ use Rattle.ticks.specs.Line.{line_at}
 use Rattle.ticks.specs.judging.Numbers.{holds_below, all_small, all_rising}
 use Rattle.ticks.specs.Passes.{Passes, last_not_after, millis_at}
 use Rattle.ticks.specs.judging.Refusing.{well_counted, usable, both_rising, passes_refusal}
-use Rattle.ticks.specs.places.Places.{within, placed_reading, number_of, with_place, with_places, with_reading_numbers, without_place, places_refusal, places_call}
+use Rattle.ticks.specs.places.Places.{within, placed_reading, number_of, with_place, with_places, with_reading_numbers, without_place, places_refusal}
+use Rattle.ticks.specs.places.Places.{places_call}
 use Rattle.ticks.specs.places.Places.{readings_written, placed_run}
 use Rattle.ticks.specs.laws.Writer.{listed_passes}
 

@@ -137,7 +137,8 @@ count-sound n two most = record {
 
 -- of n passes at the ticks and milliseconds 0 to n - 1, and no tick, the call is answered exactly for 2 to 2,000
 pub two-to-2000 : (n : ℕ) → n < 18446744073709551616 → (before after : List ℕ) (r : TicksAnswer)
-    → TicksCall (placed_ticks (all_bytes eight_bytes (count_up 0 n)) (all_bytes eight_bytes (count_up 0 n)) (all_bytes eight_bytes []) (length before)) before r after
+    → TicksCall (placed_ticks (all_bytes eight_bytes (count_up 0 n)) (all_bytes eight_bytes (count_up 0 n)) (all_bytes eight_bytes []) (length before)) before r
+    after
     → (r ≡ Written 0) ↔ ((2 ≤ n) × (n ≤ 2000))
 two-to-2000 n few before after r call = (to, fro)
   where
@@ -156,5 +157,6 @@ pub second-tick : placed_ticks (0 ∷ 0 ∷ 0 ∷ 0 ∷ 0 ∷ 0 ∷ 0 ∷ 0 ∷ 
     (0x88 ∷ 0x13 ∷ 0 ∷ 0 ∷ 0 ∷ 0 ∷ 0 ∷ 0 ∷ 0x58 ∷ 0x1b ∷ 0 ∷ 0 ∷ 0 ∷ 0 ∷ 0 ∷ 0 ∷ [])
     (0 ∷ 1 ∷ 0 ∷ 0 ∷ 0 ∷ 0 ∷ 0 ∷ 0 ∷ 1 ∷ 0 ∷ 0 ∷ 0 ∷ 0 ∷ 0 ∷ 0 ∷ 0 ∷ []) 16
     ≡ answer (0x88 ∷ 0x15 ∷ 0 ∷ 0 ∷ 0 ∷ 0 ∷ 0 ∷ 0 ∷ 0x8a ∷ 0x13 ∷ 0 ∷ 0 ∷ 0 ∷ 0 ∷ 0 ∷ 0 ∷ [])
-unfolding placed_ticks refused_by well_counted usable both_rising all_inside holds_below all_small all_rising inside last_not_after millis_at line_at bytes_of four_at u64_at
+unfolding placed_ticks refused_by well_counted usable both_rising all_inside holds_below all_small all_rising inside last_not_after millis_at line_at bytes_of
+    four_at u64_at
 second-tick = refl

@@ -8,37 +8,37 @@ use borrow.Author.Rules.{rules}
 use Rattle.ticks.proofs.place_ticks.Statement.{statement}
 use Rattle.ticks.proofs.place_ticks.Tie as tie
 
-returns : tie.Need-returns
+returns : tie.Need-returns-then-number-ne0
 returns c =
-    let a = c.before.before.before.before.before.before.args in
-    refused-call a.passes.now a.millis.now a.ticks.now a.out.now c.before.refused-by.result c.before.refused-by.ensures
-    c.if1.true
+    let a = c.args in
+    refused-call a.passes.now a.millis.now a.ticks.now a.out.now c.refused_by-number.result c.refused_by-number.ensures
+    c.if-number-ne0.true
 
-sub-k : tie.Need-overflow-sub-k
+sub-k : tie.Need-overflow_sub-k
 sub-k c =
-    let a = c.before.before.before.before.before.before.args in
+    let a = c.args in
     omega (
       arith,
       passes-two a.passes.now a.millis.now a.ticks.now (length a.out.now)
-          (ladder_passed a.passes.now a.millis.now a.ticks.now (length a.out.now) (sym c.before.refused-by.ensures ∙ c.if1.false)),
+          (ladder_passed a.passes.now a.millis.now a.ticks.now (length a.out.now) (sym c.refused_by-number.ensures ∙ c.if-number-ne0.false)),
     )
 
-place-all-requires : tie.Need-place-all-requires
+place-all-requires : tie.Need-place_all-requires
 place-all-requires c κs =
-    let a = c.before.before.before.before.before.before.before.args in
+    let a = c.args in
     let z = ladder_passed a.passes.now a.millis.now a.ticks.now (length a.out.now)
-    (sym c.before.before.refused-by.ensures ∙ c.before.if1.false) in
+    (sym c.refused_by-number.ensures ∙ c.if-number-ne0.false) in
     (all-good a.passes.now a.millis.now a.ticks.now (length a.out.now) z _ refl, omega (arith, z.fits))
 
-returns-2 : tie.Need-returns-2
+returns-2 : tie.Need-returns
 returns-2 c =
-    let at-if1 = c.before.before.before.before in
-    let at-refused-by = at-if1.before in
-    let start = at-refused-by.before.before.before.before.before in
+    let at-if1 = c in
+    let at-refused-by = at-if1 in
+    let start = at-refused-by in
     let a = start.args in
-    written-call a.passes.now a.millis.now a.ticks.now a.out.now _ at-refused-by.refused-by.result
-    at-refused-by.refused-by.ensures at-if1.if1.false c.before.before.place-all.ensures
+    written-call a.passes.now a.millis.now a.ticks.now a.out.now _ at-refused-by.refused_by-number.result
+    at-refused-by.refused_by-number.ensures at-if1.if-number-ne0.false c.place_all.ensures
 
-pub place-ticks-spec : {M : Type 1} → statement M
-place-ticks-spec =
+pub place_ticks_spec : {M : Type 1} → statement M
+place_ticks_spec =
     tie.close (tie.spec (λ c κs. search rules) returns sub-k place-all-requires (λ c. search rules) returns-2)

@@ -42,7 +42,8 @@ pub record Taken (ps ls ms : List ℕ) (count room : ℕ) : Type 0 where
 
 pub taken : (ps ls ms : List ℕ) (count room : ℕ) → places_refusal ps ls ms count room ≡ 0 → Taken ps ls ms count room
 unfolding places_refusal
-taken ps ls ms count room = go (whole_numbers ps && (whole_numbers ls && whole_numbers ms)) (eqb (numbers_in ms) count) (leb (numbers_in ms) (room / 8)) refl refl
+taken ps ls ms count room = go (whole_numbers ps && (whole_numbers ls && whole_numbers ms)) (eqb (numbers_in ms) count)
+    (leb (numbers_in ms) (room / 8)) refl refl
   where
     go : (a b c : Bool) → eqb (numbers_in ms) count ≡ b → leb (numbers_in ms) (room / 8) ≡ c → cond a (cond b (cond c (passes_refusal ps ls) 11) 12) 14 ≡ 0
         → Taken ps ls ms count room

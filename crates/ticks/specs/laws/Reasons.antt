@@ -61,3 +61,11 @@ pub record TicksMeaning (ps ms ts before : List ℕ) (r : TicksAnswer) (after : 
   pub decided : ExactlyWhen ps ms ts (length before) r
   pub refused : (n : ℕ) → r ≡ Refused n → after ≡ before
   pub placed : r ≡ Written (length ts) → PlacedRight ps ms ts before after
+
+-- answered, the results are right
+abbrev pub PlacedWhole : List ℕ → List ℕ → List ℕ → List ℕ → TicksAnswer → List ℕ → Type 0
+PlacedWhole ps ms ts before r after = r ≡ Written (length ts) → PlacedRight ps ms ts before after
+
+-- each refusal comes exactly where it is due, and nothing is written
+abbrev pub RefusedWhole : List ℕ → List ℕ → List ℕ → List ℕ → TicksAnswer → List ℕ → Type 0
+RefusedWhole ps ms ts before r after = ExactlyWhen ps ms ts (length before) r × ((n : ℕ) → r ≡ Refused n → after ≡ before)

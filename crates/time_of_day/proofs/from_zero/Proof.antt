@@ -37,8 +37,8 @@ module _ (z : ℤ) (f : SFits w64 z) (t : lt_z (to_z w64 (of_z w64 z)) (pos 0) �
   same : nat_abs (to_z w64 (of_z w64 z)) ≡ from_zero z
   same = ap nat_abs back ∙ facts.2
 
-returns : tie.Need-returns
-returns c = below _ (subst (λ (x : ℤ). lt_z x (pos 0) ≡ true) (to_z-of_z {w = w64} c.before.ranges.count) c.if1.true)
+returns : tie.Need-returns-then-count-lt0
+returns c = below _ (subst (λ (x : ℤ). lt_z x (pos 0) ≡ true) (to_z-of_z {w = w64} c.before.ranges.count) c.if-count-lt0.true)
 
-pub from-zero-spec : {M : Type 1} → statement M
-from-zero-spec = tie.close (tie.spec (λ c. casts _ c.before.ranges.count c.if1.false) returns (λ c. same _ c.before.ranges.count c.if1.false))
+pub from_zero_spec : {M : Type 1} → statement M
+from_zero_spec = tie.close (tie.spec (λ c. casts _ c.before.ranges.count c.if-count-lt0.false) returns (λ c. same _ c.before.ranges.count c.if-count-lt0.false))

@@ -8,19 +8,16 @@ use borrow.Author.Rules.{rules}
 use Rattle.utc.proofs.at_time.Statement.{statement}
 use Rattle.utc.proofs.at_time.Tie as tie
 
-returns : tie.Need-returns
+returns : tie.Need-returns-in-Refused
 unfolding utc_outcome midnight_plus fraction_outcome onward
 returns c =
-    let s = c.before.before.before in
-    sym (ap (λ (x : _). midnight_plus s.args.midnight (fraction_outcome x)) c.before.fraction.given.1)
+    sym (ap (λ (x : _). midnight_plus c.args.midnight (fraction_outcome x)) c.in-Refused.is)
 
-returns-2 : tie.Need-returns-2
+returns-2 : tie.Need-returns-in-Fraction
 unfolding utc_outcome midnight_plus fraction_outcome onward
 returns-2 c =
-    let k = c.before.before.before in
-    let s = k.before.before in
-    ap answer c.new.ensures ∙ sym (ap (λ (x : _). midnight_plus s.args.midnight (fraction_outcome x)) k.fraction2.given.1)
+    ap answer c.new.ensures ∙ sym (ap (λ (x : _). midnight_plus c.args.midnight (fraction_outcome x)) c.in-Fraction.is)
 
-pub at-time-spec : {M : Type 1} → statement M
-at-time-spec =
+pub at_time_spec : {M : Type 1} → statement M
+at_time_spec =
     tie.close (tie.spec (λ c. search rules) (λ c. search rules) (λ c κs. search rules) returns returns-2)

@@ -21,7 +21,8 @@ use Rattle.utc.specs.iso_texts.IsoText.{standard_form, day_text_by, iso_text_by,
 use Rattle.utc.specs.iso_texts.Expanded.{expanded_form, iso_text_expanded}
 use Rattle.utc.specs.iso_texts.HalfEven.{half_even_form, iso_text_half_even}
 use Rattle.utc.specs.iso_texts.TextCall.{written, buffer_holds, TextCall}
-use Rattle.utc.specs.iso_texts.ByRule.{rule_on, text_by_rule, iso_text_by_rule, half_even_by_rule, expanded_by_rule, text_by_rule_outcome, written_by_rule, TextRuleCall}
+use Rattle.utc.specs.iso_texts.ByRule.{rule_on, text_by_rule, iso_text_by_rule, half_even_by_rule, expanded_by_rule, text_by_rule_outcome, written_by_rule}
+use Rattle.utc.specs.iso_texts.ByRule.{TextRuleCall}
 
 pub rule-call-refused : (o : Outcome (List ℕ × Rule)) (n : ℕ) (l : List ℕ) → o ≡ refusal n → TextRuleCall o l (Refused n) l
 unfolding written_by_rule buffer_holds text_by_rule_outcome forget onward

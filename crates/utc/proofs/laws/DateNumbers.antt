@@ -97,7 +97,8 @@ leap-numbers rows y m d k v e = go (day_offsets rows y m d) refl e
     go (answer p) q r = absurd (not_both (answer (leap_of p)) (leap_of p) k refl r)
     go (refusal n) q r = given (day-refusals rows y m d k (q ∙ cc))
 
-pub from-calendar-numbers : (rows : List Row) (y : ℤ) (m d hour minute : ℕ) (second : Float) (k : ℕ) → utc_from_calendar rows y m d hour minute second ≡ refusal k
+pub from-calendar-numbers : (rows : List Row) (y : ℤ) (m d hour minute : ℕ) (second : Float) (k : ℕ) → utc_from_calendar rows y m d hour minute second
+    ≡ refusal k
     → ((k ≡ 1) ⊎ ((k ≡ 2) ⊎ (k ≡ 3))) ⊎ ((k ≡ 5) ⊎ (k ≡ 4))
 from-calendar-numbers rows y m d hour minute second k e = go (valid_date y (pos m) (pos d)) refl
   where

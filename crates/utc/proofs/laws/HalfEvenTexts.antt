@@ -60,7 +60,8 @@ even-for-every-buffer t rows p = text-for-every-buffer-by rows (table-leaps t ro
 pub even-text-length : (rows : List Row) (jd : JulianDate) (t : List ℕ) → iso_text_half_even rows jd ≡ answer t → (23 ≤ length t) × (length t ≤ 26)
 even-text-length = every_text half_even_form (λ t. Length01 (length t)) Read.written-length
 
-pub even-call-length : (rows : List Row) (jd : JulianDate) (l out : List ℕ) (n : ℕ) → TextCall (iso_text_half_even rows jd) l (Written n) out → (23 ≤ n) × (n ≤ 26)
+pub even-call-length : (rows : List Row) (jd : JulianDate) (l out : List ℕ) (n : ℕ) → TextCall (iso_text_half_even rows jd) l (Written n) out → (23 ≤ n) ×
+    (n ≤ 26)
 even-call-length rows jd = every_call half_even_form (λ t. Length01 (length t)) Read.written-length rows jd Length01 (λ t h. h)
 
 pub even-numbers : (rows : List Row) (jd : JulianDate) (l out : List ℕ) (k : ℕ) → TextCall (iso_text_half_even rows jd) l (Refused k) out → (k ≡ 6)

@@ -19,7 +19,6 @@ use Rattle.refusals.specs.Outcome.{Outcome, answer, refusal, onward}
 use Rattle.floats.specs.Whole.{nought}
 use Rattle.refusals.proofs.Onward.{went, stopped}
 use Rattle.constants.specs.Constants.{decimal, unix_epoch_jd}
-use Rattle.calendar.specs.Calendar.{date}
 use Rattle.calendar.specs.declared.CalendarDate.{CalendarDate}
 use Rattle.calendar.proofs.Years.{valid_of, gregorian_in_range, gregorian_refusal}
 use Rattle.julian.specs.day_number.DayNumber.{accepted, day_of}

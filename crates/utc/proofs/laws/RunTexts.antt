@@ -1,8 +1,7 @@
 -- WHAT THE TEXTS OF A RUN MEAN, for every run of every length: when the call is answered, each stamp's text, length and number, the count, and the stamps that
 -- are not finite. Assumes nothing.
-use Prim.Native.Nat.{ℕ, ◌+◌, ◌*◌, ◌/◌, ◌%◌, ◌<◌, ◌≤◌}
+use Prim.Native.Nat.{ℕ, ◌*◌, ◌/◌, ◌%◌, ◌<◌, ◌≤◌}
 use native.Mathlib.Omega.{arith}
-use native.Mathlib.Nat.{div-mul-le_self}
 use mathlib.Core.Path.{◌≡◌, refl, sym, ap, subst, ◌∙◌}
 use mathlib.Core.Logic.{◌⊎◌, inl, inr}
 use mathlib.Core.Bool.{Bool, true, false, cond, ◌&&◌}
@@ -26,7 +25,7 @@ use Rattle.utc.specs.iso_texts.IsoText.{iso_text_by}
 use Rattle.utc.specs.iso_texts.Named.{form_named}
 use Rattle.utc.specs.run_texts.RunTexts.{stamp_text, length_byte, refusal_byte, TextsCall, texts_call, texts_written, texts_refusal, texts_by, texts_of_run}
 use Rattle.utc.specs.laws.RunTexts.{TextDone, BehindStays, numbers_not_zero, StampPartNotFinite, TextsDue}
-use Rattle.utc.proofs.run_texts.Calls.{Fitting, fitting, none-refused}
+use Rattle.utc.proofs.run_texts.Calls.{fitting, none-refused}
 use Rattle.utc.proofs.laws.Numbers.{text-numbers-by, not_finite_by}
 use Rattle.utc.proofs.laws.NamedTexts.{named-text-few}
 use Rattle.utc.proofs.laws.RunTextsBytes.{texts-beyond, text_at, behind-at, refused-at, bytes-beyond, byte_at, counted}

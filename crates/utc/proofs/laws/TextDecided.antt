@@ -6,11 +6,9 @@ use Prim.Native.Nat.{ℕ, ◌≤◌, ◌<◌}
 use native.Mathlib.Omega.{arith}
 use lib.Dec.{leb}
 use lib.ListN.{length}
-use lib.Ieee.{fits}
 use borrow.Author.Tests.{leb-true, leb-false}
 use Rattle.refusals.specs.Outcome.{Outcome, answer, refusal, onward}
 use Rattle.refusals.proofs.Onward.{went, stopped}
-use Rattle.calendar.specs.Calendar.{date}
 use Rattle.calendar.specs.declared.CalendarDate.{CalendarDate}
 use Rattle.calendar.proofs.Years.{valid_of, gregorian_in_range}
 use Rattle.julian.specs.day_number.DayNumber.{day_of}

@@ -9,19 +9,16 @@ use borrow.Author.Rules.{rules}
 use Rattle.utc.proofs.new.Statement.{statement}
 use Rattle.utc.proofs.new.Tie as tie
 
-returns : tie.Need-returns
+returns : tie.Need-returns-then-number-ne0
 unfolding utc_outcome
-returns c = let r = c.before in not_taken r.before.args.t3 r.table-refusal.result r.table-refusal.ensures _ c.if1.true
+returns c = not_taken c.args.table c.table_refusal-number.result c.table_refusal-number.ensures _ c.if-number-ne0.true
 
-returns-2 : tie.Need-returns-2
+returns-2 : tie.Need-returns
 returns-2 c =
-    let z = c.before.before.before.before in
-    let r = z.before.before in
-    let s = r.before in
-    let rows = rows_in_lem s.args.t3 z.size_of.result z.size_of.ensures in
-    c.new-by-arrays.ensures
-    ∙ (λ i. utc_new (rows i) (to_z-of_z s.ranges.seconds i) s.args.nanos)
-    ∙ taken s.args.t3 r.table-refusal.result r.table-refusal.ensures _ z.before.if1.false
+    let rows = rows_in_lem c.args.table c.size_of.result c.size_of.ensures in
+    c.new_by_arrays.ensures
+    ∙ (λ i. utc_new (rows i) (to_z-of_z c.ranges.seconds i) c.args.nanos)
+    ∙ taken c.args.table c.table_refusal-number.result c.table_refusal-number.ensures _ c.if-number-ne0.false
 
 pub new_spec : {M : Type 1} → statement M
 new_spec =

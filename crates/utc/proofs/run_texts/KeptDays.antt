@@ -238,7 +238,8 @@ unfolding basic_year
 four-digits (pos n) e = (ltb-true n 10000 e, refl)
 four-digits (negsuc n) e = absurd (false≢true e)
 
-pub year-of : (y : ℤ) (neg : Bool) (n : ℕ) → SFits w32 y → neg ≡ not (non_neg (to_z w32 (of_z w32 y))) → n ≡ nat_abs (to_z w32 (of_z w32 y)) → basic_year neg n ≡ true
+pub year-of : (y : ℤ) (neg : Bool) (n : ℕ) → SFits w32 y → neg ≡ not (non_neg (to_z w32 (of_z w32 y))) → n ≡ nat_abs (to_z w32 (of_z w32 y)) → basic_year neg n
+    ≡ true
     → (n < 10000) × (y ≡ pos n)
 year-of y neg n f en ek b =
     let t = to_z-of_z w32 y f in

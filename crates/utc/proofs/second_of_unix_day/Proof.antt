@@ -13,54 +13,46 @@ use Rattle.utc.proofs.UnixDays.{divides, read_left, seconds-most, from-midnight-
 use Rattle.utc.proofs.second_of_unix_day.Statement.{statement}
 use Rattle.utc.proofs.second_of_unix_day.Tie as tie
 
-sum_is : (c : tie.Then1) → to_z w64 (of_z w64 (rem_z (to_z w64 (of_z w64 c.before.args.seconds)) (pos 86400))) +ℤ pos 86400 ≡ pos
-    (second_of_unix_day c.before.args.seconds)
+sum_is : (c : tie.Then-rest-lt0) → to_z w64 (of_z w64 (rem_z (to_z w64 (of_z w64 c.args.seconds)) (pos 86400))) +ℤ pos 86400 ≡ pos
+    (second_of_unix_day c.args.seconds)
 sum_is c =
-    let s = c.before in
-    let e = read_left s.args.seconds s.ranges.seconds in
-    ap (λ (x : ℤ). x +ℤ pos 86400) e ∙ from-midnight-before s.args.seconds (ap (λ (x : ℤ). lt_z x (pos 0)) (sym e) ∙ c.if1.true)
+    let e = read_left c.args.seconds c.ranges.seconds in
+    ap (λ (x : ℤ). x +ℤ pos 86400) e ∙ from-midnight-before c.args.seconds (ap (λ (x : ℤ). lt_z x (pos 0)) (sym e) ∙ c.if-rest-lt0.true)
 
-read-sum : (c : tie.Then1) → to_z w64 (of_z w64 (to_z w64 (of_z w64 (rem_z (to_z w64 (of_z w64 c.before.args.seconds)) (pos 86400))) +ℤ pos 86400)) ≡ pos
-    (second_of_unix_day c.before.args.seconds)
+read-sum : (c : tie.Then-rest-lt0) → to_z w64 (of_z w64 (to_z w64 (of_z w64 (rem_z (to_z w64 (of_z w64 c.args.seconds)) (pos 86400))) +ℤ pos 86400)) ≡ pos
+    (second_of_unix_day c.args.seconds)
 read-sum c =
-    let s = c.before in
-    let f : SFits w64 (pos (second_of_unix_day s.args.seconds)) = record { sfits = omega (arith, seconds-most s.args.seconds) } in
+    let f : SFits w64 (pos (second_of_unix_day c.args.seconds)) = record { sfits = omega (arith, seconds-most c.args.seconds) } in
     ap (λ (x : ℤ). to_z w64 (of_z w64 x)) (sum_is c) ∙ to_z-of_z f
 
-read-rest : (c : tie.Else1) → to_z w64 (of_z w64 (rem_z (to_z w64 (of_z w64 c.before.args.seconds)) (pos 86400))) ≡ pos
-    (second_of_unix_day c.before.args.seconds)
+read-rest : (c : tie.Else-rest-lt0) → to_z w64 (of_z w64 (rem_z (to_z w64 (of_z w64 c.args.seconds)) (pos 86400))) ≡ pos
+    (second_of_unix_day c.args.seconds)
 read-rest c =
-    let s = c.before in
-    let e = read_left s.args.seconds s.ranges.seconds in
-    e ∙ from-midnight s.args.seconds (ap (λ (x : ℤ). lt_z x (pos 0)) (sym e) ∙ c.if1.false)
+    let e = read_left c.args.seconds c.ranges.seconds in
+    e ∙ from-midnight c.args.seconds (ap (λ (x : ℤ). lt_z x (pos 0)) (sym e) ∙ c.if-rest-lt0.false)
 
-add-result : tie.Need-overflow-add-result
+add-result : tie.Need-overflow_add-result
 add-result c =
-    let s = c.before in
-    subst (SFits w64) (sym (sum_is c)) (record { sfits = omega (arith, seconds-most s.args.seconds) })
+    subst (SFits w64) (sym (sum_is c)) (record { sfits = omega (arith, seconds-most c.args.seconds) })
 
-cast-result : tie.Need-overflow-cast-result
+cast-result : tie.Need-overflow_cast-result
 cast-result c =
-    let s = c.before in
-    cast_fits _ _ (read-sum c) (record { fits = omega (arith, seconds-most s.args.seconds) })
+    cast_fits _ _ (read-sum c) (record { fits = omega (arith, seconds-most c.args.seconds) })
 
-cast-result-2 : tie.Need-overflow-cast-result-2
+cast-result-2 : tie.Need-overflow_cast-result-else-rest-lt0
 cast-result-2 c =
-    let s = c.before in
-    cast_fits _ _ (read-rest c) (record { fits = omega (arith, seconds-most s.args.seconds) })
+    cast_fits _ _ (read-rest c) (record { fits = omega (arith, seconds-most c.args.seconds) })
 
-returns : tie.Need-returns
+returns : tie.Need-returns-then-rest-lt0
 returns c =
-    let s = c.before in
     let e = ap nat_abs (read-sum c) in
-    (e, subst (λ (n : ℕ). n < 86400) (sym e) (seconds-most s.args.seconds))
+    (e, subst (λ (n : ℕ). n < 86400) (sym e) (seconds-most c.args.seconds))
 
-returns-2 : tie.Need-returns-2
+returns-2 : tie.Need-returns-else-rest-lt0
 returns-2 c =
-    let s = c.before in
     let e = ap nat_abs (read-rest c) in
-    (e, subst (λ (n : ℕ). n < 86400) (sym e) (seconds-most s.args.seconds))
+    (e, subst (λ (n : ℕ). n < 86400) (sym e) (seconds-most c.args.seconds))
 
-pub second-of-unix-day-spec : {M : Type 1} → statement M
-second-of-unix-day-spec =
+pub second_of_unix_day_spec : {M : Type 1} → statement M
+second_of_unix_day_spec =
     tie.close (tie.spec (λ c. divides c.args.seconds c.ranges.seconds) add-result cast-result cast-result-2 returns returns-2)

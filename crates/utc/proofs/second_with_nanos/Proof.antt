@@ -12,9 +12,8 @@ use Rattle.utc.proofs.second_with_nanos.Tie as tie
 returns : tie.Need-returns
 unfolding second_with_nanos
 returns c =
-    let s = c.before.before in
-    ap (λ (x : Float). add binary64 (of_int binary64 (pos (s.args.second % 60))) (div binary64 (of_int binary64 (pos s.args.nanos)) x))
+    ap (λ (x : Float). add binary64 (of_int binary64 (pos (c.args.second % 60))) (div binary64 (of_int binary64 (pos c.args.nanos)) x))
     nanoseconds-per-second
 
-pub second-with-nanos-spec : {M : Type 1} → statement M
-second-with-nanos-spec = tie.close (tie.spec (λ c. search rules) (λ c. search rules) returns)
+pub second_with_nanos_spec : {M : Type 1} → statement M
+second_with_nanos_spec = tie.close (tie.spec (λ c. search rules) (λ c. search rules) returns)

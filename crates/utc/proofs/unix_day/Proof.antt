@@ -10,28 +10,24 @@ use Rattle.utc.proofs.UnixDays.{divides, read-days, read_left, day-before, same-
 use Rattle.utc.proofs.unix_day.Statement.{statement}
 use Rattle.utc.proofs.unix_day.Tie as tie
 
-one_less : (c : tie.Then1) → to_z w64 (of_z w64 (quot_z (to_z w64 (of_z w64 c.before.args.seconds)) (pos 86400))) -ℤ pos 1 ≡ unix_day c.before.args.seconds
+one_less : (c : tie.Then-seconds-lt0) → to_z w64 (of_z w64 (quot_z (to_z w64 (of_z w64 c.args.seconds)) (pos 86400))) -ℤ pos 1 ≡ unix_day c.args.seconds
 one_less c =
-    let s = c.before in
-    ap (λ (x : ℤ). x -ℤ pos 1) (read-days s.args.seconds s.ranges.seconds)
-    ∙ day-before s.args.seconds (ap (λ (x : ℤ). lt_z x (pos 0)) (sym (read_left s.args.seconds s.ranges.seconds)) ∙ c.if1.true)
+    ap (λ (x : ℤ). x -ℤ pos 1) (read-days c.args.seconds c.ranges.seconds)
+    ∙ day-before c.args.seconds (ap (λ (x : ℤ). lt_z x (pos 0)) (sym (read_left c.args.seconds c.ranges.seconds)) ∙ c.if-seconds-lt0.true)
 
-sub-result : tie.Need-overflow-sub-result
+sub-result : tie.Need-overflow_sub-result
 sub-result c =
-    let s = c.before in
-    subst (SFits w64) (sym (one_less c)) (day_fits s.args.seconds s.ranges.seconds)
+    subst (SFits w64) (sym (one_less c)) (day_fits c.args.seconds c.ranges.seconds)
 
-returns : tie.Need-returns
+returns : tie.Need-returns-then-seconds-lt0
 returns c =
-    let s = c.before in
-    ap (λ (x : ℤ). to_z w64 (of_z w64 x)) (one_less c) ∙ to_z-of_z (day_fits s.args.seconds s.ranges.seconds)
+    ap (λ (x : ℤ). to_z w64 (of_z w64 x)) (one_less c) ∙ to_z-of_z (day_fits c.args.seconds c.ranges.seconds)
 
-returns-2 : tie.Need-returns-2
+returns-2 : tie.Need-returns-else-seconds-lt0
 returns-2 c =
-    let s = c.before in
-    read-days s.args.seconds s.ranges.seconds
-    ∙ same-day s.args.seconds (ap (λ (x : ℤ). lt_z x (pos 0)) (sym (read_left s.args.seconds s.ranges.seconds)) ∙ c.if1.false)
+    read-days c.args.seconds c.ranges.seconds
+    ∙ same-day c.args.seconds (ap (λ (x : ℤ). lt_z x (pos 0)) (sym (read_left c.args.seconds c.ranges.seconds)) ∙ c.if-seconds-lt0.false)
 
-pub unix-day-spec : {M : Type 1} → statement M
-unix-day-spec = tie.close (tie.spec (λ c. divides c.args.seconds c.ranges.seconds) (λ c. divides c.args.seconds c.ranges.seconds) sub-result
+pub unix_day_spec : {M : Type 1} → statement M
+unix_day_spec = tie.close (tie.spec (λ c. divides c.args.seconds c.ranges.seconds) (λ c. divides c.args.seconds c.ranges.seconds) sub-result
     returns returns-2)

@@ -9,21 +9,18 @@ use borrow.Author.Rules.{rules}
 use Rattle.utc.proofs.utc_from_calendar.Statement.{statement}
 use Rattle.utc.proofs.utc_from_calendar.Tie as tie
 
-returns : tie.Need-returns
+returns : tie.Need-returns-then-number-ne0
 unfolding utc_outcome
-returns c = let r = c.before in not_taken r.before.args.t7 r.table-refusal.result r.table-refusal.ensures _ c.if1.true
+returns c = not_taken c.args.table c.table_refusal-number.result c.table_refusal-number.ensures _ c.if-number-ne0.true
 
-returns-2 : tie.Need-returns-2
+returns-2 : tie.Need-returns
 returns-2 c =
-    let z = c.before.before.before.before in
-    let r = z.before.before in
-    let s = r.before in
-    let rows = rows_in_lem s.args.t7 z.size_of.result z.size_of.ensures in
-    c.utc-from-calendar-by-arrays.ensures
-    ∙ (λ i. utc_from_calendar (rows i) (to_z-of_z s.ranges.year i) s.args.month s.args.day s.args.hour s.args.minute
-    s.args.second)
-    ∙ taken s.args.t7 r.table-refusal.result r.table-refusal.ensures _ z.before.if1.false
+    let rows = rows_in_lem c.args.table c.size_of.result c.size_of.ensures in
+    c.utc_from_calendar_by_arrays.ensures
+    ∙ (λ i. utc_from_calendar (rows i) (to_z-of_z c.ranges.year i) c.args.month c.args.day c.args.hour c.args.minute
+    c.args.second)
+    ∙ taken c.args.table c.table_refusal-number.result c.table_refusal-number.ensures _ c.if-number-ne0.false
 
-pub utc-from-calendar-spec : {M : Type 1} → statement M
-utc-from-calendar-spec =
+pub utc_from_calendar_spec : {M : Type 1} → statement M
+utc_from_calendar_spec =
     tie.close (tie.spec (λ c κs. search rules) returns (λ c κs. search rules) (λ c κs. search rules) returns-2)

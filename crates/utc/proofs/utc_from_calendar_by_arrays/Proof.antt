@@ -1,15 +1,18 @@
 -- `utc::utc_from_calendar_by_arrays` meets its contract: the refusal of the date, of its leap, or of the time of its day. Assumes nothing.
 use mathlib.Core.Path.{◌≡◌, sym, ap, ◌∙◌}
-use native.Mathlib.Omega.{arith}
-use lib.IntN.{pos}
+use lib.IntN.{ℤ, pos}
 use lib.Ieee.{of_bits}
 use mir.Syntax.{w32}
 use mir.Facts.{to_z-of_z, to_z_pos}
+use native.Mathlib.Omega.{arith}
+use Rattle.julian.specs.declared.JulianAnswer.{JulianAnswer}
+use mathlib.Core.List.{List}
+use Prim.Native.Nat.{ℕ}
+use Rattle.leap_table.specs.rows.Table.{Row}
 use Rattle.refusals.specs.Outcome.{answer, refusal, onward}
 use Rattle.floats.specs.Whole.{nought}
 use Rattle.julian.specs.JulianDate.{julian_outcome}
 use Rattle.julian.specs.Calendar.{from_calendar}
-use Rattle.leap_table.specs.rows.Table.{Row}
 use Rattle.leap_table.specs.rows.Announced.{rows_in}
 use Rattle.leap_table.specs.offsets.Leap.{leap_at_end_of_day}
 use Rattle.leap_table.specs.declared.offsets.SecondsByRule.{SecondsByRule}
@@ -18,68 +21,60 @@ use Rattle.leap_table.specs.offsets.Answers.{seconds_by_rule_outcome}
 use Rattle.leap_table.proofs.offsets.Rules.{leap-forgets}
 use Rattle.scales.specs.Scales.{utc_outcome}
 use Rattle.utc.specs.FromCalendar.{utc_from_calendar}
-use mathlib.Core.List.{List}
 use borrow.Author.Rules.{rules}
 use Rattle.utc.proofs.utc_from_calendar_by_arrays.Statement.{statement}
 use Rattle.utc.proofs.utc_from_calendar_by_arrays.Tie as tie
 
--- the rows that are read
-abbrev rows : tie.Start → List Row
-rows s = rows_in s.args.size s.args.months.now s.args.seconds.now
-
 -- the date's midnight
-midnight-given : (k : tie.After-midnight)
-    → from_calendar k.before.before.before.args.year k.before.before.before.args.month k.before.before.before.args.day 0 0 nought ≡ answer
-    k.midnight.given.0.0
-unfolding julian_outcome of_bits
-midnight-given k =
-    let v = k.before.before in
-    let s = v.before in
-    sym (λ i. from_calendar (to_z-of_z s.ranges.year i) s.args.month s.args.day 0 0 nought) ∙ sym v.from-calendar.ensures
-    ∙ ap julian_outcome k.midnight.given.1
+midnight-given : (year y : ℤ) (month day : ℕ) (r : JulianAnswer) → y ≡ year → julian_outcome r ≡ from_calendar y month day 0 0 nought
+    → from_calendar year month day 0 0 nought ≡ julian_outcome r
+midnight-given year y month day r e h = sym (h ∙ ap (λ (z : ℤ). from_calendar z month day 0 0 nought) e)
 
 -- the call for the day's leap
-leap-called : (l : tie.After-leap-at-end-of-day-by-arrays)
-    → leap_at_end_of_day (rows l.before.before.before.before.before) l.before.before.before.before.before.args.year
-    (pos l.before.before.before.before.before.args.month) (pos l.before.before.before.before.before.args.day) ≡ forget
-    (seconds_by_rule_outcome l.leap-at-end-of-day-by-arrays.result)
-leap-called l =
-    let s = l.before.before.before.before.before in
-    sym
-    (ap forget (l.leap-at-end-of-day-by-arrays.ensures
-    ∙ (λ i. leap_by_rule (rows s) (to_z-of_z s.ranges.year i) (to_z_pos w32 {n = s.args.month} (omega (arith, s.ranges.month.fits)) i)
-    (to_z_pos w32 {n = s.args.day} (omega (arith, s.ranges.day.fits)) i)))
-    ∙ leap-forgets (rows s) s.args.year (pos s.args.month) (pos s.args.day))
+leap-called : (rows : List Row) (year y m d : ℤ) (month day : ℕ) (r : SecondsByRule)
+    → y ≡ year → m ≡ pos month → d ≡ pos day → seconds_by_rule_outcome r ≡ leap_by_rule rows y m d
+    → leap_at_end_of_day rows year (pos month) (pos day) ≡ forget (seconds_by_rule_outcome r)
+leap-called rows year y m d month day r ey em ed h =
+    sym (ap forget (h ∙ (λ i. leap_by_rule rows (ey i) (em i) (ed i))) ∙ leap-forgets rows year (pos month) (pos day))
 
-returns : tie.Need-returns
+returns : tie.Need-returns-in-Refused
 unfolding utc_outcome utc_from_calendar onward julian_outcome of_bits
 returns c =
-    let v = c.before.before.before in
-    let s = v.before in
-    let e : from_calendar s.args.year s.args.month s.args.day 0 0 nought ≡ refusal c.before.number.given.0.0 =
-    sym (λ i. from_calendar (to_z-of_z s.ranges.year i) s.args.month s.args.day 0 0 nought) ∙ sym v.from-calendar.ensures
-    ∙ ap julian_outcome c.before.number.given.1 in
+    let e : from_calendar c.args.year c.args.month c.args.day 0 0 nought ≡ refusal c.in-Refused.number =
+    midnight-given c.args.year _ c.args.month c.args.day _ (to_z-of_z c.ranges.year) c.from_calendar.ensures ∙ ap julian_outcome c.in-Refused.is in
     rw e
 
-returns-2 : tie.Need-returns-2
-unfolding utc_outcome utc_from_calendar onward forget seconds_by_rule_outcome
+returns-2 : tie.Need-returns-in-Refused-leap_at_end_of_day_by_arrays
+unfolding utc_outcome utc_from_calendar onward forget seconds_by_rule_outcome julian_outcome of_bits
 returns-2 c =
-    let l = c.before.before.before in
-    rw (midnight-given l.before.before, leap-called l ∙ ap (λ (x : SecondsByRule). forget (seconds_by_rule_outcome x)) c.before.number2.given.1)
-
-returns-3 : tie.Need-returns-3
-unfolding utc_from_calendar onward utc_outcome forget seconds_by_rule_outcome
-returns-3 c =
-    let k = c.before.before.before in
-    let l = k.before.before in
+    let a = c.args in
+    let m : from_calendar a.year a.month a.day 0 0 nought ≡ answer c.in-Date.midnight =
+    midnight-given a.year _ a.month a.day _ (to_z-of_z c.ranges.year) c.from_calendar.ensures ∙ ap julian_outcome c.in-Date.is in
     rw (
-      midnight-given l.before.before,
-      leap-called l ∙ ap (λ (x : SecondsByRule). forget (seconds_by_rule_outcome x)) k.leap.given.1,
-      ← c.before.day-fraction.ensures,
-    ) c.at-time.ensures
+      m,
+      leap-called (rows_in a.size a.months.now a.seconds.now) a.year _ _ _ a.month a.day _ (to_z-of_z c.ranges.year)
+          (to_z_pos w32 {n = a.month} (omega (arith, c.ranges.month.fits))) (to_z_pos w32 {n = a.day} (omega (arith, c.ranges.day.fits)))
+          c.leap_at_end_of_day_by_arrays.ensures
+          ∙ ap (λ (x : SecondsByRule). forget (seconds_by_rule_outcome x)) c.in-Refused-leap_at_end_of_day_by_arrays.is,
+    )
 
-pub utc-from-calendar-by-arrays-spec : {M : Type 1} → statement M
-utc-from-calendar-by-arrays-spec =
+returns-3 : tie.Need-returns-in-Seconds
+unfolding utc_from_calendar onward utc_outcome forget seconds_by_rule_outcome julian_outcome of_bits
+returns-3 c =
+    let a = c.args in
+    let m : from_calendar a.year a.month a.day 0 0 nought ≡ answer c.in-Date.midnight =
+    midnight-given a.year _ a.month a.day _ (to_z-of_z c.ranges.year) c.from_calendar.ensures ∙ ap julian_outcome c.in-Date.is in
+    rw (
+      m,
+      leap-called (rows_in a.size a.months.now a.seconds.now) a.year _ _ _ a.month a.day _ (to_z-of_z c.ranges.year)
+          (to_z_pos w32 {n = a.month} (omega (arith, c.ranges.month.fits))) (to_z_pos w32 {n = a.day} (omega (arith, c.ranges.day.fits)))
+          c.leap_at_end_of_day_by_arrays.ensures
+          ∙ ap (λ (x : SecondsByRule). forget (seconds_by_rule_outcome x)) c.in-Seconds.is,
+      ← c.day_fraction.ensures,
+    ) c.at_time.ensures
+
+pub utc_from_calendar_by_arrays_spec : {M : Type 1} → statement M
+utc_from_calendar_by_arrays_spec =
     tie.close
     (tie.spec (λ c κs. search rules) (λ c. search rules) (λ c. search rules) (λ c. search rules) (λ c. search rules) (λ c κs. search rules)
     (λ c. search rules) (λ c. search rules) (λ c κs. search rules) (λ c κs. search rules) returns returns-2 returns-3)

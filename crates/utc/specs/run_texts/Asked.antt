@@ -1,5 +1,5 @@
 -- What the functions below the call ask and ensure. Assumes nothing.
-use Rattle.std.specs.Prelude.{ℕ, ◌+◌, ◌*◌, ◌≤◌, ◌≡◌, List, length}
+use Rattle.std.specs.Prelude.{ℕ, ◌*◌, ◌≤◌, ◌≡◌, List, length}
 use Rattle.refusals.specs.Outcome.{Outcome}
 use Rattle.utc.specs.declared.run_texts.Beside.{Beside}
 use Rattle.utc.specs.iso_texts.TextCall.{buffer_holds}

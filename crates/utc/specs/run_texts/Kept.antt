@@ -29,7 +29,8 @@ time_characters t = two t.hour ++ ((58 ∷ []) ++ (two t.minute ++ ((58 ∷ []) 
 
 -- the first eleven bytes, one by one
 abbrev pub eleven : List ℕ → List ℕ
-eleven d = get_or d 0 0 ∷ get_or d 1 0 ∷ get_or d 2 0 ∷ get_or d 3 0 ∷ get_or d 4 0 ∷ get_or d 5 0 ∷ get_or d 6 0 ∷ get_or d 7 0 ∷ get_or d 8 0 ∷ get_or d 9 0 ∷ get_or d 10 0 ∷ []
+eleven d = get_or d 0 0 ∷ get_or d 1 0 ∷ get_or d 2 0 ∷ get_or d 3 0 ∷ get_or d 4 0 ∷ get_or d 5 0 ∷ get_or d 6 0 ∷ get_or d 7 0 ∷ get_or d 8 0 ∷ get_or d 9 0 ∷
+    get_or d 10 0 ∷ []
 
 -- ---- the day
 -- 5373483.5, the midnight of 9999-12-31

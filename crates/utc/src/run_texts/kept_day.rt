@@ -13,7 +13,7 @@ use julian::JulianDate;
 
 // The day whose midnight is the Julian date `midnight`, the first part of the stamp before: `end` is the milliseconds at which the next day begins, and 0 where
 // no stamp is served; `leap` is the leap that counts, and `date` is YYYY-MM-DDT.
-#[derive(Drop)]
+#[derive(Clone, Copy)]
 pub(crate) struct KeptDay {
     pub midnight: f64,
     pub looked_up: bool,
@@ -191,7 +191,7 @@ fn put_time(textForm: NamedForm, fraction: f64, kept: KeptDay, out: &mut [u8]) -
         if count < 86401000 {
             let date = kept.date;
             let all = day_bytes(date, count as u32);
-            bytes::copy(&all, out);
+            numerals::place::copy(&all, out);
             return true;
         }
     }

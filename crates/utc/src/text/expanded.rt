@@ -31,7 +31,7 @@ fn put_signed(
         return TextAnswer::Refused(refusals::NO_ROOM);
     }
     let first = sign(negative);
-    let n = bytes::copy(&all, &mut out[1..]);
+    let n = numerals::place::copy(&all, &mut out[1..]);
     out[0] = first;
     TextAnswer::Written(1 + n)
 }

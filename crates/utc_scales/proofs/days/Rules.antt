@@ -79,7 +79,8 @@ module _ (rows : List Row) (x y : Float) where
   unfolding offset_of_date_by_rule rule_of_date offset_of_date
   offset-forgets = go (julian_to_calendar x y) refl
     where
-      go : (w : Outcome CalendarFields) → julian_to_calendar x y ≡ w → forget (pass_on (offset_of_date rows x y) (rule_of_date rows x y)) ≡ offset_of_date rows x y
+      go : (w : Outcome CalendarFields) → julian_to_calendar x y ≡ w → forget (pass_on (offset_of_date rows x y) (rule_of_date rows x y))
+          ≡ offset_of_date rows x y
       go (answer c) e = passed_forgets _ _ _ (went _ e)
       go (refusal k) e = refused-forgets _ _ k (stopped _ e)
 

@@ -25,7 +25,8 @@ use Rattle.utc_scales.proofs.drift.Drift.{utc-to-tai-on-line}
 pub same_row : (n : ℕ) → row_on (suc n) ≡ row_on n → NoStep n
 same_row n e = record {
   same = subst
-      (λ (r : Row). r.units * 1000 + (n - 2400000) * r.rate + (row_on n).start * (row_on n).rate ≡ (row_on n).units * 1000 + (n - 2400000) * (row_on n).rate + r.start * r.rate) (sym e) refl;
+      (λ (r : Row). r.units * 1000 + (n - 2400000) * r.rate + (row_on n).start * (row_on n).rate ≡ (row_on n).units * 1000 + (n - 2400000) *
+      (row_on n).rate + r.start * r.rate) (sym e) refl;
 }
 
 -- ---- the row of a date

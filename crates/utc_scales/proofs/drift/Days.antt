@@ -80,7 +80,8 @@ year-of n l h = go (date_of (pos n)).year refl
         side true e = omega (arith, ltb-true y 1972 e)
         side false e = absurd (k e)
 
-    go : (z : ℤ) → (date_of (pos n)).year ≡ z → lt_z (date_of (pos n)).year (pos 1961) ≡ false → (y : ℕ) × ((date_of (pos n)).year ≡ pos y) × (1961 ≤ y) × (y ≤ 1971)
+    go : (z : ℤ) → (date_of (pos n)).year ≡ z → lt_z (date_of (pos n)).year (pos 1961) ≡ false → (y : ℕ) × ((date_of (pos n)).year ≡ pos y) × (1961 ≤ y) ×
+        (y ≤ 1971)
     go (pos y) e k = (
       y,
       e,
@@ -92,7 +93,8 @@ year-of n l h = go (date_of (pos n)).year refl
 
 -- ---- the formula of a day's row, at 0h and at 12h
 formula_at : (n : ℕ) → 2437301 ≤ n → n ≤ 2441317 → (f x : Float) → T (fits binary64 f)
-    → tai_utc_offset fixed (date_of (pos n)).year (pos (date_of (pos n)).month) (pos (date_of (pos n)).day) f ≡ answer x → NearFormula (row_on n) (n - 2400001) f x
+    → tai_utc_offset fixed (date_of (pos n)).year (pos (date_of (pos n)).month) (pos (date_of (pos n)).day) f ≡ answer x → NearFormula (row_on n)
+    (n - 2400001) f x
 unfolding row_on month_number
 formula_at n l h f x g e = go (year-of n l h)
   where

@@ -141,7 +141,8 @@ at_noon k = seconds-of H half-L k
 
 -- ---- a day without a step
 pub no_step : (n : ℕ) → 2437301 ≤ n → NoStep n
-    → row_plus (row_on (suc n)) (suc n - 2400001) + row_minus (row_on n) ≡ row_plus (row_on n) (n - 2400001) + 2 * half_drift (row_on n) + row_minus (row_on (suc n))
+    → row_plus (row_on (suc n)) (suc n - 2400001) + row_minus (row_on n) ≡ row_plus (row_on n) (n - 2400001) + 2 * half_drift (row_on n) + row_minus
+    (row_on (suc n))
 no_step n l k =
     let r = row_on n in
     let r' = row_on (suc n) in

@@ -235,7 +235,8 @@ module _ {v : Float} {A : ℕ} (a : Sec v A 0 6010) (h : A ≤ 25920000 * L) whe
       (subst (λ (i : ℕ). 2 * (86400 * quotient.p + 1 * longer.n) ≤ 2 * (86400 * quotient.n + 1 * longer.p) + 86400 * i) w-is quotient.over) longer_over
     where
       go : (p n q m w : ℕ) → L ≡ 4503599627370496 * w → 2 * (86400 * p + 1 * m) ≤ 2 * (86400 * n + 1 * q) + 86400 * w
-          → 1000000000000000 * q ≤ 1000000000000000 * m + (day_fs * L + 100000 * A) + 13286 * L → day_fs * p ≤ day_fs * n + (day_fs * L + 100000 * A) + 22880 * L
+          → 1000000000000000 * q ≤ 1000000000000000 * m + (day_fs * L + 100000 * A) + 13286 * L → day_fs * p ≤ day_fs * n +
+          (day_fs * L + 100000 * A) + 22880 * L
       go p n q m w u k l = omega arith
 
   ends-under : day_fs * quotient.n + (day_fs * L + 100000 * A) ≤ day_fs * quotient.p + 22880 * L
@@ -243,7 +244,8 @@ module _ {v : Float} {A : ℕ} (a : Sec v A 0 6010) (h : A ≤ 25920000 * L) whe
       (subst (λ (i : ℕ). 2 * (86400 * quotient.n + 1 * longer.p) ≤ 2 * (86400 * quotient.p + 1 * longer.n) + 86400 * i) w-is quotient.under) longer_under
     where
       go : (p n q m w : ℕ) → L ≡ 4503599627370496 * w → 2 * (86400 * n + 1 * q) ≤ 2 * (86400 * p + 1 * m) + 86400 * w
-          → 1000000000000000 * m + (day_fs * L + 100000 * A) ≤ 1000000000000000 * q + 13286 * L → day_fs * n + (day_fs * L + 100000 * A) ≤ day_fs * p + 22880 * L
+          → 1000000000000000 * m + (day_fs * L + 100000 * A) ≤ 1000000000000000 * q + 13286 * L → day_fs * n +
+          (day_fs * L + 100000 * A) ≤ day_fs * p + 22880 * L
       go p n q m w u k l = omega arith
 
   pub factor : Factor (div binary64 (add binary64 seconds_per_day v) seconds_per_day) A

@@ -72,7 +72,8 @@ module _ (t : AnnouncedRows) where
   by-its-rows rows e (utc-ut1 dut1) d = went _ e
   by-its-rows rows e (ut1-utc dut1) d = went _ e
 
-  pub announced_not_finite : (rows : List Row) → table_of t ≡ answer rows → (k : Twenty) (d : JulianDate) → reads_table k ≡ true → finite (given_offset k) ≡ true
+  pub announced_not_finite : (rows : List Row) → table_of t ≡ answer rows → (k : Twenty) (d : JulianDate) → reads_table k ≡ true → finite (given_offset k)
+      ≡ true
       → finite_parts d ≡ false → announced_answer t k d ≡ refusal (not_finite_number k)
   announced_not_finite rows e k d r f h = by-its-rows rows e k d ∙ rows-not-finite rows k d r f h
 

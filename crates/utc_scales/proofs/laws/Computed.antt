@@ -95,7 +95,8 @@ module _ (rows : List Row) where
 
   -- by the calendar's own function they are the calls' answers
   by_calendar : (c : Twenty) (d : JulianDate) → answer_of_any rows c d ≡ answer_by julian_to_calendar c d
-  unfolding answer_of_any answer_by utc_to_tai_by tai_by rounds_by offset_in scan_day_by scan_by utc_by utc_to_tai tai_fraction tai_to_utc refine_utc_fraction rounds refined
+  unfolding answer_of_any answer_by utc_to_tai_by tai_by rounds_by offset_in scan_day_by scan_by utc_by utc_to_tai tai_fraction tai_to_utc refine_utc_fraction
+      rounds refined
       utc_to_ut1 offset_of_date ut1_to_utc utc_fraction adjust_dut1 scan scan_day
   by_calendar (by-formula k) d = refl
   by_calendar utc_tai d = refl
@@ -106,11 +107,14 @@ module _ (rows : List Row) where
   -- ---- as a check computes them
   unfoldable pub computed : Twenty → JulianDate → Outcome JulianDate
   unfolding answer_by by_division utc_to_tai_by tai_by rounds_by offset_in scan_day_by scan_by utc_by divided_date day_number_and_fraction onward
-      fixed month_number reached seconds_of start_of rate_of by_row offset_by offset_at in_day tai_utc_offset day_offsets drift_rate leap_amount mjd_of mjd_number civil_count
+      fixed month_number reached seconds_of start_of rate_of by_row offset_by offset_at in_day tai_utc_offset day_offsets drift_rate leap_amount mjd_of
+      mjd_number civil_count
       valid_date next_of next days_in_month leap_size lengths
-      offset_at0h offsets_of midnight_of calendar_to_julian first_is_kept kept_parts put_beside placed change_smaller stretch_day_fraction tai_from_midnight moved
+      offset_at0h offsets_of midnight_of calendar_to_julian first_is_kept kept_parts put_beside placed change_smaller stretch_day_fraction tai_from_midnight
+      moved
       before_step time_past_leap at_most_one after_step near_step until_step
-      finite_jd finite_arg answer_of converted_by finite_both finite_offset changed Shifts.first_is_larger Shifts.parts_of Shifts.put_back Shifts.map_smaller_part plus
+      finite_jd finite_arg answer_of converted_by finite_both finite_offset changed Shifts.first_is_larger Shifts.parts_of Shifts.put_back
+      Shifts.map_smaller_part plus
       minus days_of seconds_per_day mjd_zero_point
       abs round of_bits of_int add sub mul div neg lt le eq
   computed c d = literal_date (answer_by by_division c d)

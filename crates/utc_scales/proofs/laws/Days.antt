@@ -42,7 +42,8 @@ date_in x y = gregorian_date (day_of x y).day
 
 pub data Kind (x y : Float) : Type 0 where
   outside : D.accepted x y ≡ false → day_number_and_fraction x y ≡ refusal 6 → Kind x y
-  before : D.accepted x y ≡ true → day_number_and_fraction x y ≡ answer (day_of x y) → early (date_in x y) ≡ true → valid_of (date_in x y) ≡ refusal 1 → Kind x y
+  before : D.accepted x y ≡ true → day_number_and_fraction x y ≡ answer (day_of x y) → early (date_in x y) ≡ true → valid_of (date_in x y) ≡ refusal 1
+      → Kind x y
   valid : D.accepted x y ≡ true → day_number_and_fraction x y ≡ answer (day_of x y) → early (date_in x y) ≡ false → valid_of (date_in x y) ≡ answer tt
       → InDays (day_of x y).day → Kind x y
 

@@ -7,7 +7,7 @@ use mathlib.Core.List.{List}
 use Prim.Native.Nat.{ℕ, zero, suc, ◌+◌}
 use lib.Dec.{lit≤}
 use lib.IntN.{pos, negsuc}
-use lib.Ieee.{Float, binary64, of_int, add, sub, lt, fits}
+use lib.Ieee.{Float, binary64, of_int, add, sub, lt}
 use lib.Ieee.Fits.{add-fits}
 use Rattle.refusals.specs.Outcome.{Outcome, answer}
 use Rattle.floats.specs.Whole.{abs, nought, half}
@@ -130,7 +130,8 @@ module _ (t : AnnouncedRows) (rows : List Row) (taken : table_of t ≡ answer ro
     scan-size : (k i : ℕ) (earlier : Float) → Size earlier 11 → Holds (λ z. Size z 84) SixOrOne (scan rows big small dut1 k i earlier)
     unfolding scan
     scan-size zero i earlier z = answers (size-more 30 84 (lit≤ tt) sd)
-    scan-size (suc k) i earlier z = holds-onward _ (scan-day-size (of_int binary64 (pos i)) earlier z) (λ s h. until-size _ (λ x w. scan-size k (i + 1) x w) s h)
+    scan-size (suc k) i earlier z = holds-onward _ (scan-day-size (of_int binary64 (pos i)) earlier z)
+        (λ s h. until-size _ (λ x w. scan-size k (i + 1) x w) s h)
 
     utc-part-size : Holds (λ z. Size z 85) SixOrOne (utc_fraction rows dut1 big small)
     unfolding utc_fraction adjust_dut1

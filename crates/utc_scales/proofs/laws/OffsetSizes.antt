@@ -145,7 +145,8 @@ less-mid n h k = go (ltb n 2432076)
     go false = (omega arith, omega arith)
 
 mid_at : (y : ℤ) (m d : ℕ) → 1 ≤ m → m ≤ 12 → d ≤ 31 → 23520 ≤ month_number y m → month_number y m < 23664
-    → (plus_z (sub_ℕ (civil_count (nat_abs (y +ℤ pos 4800)) m d) 2432076) ≤ 65536) × (minus_z (sub_ℕ (civil_count (nat_abs (y +ℤ pos 4800)) m d) 2432076) ≤ 65536)
+    → (plus_z (sub_ℕ (civil_count (nat_abs (y +ℤ pos 4800)) m d) 2432076) ≤ 65536) ×
+    (minus_z (sub_ℕ (civil_count (nat_abs (y +ℤ pos 4800)) m d) 2432076) ≤ 65536)
 unfolding month_number
 mid_at (pos y) m d a b c p q = let h = civil_mid (y + 4800) m d (omega arith) (omega arith) b c in less-mid _ h.0 h.1
 mid_at (negsuc y) m d a b c p q = absurd (omega arith)

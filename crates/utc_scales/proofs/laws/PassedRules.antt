@@ -35,7 +35,8 @@ bits n = of_bits binary64 n
 
 -- ---- the rule of the day of two parts, its date by the Rust's divisions
 unfoldable ruled : List Row → Float → Float → Outcome Rule
-unfolding day_number_and_fraction divided_date onward rule_on rule_at rule_of rule_by fixed month_number reached abs to_whole nearest_int round of_bits of_int add sub div
+unfolding day_number_and_fraction divided_date onward rule_on rule_at rule_of rule_by fixed month_number reached abs to_whole nearest_int round of_bits of_int
+    add sub div
     neg lt le eq to_signed
 ruled rows x y = onward (onward (day_number_and_fraction x y) (λ n. answer (fields (divided_date n.day) n.fraction))) (λ c. answer (rule_on rows c.date))
 

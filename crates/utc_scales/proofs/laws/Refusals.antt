@@ -136,7 +136,8 @@ module _ (rows : List Row) (big small dut1 : Float) (f : Fits big) where
   scan-refuses : (k i : ℕ) (earlier : Float) → Holds Any SixOrOne (scan rows big small dut1 k i earlier)
   unfolding scan
   scan-refuses zero i earlier = answers tt
-  scan-refuses (suc k) i earlier = holds-onward _ (scan-day-refuses (of_int binary64 (pos i)) earlier) (λ s _. until-refuses _ (λ x. scan-refuses k (i + 1) x) s)
+  scan-refuses (suc k) i earlier = holds-onward _ (scan-day-refuses (of_int binary64 (pos i)) earlier)
+      (λ s _. until-refuses _ (λ x. scan-refuses k (i + 1) x) s)
 
   fraction-refuses : Holds Any SixOrOne (utc_fraction rows dut1 big small)
   unfolding utc_fraction adjust_dut1

@@ -31,17 +31,20 @@ abbrev bits : ℕ → Float
 bits n = of_bits binary64 n
 
 pub short-leap : leap_at_end_of_day short_rows (pos 2029) (pos 12) (pos 31) ≡ answer (bits 0xbff0_0000_0000_0000)
-unfolding leap_at_end_of_day leap_of day_offsets next_of next tai_utc_offset onward mjd_of mjd_number civil_count valid_date days_in_month lengths leap_size offset_at offset_by
+unfolding leap_at_end_of_day leap_of day_offsets next_of next tai_utc_offset onward mjd_of mjd_number civil_count valid_date days_in_month lengths leap_size
+    offset_at offset_by
     by_row seconds_of round of_bits of_int add sub mul in_day le fixed month_number reached
 short-leap = refl
 
 pub long-leap : leap_at_end_of_day short_rows (pos 2035) (pos 6) (pos 30) ≡ answer one
-unfolding leap_at_end_of_day leap_of day_offsets next_of next tai_utc_offset onward mjd_of mjd_number civil_count valid_date days_in_month lengths leap_size offset_at offset_by
+unfolding leap_at_end_of_day leap_of day_offsets next_of next tai_utc_offset onward mjd_of mjd_number civil_count valid_date days_in_month lengths leap_size
+    offset_at offset_by
     by_row seconds_of round of_bits of_int add sub mul in_day le fixed month_number reached
 long-leap = refl
 
 pub no_leap : leap_at_end_of_day short_rows (pos 2029) (pos 12) (pos 30) ≡ answer nought
-unfolding leap_at_end_of_day leap_of day_offsets next_of next tai_utc_offset onward mjd_of mjd_number civil_count valid_date days_in_month lengths leap_size offset_at offset_by
+unfolding leap_at_end_of_day leap_of day_offsets next_of next tai_utc_offset onward mjd_of mjd_number civil_count valid_date days_in_month lengths leap_size
+    offset_at offset_by
     by_row seconds_of round of_bits of_int add sub mul in_day le fixed month_number reached
 no_leap = refl
 

@@ -1,6 +1,6 @@
 -- UT1 TO UTC LOOKS AT FIVE DAYS, from the day before to three days later: where TAI-UTC does not step by 0.5 s or more from one of them to the next, DUT1 is
 -- taken as it is, whatever is before and after. And worked cases: a step of 0.1 s, and the step of 0.943482 s into 1960 from each side. Assumes nothing.
-use mathlib.Core.Path.{◌≡◌, refl}
+use mathlib.Core.Path.{◌≡◌}
 use mathlib.Core.Bool.{true, cond}
 use mathlib.Core.List.{List}
 use Prim.Native.Nat.{ℕ}
@@ -16,7 +16,7 @@ use Rattle.julian.specs.JulianDate.{julian}
 use Rattle.julian.specs.Calendar.{julian_to_calendar}
 use Rattle.leap_table.specs.rows.Table.{Row, fixed}
 use Rattle.utc_scales.specs.days.Dates.{offset_at0h, offset_of_date, midnight_of}
-use Rattle.utc_scales.specs.from_ut1.Ut1Utc.{Scanned, noStep, step, near_step, scan_day, until_step, scan, adjust_dut1}
+use Rattle.utc_scales.specs.from_ut1.Ut1Utc.{noStep, step, near_step, scan_day, until_step, scan, adjust_dut1}
 use Rattle.utc_scales.specs.laws.Twenty.{Twenty, ut1-utc, answer_of_any}
 use Rattle.utc_scales.proofs.laws.Computed.{computed, as_computed}
 

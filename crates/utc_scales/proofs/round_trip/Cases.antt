@@ -12,7 +12,7 @@ use Rattle.calendar.specs.Refusals.{valid_date}
 use Rattle.calendar.specs.DayCount.{mjd_of, mjd_number, civil_count}
 use Rattle.calendar.proofs.Mjd.{date-of-mjd}
 use Rattle.rounding.specs.Value.{L}
-use Rattle.leap_table.specs.rows.Table.{Row, fixed, reached, month_number, last_seconds}
+use Rattle.leap_table.specs.rows.Table.{Row, fixed, reached, month_number}
 use Rattle.leap_table.specs.offsets.Offset.{seconds_in}
 use Rattle.utc_scales.specs.round_trip.UtcDays.{H, month_on, seconds_on, leap_after, short_after}
 use Rattle.utc_scales.specs.round_trip.Relation.{tai_over_utc}
@@ -67,11 +67,11 @@ new_year_2030 : date_of (pos 2462503) ≡ date (pos 2030) 1 1
 unfolding mjd_of mjd_number civil_count valid_date days_in_month lengths leap_size onward
 new_year_2030 = sym (date-of 2462503 (omega arith)) ∙ date-of-mjd (pos 2030) (pos 1) (pos 1) (pos 62502) refl refl
 
-short-start : seconds_on short_rows 2462502 ≡ last_seconds
+short-start : seconds_on short_rows 2462502 ≡ 36 + 1
 unfolding fixed reached month_number
 short-start = seconds-by short_rows 2462502 (date (pos 2029) 12 31) last-of-2029
 
-short-end : seconds_on short_rows 2462503 ≡ last_seconds - 1
+short-end : seconds_on short_rows 2462503 ≡ 36
 unfolding fixed reached month_number
 short-end = seconds-by short_rows 2462503 (date (pos 2030) 1 1) new_year_2030
 
@@ -96,7 +96,7 @@ long-less = omega (arith, ap (λ (z : ℕ). z * (2457754 * L)) leap-second, ap (
 short-num : (tai_over_utc short_rows 2462502).num ≡ 86399
 short-num = omega (arith, left_out, none_in)
 
-short-more : (tai_over_utc short_rows 2462502).more ≡ last_seconds * L + 2462502 * L
+short-more : (tai_over_utc short_rows 2462502).more ≡ (36 + 1) * L + 2462502 * L
 short-more = omega (arith, ap (λ (z : ℕ). z * L) short-start, ap (λ (z : ℕ). z * H) none_in, ap (λ (z : ℕ). z * (2462502 * L)) left_out)
 
 short-less : (tai_over_utc short_rows 2462502).less ≡ H

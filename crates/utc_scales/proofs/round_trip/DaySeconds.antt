@@ -116,7 +116,8 @@ module _ (n : ℕ) (g : 2441318 ≤ n) (k : n < 1000000000) where
 pub record WholeTable (rows : List Row) : Type 0 where
   pub whole : (n : ℕ) → 2441318 ≤ n → n < 1000000000 → WholeSeconds rows n
   pub day-offsets : (n : ℕ) → 2441318 ≤ n → n < 1000000000
-      → offsets_of rows (gregorian_date (pos n)) ≡ answer (offsets (whole_f (seconds_on rows n)) (whole_f (seconds_on rows n)) (whole_f (seconds_on rows (suc n))))
+      → offsets_of rows (gregorian_date (pos n)) ≡ answer (offsets (whole_f (seconds_on rows n)) (whole_f (seconds_on rows n))
+      (whole_f (seconds_on rows (suc n))))
 
 module _ (t : AnnouncedRows) (rows : List Row) (e : table_of t ≡ answer rows) where
   module _ (n : ℕ) (g : 2441318 ≤ n) (k : n < 1000000000) where
@@ -124,20 +125,23 @@ module _ (t : AnnouncedRows) (rows : List Row) (e : table_of t ≡ answer rows) 
     later = omega arith
 
     -- ---- the seconds: those of the month, and of the next day's month
-    near : (seconds_on rows (suc n) ≡ seconds_on rows n) ⊎ ((seconds_on rows (suc n) ≡ seconds_on rows n + 1) ⊎ (seconds_on rows n ≡ seconds_on rows (suc n) + 1))
+    near : (seconds_on rows (suc n) ≡ seconds_on rows n) ⊎ ((seconds_on rows (suc n) ≡ seconds_on rows n + 1) ⊎
+        (seconds_on rows n ≡ seconds_on rows (suc n) + 1))
     unfolding seconds_on
     near = go (month-next n g k).0 (month-next n g k).1
       where
         in_month : (b : Bool) → member (suc (month_on n)) (starts rows) ≡ b → month_on (suc n) ≡ suc (month_on n)
             → (seconds_in rows (month_on (suc n)) ≡ seconds_in rows (month_on n))
-            ⊎ ((seconds_in rows (month_on (suc n)) ≡ seconds_in rows (month_on n) + 1) ⊎ (seconds_in rows (month_on n) ≡ seconds_in rows (month_on (suc n)) + 1))
+            ⊎ ((seconds_in rows (month_on (suc n)) ≡ seconds_in rows (month_on n) + 1) ⊎
+            (seconds_in rows (month_on n) ≡ seconds_in rows (month_on (suc n)) + 1))
         in_month false b q = inl (ap (seconds_in rows) q ∙ seconds-stay t rows e (month_on n) (month-1972 n g) b)
         in_month true b q =
             inr (subst (λ (m : ℕ). (seconds_in rows m ≡ seconds_in rows (month_on n) + 1) ⊎ (seconds_in rows (month_on n) ≡ seconds_in rows m + 1)) (sym q)
             (seconds-step t rows e (month_on n) (month-1972 n g) b))
 
         go : (b : Bool) → month_on (suc n) ≡ cond b (month_on n) (suc (month_on n)) → (seconds_in rows (month_on (suc n)) ≡ seconds_in rows (month_on n))
-            ⊎ ((seconds_in rows (month_on (suc n)) ≡ seconds_in rows (month_on n) + 1) ⊎ (seconds_in rows (month_on n) ≡ seconds_in rows (month_on (suc n)) + 1))
+            ⊎ ((seconds_in rows (month_on (suc n)) ≡ seconds_in rows (month_on n) + 1) ⊎
+            (seconds_in rows (month_on n) ≡ seconds_in rows (month_on (suc n)) + 1))
         go true q = inl (ap (seconds_in rows) q)
         go false q = in_month (member (suc (month_on n)) (starts rows)) refl q
 
@@ -154,7 +158,8 @@ module _ (t : AnnouncedRows) (rows : List Row) (e : table_of t ≡ answer rows) 
         made D E (inr (inl q)) = let a : 1 ≡ E - D = omega arith in let b : 0 ≡ D - E = omega arith in (subst₂ Ending a b ends_longer, omega arith)
         made D E (inr (inr q)) = let a : 0 ≡ E - D = omega arith in let b : 1 ≡ D - E = omega arith in (subst₂ Ending a b ends_shorter, omega arith)
 
-        go : (seconds_on rows (suc n) ≡ seconds_on rows n) ⊎ ((seconds_on rows (suc n) ≡ seconds_on rows n + 1) ⊎ (seconds_on rows n ≡ seconds_on rows (suc n) + 1))
+        go : (seconds_on rows (suc n) ≡ seconds_on rows n) ⊎ ((seconds_on rows (suc n) ≡ seconds_on rows n + 1) ⊎
+            (seconds_on rows n ≡ seconds_on rows (suc n) + 1))
             → WholeSeconds rows n
         go c =
             let m = made (seconds_on rows n) (seconds_on rows (suc n)) c in

@@ -122,7 +122,8 @@ module _ {rows : List Row} (b : WholeTable rows) {a u : Float} {A up un : ℕ} (
   abbrev Sum : {B : Type 0} → (s * f ≤ f → s' * f ≤ f → D * L ≤ most_seconds * L → B) → B
   Sum law = law (share f seconds.ending).0 (share f seconds.ending).1 (mul-le-mul_right L few)
 
-  pub day-sum : ValClose L (add binary64 (stretch_day_fraction o (day_of a u).fraction) (div binary64 (whole_f D) seconds_per_day)) (stretched.p + offset-days.p)
+  pub day-sum : ValClose L (add binary64 (stretch_day_fraction o (day_of a u).fraction) (div binary64 (whole_f D) seconds_per_day))
+      (stretched.p + offset-days.p)
       (stretched.n + offset-days.n) h
   day-sum =
       add_close

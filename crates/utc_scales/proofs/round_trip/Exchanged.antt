@@ -98,7 +98,8 @@ module _ {rows : List Row} (t : WholeTable rows) where
 
   tai-answer : {d y : JulianDate} → HalfDaySplit d → tai_to_utc rows d ≡ answer y → tai_to_utc rows (exchanged d) ≡ answer (exchanged y)
   unfolding tai_to_utc
-  tai-answer {d} {y} s e = let w = (second-part s).2 in changed-exchanged (refine_utc_fraction rows) d y (is-first (first_part s) w) (is-second (first_part s) w) e
+  tai-answer {d} {y} s e = let w = (second-part s).2 in changed-exchanged (refine_utc_fraction rows) d y (is-first (first_part s) w)
+      (is-second (first_part s) w) e
 
   utc-exchanged : {d : JulianDate} → HalfDaySplit d → RightTai rows 77 (exchanged d)
   utc-exchanged s =

@@ -24,7 +24,8 @@ pub record FixedDay (n : ℕ) : Type 0 where
   pub most : seconds_on fixed n + leap_after fixed n ≤ last_seconds
 
 module _ (n : ℕ) (g : 2441318 ≤ n) (k : n < 1000000000) where
-  rows_next : (b : Bool) × (reached (starts fixed) (month_on (suc n)) ≡ cond b (suc (reached (starts fixed) (month_on n))) (reached (starts fixed) (month_on n)))
+  rows_next : (b : Bool) × (reached (starts fixed) (month_on (suc n)) ≡ cond b (suc (reached (starts fixed) (month_on n)))
+      (reached (starts fixed) (month_on n)))
   rows_next = go (month-next n g k).0 (month-next n g k).1
     where
       go : (b : Bool) → month_on (suc n) ≡ cond b (month_on n) (suc (month_on n)) → (c : Bool)

@@ -20,19 +20,7 @@ use Rattle.rounding.specs.Picoseconds.{day_ps}
 use Rattle.scales.proofs.laws.Meant.{Meant, worth-unique}
 use Rattle.utc_scales.specs.UtcTai.{utc_to_tai}
 use Rattle.utc_scales.specs.round_trip.Ranges.{HalfDaySplit}
-use Rattle.utc_scales.specs.round_trip.UtcDays.{
-  H,
-  seconds_on,
-  leap_after,
-  short_after,
-  Ending,
-  ends_plain,
-  ends_longer,
-  ends_shorter,
-  WholeSeconds,
-  OnDay,
-  ExactDay,
-}
+use Rattle.utc_scales.specs.round_trip.UtcDays.{H, seconds_on, Ending, ends_plain, ends_longer, ends_shorter, WholeSeconds, OnDay, ExactDay}
 use Rattle.utc_scales.specs.round_trip.Relation.{tai_over_utc, RightTai}
 use Rattle.utc_scales.proofs.round_trip.Units.{h, L-H, L-h, h_small, next_midnight}
 use Rattle.utc_scales.proofs.round_trip.Parts.{Stamp, stamp-of, parts-joined, parts-worth, first_part, second-part}

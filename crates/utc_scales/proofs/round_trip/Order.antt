@@ -63,7 +63,8 @@ module _ (p m p' m' W W' G G' : ℕ) where
   to-utc k (inl g) i j l = omega arith
   to-utc k (inr g) i j l = omega (arith, L-pos)
 
-far : (n m f e : ℕ) → FixedDay n → FixedDay m → f < L → e < L → n * L + f ≤ m * L + e → Far (n * L + f) (m * L + e) (tai_utc_at fixed n f) (tai_utc_at fixed m e)
+far : (n m f e : ℕ) → FixedDay n → FixedDay m → f < L → e < L → n * L + f ≤ m * L + e → Far (n * L + f) (m * L + e) (tai_utc_at fixed n f)
+    (tai_utc_at fixed m e)
 unfolding Far
 far n m f e t r b c k = relation_rises n m f e t r b c k
 

@@ -3,7 +3,6 @@
 use mathlib.Core.Path.{◌≡◌}
 use mathlib.Core.List.{List}
 use Prim.Native.Nat.{ℕ, ◌+◌, ◌*◌, ◌≤◌}
-use native.Mathlib.Omega.{arith}
 use lib.Dec.{lit≤}
 use lib.Ieee.{Float}
 use Rattle.refusals.specs.Outcome.{answer}
@@ -19,20 +18,13 @@ use Rattle.utc_scales.specs.round_trip.Ranges.{HalfDaySplit}
 use Rattle.utc_scales.specs.round_trip.UtcDays.{H}
 use Rattle.utc_scales.specs.round_trip.RoundTrip.{ThereAndBack}
 use Rattle.utc_scales.proofs.round_trip.Units.{h, L-h}
+use Rattle.utc_scales.proofs.round_trip.Picoseconds.{over, under}
 use Rattle.utc_scales.proofs.round_trip.Parts.{parts-joined, first_part}
 use Rattle.utc_scales.proofs.round_trip.DaySeconds.{WholeTable, table-whole, fixed-whole}
 use Rattle.utc_scales.proofs.round_trip.Residuals.{end, back_again}
 use Rattle.utc_scales.proofs.round_trip.Rounds.{date_seen, offset_seen, tai-near, found}
 
 -- ---- in picoseconds
-over : (A bp bn rp rn Q h : ℕ) → Q ≡ 9007199254740992 * h → 86400 * (rp + bn) ≤ 86400 * (rn + bp) + back_again * h
-    → 86400000000000000 * (1 * (A + rp) + 1 * bn + 0) ≤ 86400000000000000 * (1 * rn + 1 * (A + bp) + 0) + 173 * (1 * Q)
-over A bp bn rp rn Q h e k = omega arith
-
-under : (A bp bn rp rn Q h : ℕ) → Q ≡ 9007199254740992 * h → 86400 * (rn + bp) ≤ 86400 * (rp + bn) + back_again * h
-    → 86400000000000000 * (1 * rn + 1 * (A + bp) + 0) ≤ 86400000000000000 * (1 * (A + rp) + 1 * bn + 0) + 173 * (1 * Q)
-under A bp bn rp rn Q h e k = omega arith
-
 -- r is what comes back for b
 back-apart : {a b r : Float} {A bp bn rp rn : ℕ} → Val a A 0 L → Val b bp bn L → Val r rp rn L → (86400 * (rp + bn) ≤ 86400 * (rn + bp) + back_again * h)
     × (86400 * (rn + bp) ≤ 86400 * (rp + bn) + back_again * h)

@@ -71,7 +71,8 @@ plain-stretch k f l =
     (λ i. factors f ((stay k l).1 i) (no_drift k (whole_f k) l i))
     ∙ (λ i. mul binary64 (mul binary64 f (plain-day i)) (plain-day i))
 
-pub longer_stretch : (k : ℕ) (f : Float) → k < 64 → stretch_day_fraction (offsets (whole_f k) (whole_f k) (whole_f (suc k))) f ≡ mul binary64 (mul binary64 f K) one
+pub longer_stretch : (k : ℕ) (f : Float) → k < 64 → stretch_day_fraction (offsets (whole_f k) (whole_f k) (whole_f (suc k))) f ≡ mul binary64
+    (mul binary64 f K) one
 unfolding stretch_day_fraction
 longer_stretch k f l =
     (λ i. factors f ((step-up k l).1 i) (no_drift k (whole_f (suc k)) l i))

@@ -1,7 +1,7 @@
 -- A date about a leap second: (2457753.5, 0.25), 6h UT1 of 2016-12-31. The scan finds the leap second at the end of that day on its third day. Assumes nothing.
 use mathlib.Core.Path.{◌≡◌, refl, sym, ap, ◌∙◌, subst}
 use mathlib.Core.Bool.{false}
-use Prim.Native.Nat.{ℕ, zero, suc, ◌+◌, ◌-◌, ◌*◌, ◌^◌, ◌≤◌, ◌<◌}
+use Prim.Native.Nat.{ℕ, zero, suc, ◌+◌, ◌*◌, ◌^◌, ◌≤◌, ◌<◌}
 use native.Mathlib.Nat.{lt_of_mul-lt-mul_right, add-mul}
 use native.Mathlib.Omega.{arith}
 use lib.Dec.{lit≤}

@@ -32,19 +32,7 @@ use Rattle.leap_table.specs.offsets.Offset.{whole_f}
 use Rattle.leap_days.proofs.drift.Tests.{each, same_f, same_float}
 use Rattle.utc_scales.specs.days.Dates.{offset_of_date}
 use Rattle.utc_scales.specs.days.LargerPart.{first_is_kept}
-use Rattle.utc_scales.specs.from_ut1.Ut1Utc.{
-  noStep,
-  step,
-  scan_day,
-  scan,
-  before_step,
-  after_step,
-  time_past_leap,
-  near_step,
-  adjust_dut1,
-  utc_fraction,
-  ut1_to_utc,
-}
+use Rattle.utc_scales.specs.from_ut1.Ut1Utc.{noStep, step, scan_day, scan, before_step, time_past_leap, near_step, adjust_dut1, utc_fraction, ut1_to_utc}
 use Rattle.utc_scales.specs.round_trip.UtcDays.{H}
 use Rattle.utc_scales.specs.round_trip.Ranges.{HalfDaySplit}
 use Rattle.utc_scales.specs.ut1_laws.Near.{LeapFound, near_ps, RightUtcNear}

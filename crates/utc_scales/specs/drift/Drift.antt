@@ -20,11 +20,17 @@ row_on n = row_at (reached (starts fixed) (month_number (date_of (pos n)).year (
 -- the row's line through all days: TAI = UTC + (seconds + (UTC - 2400000.5 - start) * rate) / 86400, in units of 10^-10 s, of which 864 * 10 ^ 12 are
 -- a day; all of it twice, since 2400000.5 is a half
 abbrev pub line : Row → Meaning
-line r = record { num = 2 * (864000000000000 + r.rate); den = 2 * 864000000000000; more = 2 * (r.units * 1000) * L; less = (2 * r.start + 4800001) * r.rate * L }
+line r = record {
+  num = 2 * (864000000000000 + r.rate);
+  den = 2 * 864000000000000;
+  more = 2 * (r.units * 1000) * L;
+  less = (2 * r.start + 4800001) * r.rate * L;
+}
 
 -- a day that ends without a step: at its end its row says what the next day's row says then, day n being Modified Julian Date n - 2400001
 pub record NoStep (n : ℕ) : Type 0 where
-  pub same : (row_on (suc n)).units * 1000 + (n - 2400000) * (row_on (suc n)).rate + (row_on n).start * (row_on n).rate ≡ (row_on n).units * 1000 + (n - 2400000) * (row_on n).rate + (row_on (suc n)).start * (row_on (suc n)).rate
+  pub same : (row_on (suc n)).units * 1000 + (n - 2400000) * (row_on (suc n)).rate + (row_on n).start * (row_on n).rate
+      ≡ (row_on n).units * 1000 + (n - 2400000) * (row_on n).rate + (row_on (suc n)).start * (row_on (suc n)).rate
 
 -- jd1 is midnight of day n, from 1961-01-01 to 1971-12-30, and 0 ≤ jd2 < 1. (1971-12-31 ends with a step.)
 pub record DriftDate (n : ℕ) (d : JulianDate) : Type 0 where

@@ -10,7 +10,7 @@ use julian::day_number::DayAnswer;
 use leap_table::offsets::SecondsByRule;
 
 // A month, and TAI-UTC at 0h of one of its days: from 1972 on that of all of them.
-#[derive(Drop)]
+#[derive(Clone, Copy)]
 pub(crate) struct KnownMonth {
     pub year: i32,
     pub month: u32,
@@ -18,7 +18,7 @@ pub(crate) struct KnownMonth {
 }
 
 // The same, or the number of the refusal.
-#[derive(Drop)]
+#[derive(Clone, Copy)]
 pub(crate) enum MonthAnswer {
     Month(KnownMonth),
     Refused(u32),

@@ -7,8 +7,7 @@ use Rattle.c_answers.proofs.date_parts.difference.Tie as tie
 
 returns : tie.Need-returns
 returns c =
-    let n = c.before in
-    c.sub.ensures ∙ λ i. difference (n.before.new.ensures i) (n.new2.ensures i)
+    c.sub.ensures ∙ λ i. difference (c.new.ensures i) (c.new-2.ensures i)
 
-pub difference-spec : {M : Type 1} → statement M
-difference-spec = tie.close (tie.spec (λ c κs. search rules) (λ c κs. search rules) (λ c κs. search rules) returns)
+pub difference_spec : {M : Type 1} → statement M
+difference_spec = tie.close (tie.spec (λ c κs. search rules) (λ c κs. search rules) (λ c κs. search rules) returns)

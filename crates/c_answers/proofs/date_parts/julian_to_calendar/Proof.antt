@@ -7,9 +7,8 @@ use Rattle.c_answers.proofs.date_parts.julian_to_calendar.Tie as tie
 
 returns : tie.Need-returns
 returns c =
-    let p = c.before.before in
-    same_outcome calendar_bytes p.put-calendar.type-inv p.before.before.julian-to-calendar.ensures p.put-calendar.ensures
+    same_outcome calendar_bytes c.put_calendar.type_inv c.julian_to_calendar.ensures c.put_calendar.ensures
 
-pub julian-to-calendar-spec : {M : Type 1} → statement M
-julian-to-calendar-spec =
+pub julian_to_calendar_spec : {M : Type 1} → statement M
+julian_to_calendar_spec =
     tie.close (tie.spec (λ c κs. search rules) (λ c κs. search rules) (λ c. search rules) returns)

@@ -7,17 +7,16 @@ use borrow.Author.Rules.{rules}
 use Rattle.c_answers.proofs.date_parts.put_calendar.Statement.{statement}
 use Rattle.c_answers.proofs.date_parts.put_calendar.Tie as tie
 
-returns : tie.Need-returns
+returns : tie.Need-returns-in-Fields
 unfolding calendar_outcome
 returns c =
-    let p = c.before.before in
-    delivered_answer calendar_bytes p.put-calendar.type-inv _ (ap calendar_outcome p.before.before.before.found.given.1) p.put-calendar.ensures
+    delivered_answer calendar_bytes c.put_calendar.type_inv _ (ap calendar_outcome c.in-Fields.is) c.put_calendar.ensures
 
-returns-2 : tie.Need-returns-2
+returns-2 : tie.Need-returns-in-Refused
 unfolding calendar_outcome
-returns-2 c = refused-on calendar_bytes c.refused.type-inv _ (ap calendar_outcome c.before.before.found2.given.1) c.refused.ensures
+returns-2 c = refused-on calendar_bytes c.refused.type_inv _ (ap calendar_outcome c.in-Refused.is) c.refused.ensures
 
-pub put-calendar-spec : {M : Type 1} → statement M
-put-calendar-spec =
+pub put_calendar_spec : {M : Type 1} → statement M
+put_calendar_spec =
     tie.close
     (tie.spec (λ c. search rules) (λ c κs. search rules) (λ c. search rules) (λ c κs. search rules) (λ c. search rules) returns returns-2)

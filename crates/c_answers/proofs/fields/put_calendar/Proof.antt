@@ -7,22 +7,21 @@ use borrow.Author.Rules.{rules}
 use Rattle.c_answers.proofs.fields.put_calendar.Statement.{statement}
 use Rattle.c_answers.proofs.fields.put_calendar.Tie as tie
 
-returns : tie.Need-returns
+returns : tie.Need-returns-then-out-lt20
 unfolding calendar_bytes date_bytes
-returns c = too_short (calendar_bytes c.before.before.before.args.shown) c.before.before.before.args.out.now _ c.before.if1.true
-    (code-back c.refused.type-inv ∙ c.refused.ensures)
+returns c = too_short (calendar_bytes c.args.shown) c.args.out.now _ c.if-out-lt20.true
+    (code-back c.refused.type_inv ∙ c.refused.ensures)
 
-returns-2 : tie.Need-returns-2
+returns-2 : tie.Need-returns
 unfolding calendar_bytes date_bytes
 returns-2 c =
-    let back = c.before.before.before.before.before.before.before.before in
-    let a = back.before.before.args in
+    let a = c.args in
     in_two (date_bytes a.shown.date) (float_bytes a.shown.fraction) a.out.now _ _ 12 20 refl refl
-    back.if1.false c.before.before.before.before.before.before.put-date.ensures
-    c.before.before.put-float.ensures
+    c.if-out-lt20.false c.put_date.ensures
+    c.put_float.ensures
 
-pub put-calendar-spec : {M : Type 1} → statement M
-put-calendar-spec =
+pub put_calendar_spec : {M : Type 1} → statement M
+put_calendar_spec =
     tie.close
     (tie.spec (λ c κs. search rules) returns (λ c κs. search rules) (λ c. search rules) (λ c. search rules) (λ c. search rules) (λ c κs. search rules)
     (λ c. search rules) returns-2)

@@ -8,11 +8,9 @@ use Rattle.c_answers.proofs.fields.put_float.Tie as tie
 
 returns : tie.Need-returns
 returns c =
-    let p = c.before.before in
-    let b = p.before.before.before in
-    same_bytes p.put.type-inv (b.bytes-of-u64.ensures ∙ ap eight_bytes b.before.to-bits.ensures) p.put.ensures
+    same_bytes c.put.type_inv (c.bytes_of_u64-all.ensures ∙ ap eight_bytes c.to_bits.ensures) c.put.ensures
 
-pub put-float-spec : {M : Type 1} → statement M
-put-float-spec =
+pub put_float_spec : {M : Type 1} → statement M
+put_float_spec =
     tie.close
     (tie.spec (λ c κs. search rules) (λ c κs. search rules) (λ c. search rules) (λ c κs. search rules) (λ c. search rules) returns)

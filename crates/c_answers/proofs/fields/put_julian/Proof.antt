@@ -11,15 +11,12 @@ use Rattle.c_answers.proofs.fields.put_julian.Tie as tie
 returns : tie.Need-returns
 unfolding julian_bytes
 returns c =
-    let p = c.before.before in
-    let t = p.before.before.before in
-    let b = t.before in
-    same_bytes p.put.type-inv
-    (t.two-patterns.ensures ∙ λ i. eight_bytes (b.before.to-bits.ensures i) ++ eight_bytes (b.to-bits2.ensures i))
-    p.put.ensures
+    same_bytes c.put.type_inv
+    (c.two_patterns-all.ensures ∙ λ i. eight_bytes (c.to_bits.ensures i) ++ eight_bytes (c.to_bits-2.ensures i))
+    c.put.ensures
 
-pub put-julian-spec : {M : Type 1} → statement M
-put-julian-spec =
+pub put_julian_spec : {M : Type 1} → statement M
+put_julian_spec =
     tie.close
     (tie.spec (λ c κs. search rules) (λ c κs. search rules) (λ c κs. search rules) (λ c. search rules) (λ c κs. search rules) (λ c. search rules)
     returns)

@@ -6,8 +6,7 @@ use Rattle.c_answers.proofs.fields.put_two_numbers.Tie as tie
 
 returns : tie.Need-returns
 returns c =
-    let p = c.before.before in
-    same_bytes p.put.type-inv p.before.before.before.two-numbers.ensures p.put.ensures
+    same_bytes c.put.type_inv c.two_numbers-all.ensures c.put.ensures
 
-pub put-two-numbers-spec : {M : Type 1} → statement M
-put-two-numbers-spec = tie.close (tie.spec (λ c κs. search rules) (λ c. search rules) (λ c κs. search rules) (λ c. search rules) returns)
+pub put_two_numbers_spec : {M : Type 1} → statement M
+put_two_numbers_spec = tie.close (tie.spec (λ c κs. search rules) (λ c. search rules) (λ c κs. search rules) (λ c. search rules) returns)

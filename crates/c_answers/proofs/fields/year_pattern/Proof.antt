@@ -12,7 +12,7 @@ wider : (c : tie.Start) → SFits w64 (to_z w32 (of_z w32 c.args.year))
 wider c = subst (SFits w64) (sym (to_z-of_z c.ranges.year)) (sfits_widen tt c.ranges.year)
 
 returns : tie.Need-returns
-returns c = c.pattern-of-i64.ensures ∙ ap pattern_of (to_z-of_z {w = w64} (wider c.before) ∙ to_z-of_z c.before.ranges.year)
+returns c = c.pattern_of_i64.ensures ∙ ap pattern_of (to_z-of_z {w = w64} (wider c.before) ∙ to_z-of_z c.ranges.year)
 
-pub year-pattern-spec : {M : Type 1} → statement M
-year-pattern-spec = tie.close (tie.spec (λ c. wider c) (λ c κs. search rules) returns)
+pub year_pattern_spec : {M : Type 1} → statement M
+year_pattern_spec = tie.close (tie.spec (λ c. wider c) (λ c κs. search rules) returns)

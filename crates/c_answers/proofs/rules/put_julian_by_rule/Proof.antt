@@ -8,22 +8,21 @@ use borrow.Author.Rules.{rules}
 use Rattle.c_answers.proofs.rules.put_julian_by_rule.Statement.{statement}
 use Rattle.c_answers.proofs.rules.put_julian_by_rule.Tie as tie
 
-returns : tie.Need-returns
+returns : tie.Need-returns-then-out-lt24
 unfolding julian_rule_bytes julian_bytes
-returns c = too_short (julian_rule_bytes (c.before.before.before.args.date, c.before.before.before.args.rule))
-    c.before.before.before.args.out.now _ c.before.if1.true (code-back c.refused.type-inv ∙ c.refused.ensures)
+returns c = too_short (julian_rule_bytes (c.args.date, c.args.rule))
+    c.args.out.now _ c.if-out-lt24.true (code-back c.refused.type_inv ∙ c.refused.ensures)
 
-returns-2 : tie.Need-returns-2
+returns-2 : tie.Need-returns
 unfolding julian_rule_bytes julian_bytes
 returns-2 c =
-    let back = c.before.before.before.before.before.before.before.before in
-    let a = back.before.before.args in
+    let a = c.args in
     in_two (julian_bytes a.date) (rule_bytes a.rule) a.out.now _ _ 16 24 refl refl
-    back.if1.false
-    c.before.before.before.before.before.before.put-julian.ensures c.before.before.put-rule.ensures
+    c.if-out-lt24.false
+    c.put_julian.ensures c.put_rule.ensures
 
-pub put-julian-by-rule-spec : {M : Type 1} → statement M
-put-julian-by-rule-spec =
+pub put_julian_by_rule_spec : {M : Type 1} → statement M
+put_julian_by_rule_spec =
     tie.close
     (tie.spec (λ c κs. search rules) returns (λ c κs. search rules) (λ c. search rules) (λ c. search rules) (λ c. search rules) (λ c κs. search rules)
     (λ c. search rules) returns-2)

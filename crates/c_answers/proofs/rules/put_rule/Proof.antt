@@ -8,12 +8,10 @@ use Rattle.c_answers.proofs.rules.put_rule.Tie as tie
 
 returns : tie.Need-returns
 returns c =
-    let p = c.before.before in
-    let b = p.before.before in
-    same_bytes p.put-two-numbers.type-inv (λ i. four_bytes (b.before.rule-number.ensures i) ++ four_bytes (b.row-pattern.ensures i))
-    p.put-two-numbers.ensures
+    same_bytes c.put_two_numbers.type_inv (λ i. four_bytes (c.rule_number.ensures i) ++ four_bytes (c.row_pattern.ensures i))
+    c.put_two_numbers.ensures
 
-pub put-rule-spec : {M : Type 1} → statement M
-put-rule-spec =
+pub put_rule_spec : {M : Type 1} → statement M
+put_rule_spec =
     tie.close
     (tie.spec (λ c κs. search rules) (λ c κs. search rules) (λ c κs. search rules) (λ c. search rules) returns)

@@ -5,18 +5,18 @@ use borrow.Author.Rules.{rules}
 use Rattle.c_answers.proofs.rules.row_pattern.Statement.{statement}
 use Rattle.c_answers.proofs.rules.row_pattern.Tie as tie
 
-returns : tie.Need-returns
+returns : tie.Need-returns-in-Absent
 unfolding row_pattern
-returns c = sym (ap row_pattern c.enum_told.given.1)
+returns c = sym (ap row_pattern c.in-Absent.is)
 
-returns-2 : tie.Need-returns-2
+returns-2 : tie.Need-returns-in-Drifting
 unfolding row_pattern
-returns-2 c = sym (ap row_pattern c.before.rule.given.1)
+returns-2 c = sym (ap row_pattern c.in-Drifting.is)
 
-returns-3 : tie.Need-returns-3
+returns-3 : tie.Need-returns-in-Whole
 unfolding row_pattern
-returns-3 c = sym (ap row_pattern c.before.rule2.given.1)
+returns-3 c = sym (ap row_pattern c.in-Whole.is)
 
-pub row-pattern-spec : {M : Type 1} → statement M
-row-pattern-spec =
+pub row_pattern_spec : {M : Type 1} → statement M
+row_pattern_spec =
     tie.close (tie.spec (λ c. search rules) (λ c. search rules) (λ c. search rules) returns returns-2 returns-3)

@@ -5,18 +5,18 @@ use borrow.Author.Rules.{rules}
 use Rattle.c_answers.proofs.rules.rule_number.Statement.{statement}
 use Rattle.c_answers.proofs.rules.rule_number.Tie as tie
 
-returns : tie.Need-returns
+returns : tie.Need-returns-in-Absent
 unfolding rule_number
-returns c = sym (ap rule_number c.enum_told.given.1)
+returns c = sym (ap rule_number c.in-Absent.is)
 
-returns-2 : tie.Need-returns-2
+returns-2 : tie.Need-returns-in-Drifting
 unfolding rule_number
-returns-2 c = sym (ap rule_number c.enum-told2.given.1)
+returns-2 c = sym (ap rule_number c.in-Drifting.is)
 
-returns-3 : tie.Need-returns-3
+returns-3 : tie.Need-returns-in-Whole
 unfolding rule_number
-returns-3 c = sym (ap rule_number c.enum-told3.given.1)
+returns-3 c = sym (ap rule_number c.in-Whole.is)
 
-pub rule-number-spec : {M : Type 1} → statement M
-rule-number-spec =
+pub rule_number_spec : {M : Type 1} → statement M
+rule_number_spec =
     tie.close (tie.spec (λ c. search rules) (λ c. search rules) (λ c. search rules) returns returns-2 returns-3)

@@ -5,7 +5,7 @@ use Rattle.c_answers.proofs.table.numbers_at.Statement.{statement}
 use Rattle.c_answers.proofs.table.numbers_at.Tie as tie
 
 returns : tie.Need-returns
-returns c = λ i h. c.put-numbers.ensures refl i h
+returns c = λ i h. c.put_numbers.ensures refl i h
 
-pub numbers-at-spec : {M : Type 1} → statement M
-numbers-at-spec = tie.close (tie.spec (λ c κs. search rules) returns)
+pub numbers_at_spec : {M : Type 1} → statement M
+numbers_at_spec = tie.close (tie.spec (λ c κs. search rules) returns)

@@ -7,18 +7,17 @@ use borrow.Author.Rules.{rules}
 use Rattle.c_answers.proofs.table.table_number.Statement.{statement}
 use Rattle.c_answers.proofs.table.table_number.Tie as tie
 
-returns : tie.Need-returns
+returns : tie.Need-returns-then-length-ne136
 unfolding of_length
-returns c = rw (ne_eqb _ _ c.if1.true)
+returns c = rw (ne_eqb _ _ c.if-length-ne136.true)
 
-returns-2 : tie.Need-returns-2
+returns-2 : tie.Need-returns-then-lend_none
 returns-2 c =
-    let n = c.before in
-    refuses-none _ _ n.before.if1.false (sym n.lend-none.ensures ∙ c.if2.true)
+    refuses-none _ _ c.if-length-ne136.false (sym c.lend_none.ensures ∙ c.if-lend_none.true)
 
-returns-3 : tie.Need-returns-3
+returns-3 : tie.Need-returns
 unfolding of_length
-returns-3 c = c.table-refusal.ensures ∙ rw (eq-eqb _ _ c.before.before.before.if1.false)
+returns-3 c = c.table_refusal.ensures ∙ rw (eq-eqb _ _ c.if-length-ne136.false)
 
-pub table-number-spec : {M : Type 1} → statement M
-table-number-spec = tie.close (tie.spec returns (λ c κs. search rules) returns-2 (λ c κs. search rules) returns-3)
+pub table_number_spec : {M : Type 1} → statement M
+table_number_spec = tie.close (tie.spec returns (λ c κs. search rules) returns-2 (λ c κs. search rules) returns-3)

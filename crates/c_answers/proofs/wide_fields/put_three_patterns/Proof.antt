@@ -9,22 +9,20 @@ use borrow.Author.Rules.{rules}
 use Rattle.c_answers.proofs.wide_fields.put_three_patterns.Statement.{statement}
 use Rattle.c_answers.proofs.wide_fields.put_three_patterns.Tie as tie
 
-returns : tie.Need-returns
+returns : tie.Need-returns-then-out-lt24
 returns c =
-    let a = c.before.before.before.args in
-    too_short (three_eights a.a a.b a.c) a.out.now _ c.before.if1.true (code-back c.refused.type-inv ∙ c.refused.ensures)
+    let a = c.args in
+    too_short (three_eights a.a a.b a.c) a.out.now _ c.if-out-lt24.true (code-back c.refused.type_inv ∙ c.refused.ensures)
 
-returns-2 : tie.Need-returns-2
+returns-2 : tie.Need-returns
 returns-2 c =
-    let back = c.before.before.before.before.before.before.before.before in
-    let b = back.before.before in
-    let a = b.before.before.before.before.args in
-    in_two (eight_bytes a.a ++ eight_bytes a.b) (eight_bytes a.c) a.out.now _ _ 16 24 refl refl b.before.before.if1.false
-    (of_bytes b.before.two-patterns.ensures c.before.before.before.before.before.before.before.put.ensures)
-    (of_bytes b.bytes-of-u64.ensures c.before.before.put2.ensures)
+    let a = c.args in
+    in_two (eight_bytes a.a ++ eight_bytes a.b) (eight_bytes a.c) a.out.now _ _ 16 24 refl refl c.if-out-lt24.false
+    (of_bytes c.two_patterns-first.ensures c.put.ensures)
+    (of_bytes c.bytes_of_u64-last.ensures c.put-2.ensures)
 
-pub put-three-patterns-spec : {M : Type 1} → statement M
-put-three-patterns-spec =
+pub put_three_patterns_spec : {M : Type 1} → statement M
+put_three_patterns_spec =
     tie.close
     (tie.spec (λ c κs. search rules) returns (λ c κs. search rules) (λ c κs. search rules) (λ c. search rules) (λ c κs. search rules)
     (λ c. search rules) (λ c. search rules) (λ c. search rules) (λ c. search rules) (λ c κs. search rules) (λ c. search rules) returns-2)

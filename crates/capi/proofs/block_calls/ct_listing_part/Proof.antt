@@ -6,9 +6,9 @@ use borrow.Author.Rules.{rules}
 use Rattle.capi.proofs.block_calls.ct_listing_part.Statement.{statement}
 use Rattle.capi.proofs.block_calls.ct_listing_part.Tie as tie
 
-deliver-part-requires : tie.Need-deliver-part-requires
+deliver-part-requires : tie.Need-deliver_part-requires
 unfolding line_room Wide
 deliver-part-requires c κs = (refl, tt)
 
-pub ct-listing-part-spec : {M : Type 1} → statement M
-ct-listing-part-spec = tie.close (tie.spec deliver-part-requires (λ c. search rules) (λ c. search rules))
+pub ct_listing_part_spec : {M : Type 1} → statement M
+ct_listing_part_spec = tie.close (tie.spec deliver-part-requires (λ c. search rules) (λ c. search rules))

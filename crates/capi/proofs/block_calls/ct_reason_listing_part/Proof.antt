@@ -7,9 +7,9 @@ use borrow.Author.Rules.{rules}
 use Rattle.capi.proofs.block_calls.ct_reason_listing_part.Statement.{statement}
 use Rattle.capi.proofs.block_calls.ct_reason_listing_part.Tie as tie
 
-deliver-part-requires : tie.Need-deliver-part-requires
+deliver-part-requires : tie.Need-deliver_part-requires
 unfolding line_room
-deliver-part-requires c κs = (refl, bytes-width _ _ (omega arith) (λ k. omega (arith, c.before.before.before.shared-slice-known.given k)))
+deliver-part-requires c κs = (refl, bytes-width _ _ (omega arith) (λ k. omega (arith, c.shared_slice_known-1.given k)))
 
-pub ct-reason-listing-part-spec : {M : Type 1} → statement M
-ct-reason-listing-part-spec = tie.close (tie.spec deliver-part-requires (λ c. search rules) (λ c. search rules))
+pub ct_reason_listing_part_spec : {M : Type 1} → statement M
+ct_reason_listing_part_spec = tie.close (tie.spec deliver-part-requires (λ c. search rules) (λ c. search rules))

@@ -7,41 +7,33 @@ use borrow.Author.Rules.{rules}
 use Rattle.capi.proofs.block_calls.deliver_part.Statement.{statement}
 use Rattle.capi.proofs.block_calls.deliver_part.Tie as tie
 
-returns : tie.Need-returns
+returns : tie.Need-returns-then-number-ne0
 returns c =
-    let n = c.before.before in
-    text-table-refused _ n.before.announced-rows-at.result n.table-number.result n.table-number.ensures n.before.announced-rows-at.ensures _
-    c.refused.type-inv c.before.if1.true
+    text-table-refused _ c.announced_rows_at-rows.result c.table_number-number.result c.table_number-number.ensures c.announced_rows_at-rows.ensures _
+    c.refused.type_inv c.if-number-ne0.true
     c.refused.ensures
 
-returns-2 : tie.Need-returns-2
+returns-2 : tie.Need-returns-then-out-room
 returns-2 c =
-    let n = c.before.before.before in
-    let t = n.before.announced-rows-at.result in
-    let st = n.before.before.before.before.before in
-    let a = st.args in
-    text-with-rows _ t n.table-number.result n.table-number.ensures n.before.announced-rows-at.ensures _ c.before.before.if1.false
-    (no_room a.reporting (rows_of t) a.block.now a.out.now a.line c.refused2.type-inv (omega (arith, c.before.if2.true, st.requires.0))
-    c.refused2.ensures)
+    let t = c.announced_rows_at-rows.result in
+    let a = c.args in
+    text-with-rows _ t c.table_number-number.result c.table_number-number.ensures c.announced_rows_at-rows.ensures _ c.if-number-ne0.false
+    (no_room a.reporting (rows_of t) a.block.now a.out.now a.line c.refused-then-out-room.type_inv (omega (arith, c.if-out-room.true, c.requires.0))
+    c.refused-then-out-room.ensures)
 
-cast-result : tie.Need-overflow-cast-result
+cast-result : tie.Need-overflow_cast-result
 cast-result c =
-    let back = c.before.before.before.before.before.before.before.before in
-    count_fits back.before.before.before.requires.1
-    c.before.before.next-part-by-rows.ensures
+    count_fits c.requires.1
+    c.next_part_by_rows-part.ensures
 
-returns-3 : tie.Need-returns-3
+returns-3 : tie.Need-returns
 returns-3 c =
-    let p = c.before.before in
-    let i = p.before.before in
-    let n = i.before.before in
-    let st = n.before.before.before.before.before in
-    text-with-rows _ n.before.announced-rows-at.result n.table-number.result n.table-number.ensures n.before.announced-rows-at.ensures _
-    i.before.if1.false
-    (part-put st.requires.1 p.next-part-by-rows.ensures (omega (arith, i.if2.false, st.requires.0)))
+    text-with-rows _ c.announced_rows_at-rows.result c.table_number-number.result c.table_number-number.ensures c.announced_rows_at-rows.ensures _
+    c.if-number-ne0.false
+    (part-put c.requires.1 c.next_part_by_rows-part.ensures (omega (arith, c.if-out-room.false, c.requires.0)))
 
-pub deliver-part-spec : {M : Type 1} → statement M
-deliver-part-spec =
+pub deliver_part_spec : {M : Type 1} → statement M
+deliver_part_spec =
     tie.close
     (tie.spec (λ c κs. search rules) (λ c κs. search rules) (λ c κs. search rules) returns (λ c κs. search rules) returns-2 (λ c κs. search rules)
     cast-result (λ c. search rules) returns-3)

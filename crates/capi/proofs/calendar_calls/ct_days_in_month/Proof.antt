@@ -11,9 +11,8 @@ use Rattle.capi.proofs.calendar_calls.ct_days_in_month.Tie as tie
 
 returns : tie.Need-returns
 returns c =
-    let s = c.before in
-    to_z_pos w64 {n = c.days-in-month.result} (omega (arith, c.days-in-month.type-inv))
-    ∙ ap pos (c.days-in-month.ensures ∙ read-two s.args.year s.args.month s.ranges.year s.ranges.month)
+    to_z_pos w64 {n = c.days_in_month.result} (omega (arith, c.days_in_month.type_inv))
+    ∙ ap pos (c.days_in_month.ensures ∙ read-two c.args.year c.args.month c.ranges.year c.ranges.month)
 
-pub ct-days-in-month-spec : {M : Type 1} → statement M
-ct-days-in-month-spec = tie.close (tie.spec (λ c κs. search rules) (λ c. search rules) returns)
+pub ct_days_in_month_spec : {M : Type 1} → statement M
+ct_days_in_month_spec = tie.close (tie.spec (λ c κs. search rules) (λ c. search rules) returns)

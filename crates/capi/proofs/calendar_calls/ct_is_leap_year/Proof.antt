@@ -8,11 +8,11 @@ use borrow.Author.Rules.{rules}
 use Rattle.capi.proofs.calendar_calls.ct_is_leap_year.Statement.{statement}
 use Rattle.capi.proofs.calendar_calls.ct_is_leap_year.Tie as tie
 
-returns : tie.Need-returns
-returns c = ap truth (sym c.if1.true ∙ c.before.is-leap-year.ensures ∙ ap (λ (y : ℤ). leap_year y) (to_z-of_z c.before.before.ranges.year))
+returns : tie.Need-returns-then-is_leap_year
+returns c = ap truth (sym c.if-is_leap_year.true ∙ c.is_leap_year.ensures ∙ ap (λ (y : ℤ). leap_year y) (to_z-of_z c.ranges.year))
 
-returns-2 : tie.Need-returns-2
-returns-2 c = ap truth (sym c.if1.false ∙ c.before.is-leap-year.ensures ∙ ap (λ (y : ℤ). leap_year y) (to_z-of_z c.before.before.ranges.year))
+returns-2 : tie.Need-returns-else-is_leap_year
+returns-2 c = ap truth (sym c.if-is_leap_year.false ∙ c.is_leap_year.ensures ∙ ap (λ (y : ℤ). leap_year y) (to_z-of_z c.ranges.year))
 
-pub ct-is-leap-year-spec : {M : Type 1} → statement M
-ct-is-leap-year-spec = tie.close (tie.spec (λ c κs. search rules) returns returns-2)
+pub ct_is_leap_year_spec : {M : Type 1} → statement M
+ct_is_leap_year_spec = tie.close (tie.spec (λ c κs. search rules) returns returns-2)

@@ -10,13 +10,10 @@ use Rattle.capi.proofs.calendar_calls.ct_next_calendar_day.Tie as tie
 
 returns : tie.Need-returns
 returns c =
-    let p = c.before.before in
-    let n = p.before.before in
-    let s = n.before.before in
-    same_outcome date_bytes p.put_next.type-inv
-    (n.next-calendar-day.ensures ∙ read-date next_of _ _ _ s.ranges.year s.ranges.month s.ranges.day)
-    p.put_next.ensures
+    same_outcome date_bytes c.put_next.type_inv
+    (c.next_calendar_day.ensures ∙ read-date next_of _ _ _ c.ranges.year c.ranges.month c.ranges.day)
+    c.put_next.ensures
 
-pub ct-next-calendar-day-spec : {M : Type 1} → statement M
-ct-next-calendar-day-spec =
+pub ct_next_calendar_day_spec : {M : Type 1} → statement M
+ct_next_calendar_day_spec =
     tie.close (tie.spec (λ c κs. search rules) (λ c κs. search rules) (λ c. search rules) returns)

@@ -7,17 +7,16 @@ use borrow.Author.Rules.{rules}
 use Rattle.capi.proofs.calendar_calls.put_next.Statement.{statement}
 use Rattle.capi.proofs.calendar_calls.put_next.Tie as tie
 
-returns : tie.Need-returns
+returns : tie.Need-returns-in-Date
 unfolding next_outcome
 returns c =
-    let p = c.before.before in
-    delivered_answer date_bytes p.put-date.type-inv _ (ap next_outcome p.before.before.before.found.given.1) p.put-date.ensures
+    delivered_answer date_bytes c.put_date.type_inv _ (ap next_outcome c.in-Date.is) c.put_date.ensures
 
-returns-2 : tie.Need-returns-2
+returns-2 : tie.Need-returns-in-Refused
 unfolding next_outcome
-returns-2 c = refused-on date_bytes c.refused.type-inv _ (ap next_outcome c.before.before.found2.given.1) c.refused.ensures
+returns-2 c = refused-on date_bytes c.refused.type_inv _ (ap next_outcome c.in-Refused.is) c.refused.ensures
 
-pub put-next-spec : {M : Type 1} → statement M
-put-next-spec =
+pub put_next_spec : {M : Type 1} → statement M
+put_next_spec =
     tie.close
     (tie.spec (λ c. search rules) (λ c κs. search rules) (λ c. search rules) (λ c κs. search rules) (λ c. search rules) returns returns-2)

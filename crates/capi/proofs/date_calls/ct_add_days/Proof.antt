@@ -10,13 +10,10 @@ use Rattle.capi.proofs.date_calls.ct_add_days.Tie as tie
 
 returns : tie.Need-returns
 returns c =
-    let p = c.before.before in
-    let n = p.before.before in
-    let s = n.before.before.before in
-    same_bytes p.put-julian.type-inv
-    (ap julian_bytes (n.add-days.ensures ∙ ap (λ (d : JulianDate). add_days d s.args.days) n.before.new.ensures))
-    p.put-julian.ensures
+    same_bytes c.put_julian.type_inv
+    (ap julian_bytes (c.add_days.ensures ∙ ap (λ (d : JulianDate). add_days d c.args.days) c.new.ensures))
+    c.put_julian.ensures
 
-pub ct-add-days-spec : {M : Type 1} → statement M
-ct-add-days-spec =
+pub ct_add_days_spec : {M : Type 1} → statement M
+ct_add_days_spec =
     tie.close (tie.spec (λ c κs. search rules) (λ c κs. search rules) (λ c κs. search rules) (λ c. search rules) returns)

@@ -10,13 +10,10 @@ use Rattle.capi.proofs.date_calls.ct_add_seconds.Tie as tie
 
 returns : tie.Need-returns
 returns c =
-    let p = c.before.before in
-    let n = p.before.before in
-    let s = n.before.before.before in
-    same_bytes p.put-julian.type-inv
-    (ap julian_bytes (n.add-seconds.ensures ∙ ap (λ (d : JulianDate). add_seconds d s.args.seconds) n.before.new.ensures))
-    p.put-julian.ensures
+    same_bytes c.put_julian.type_inv
+    (ap julian_bytes (c.add_seconds.ensures ∙ ap (λ (d : JulianDate). add_seconds d c.args.seconds) c.new.ensures))
+    c.put_julian.ensures
 
-pub ct-add-seconds-spec : {M : Type 1} → statement M
-ct-add-seconds-spec =
+pub ct_add_seconds_spec : {M : Type 1} → statement M
+ct_add_seconds_spec =
     tie.close (tie.spec (λ c κs. search rules) (λ c κs. search rules) (λ c κs. search rules) (λ c. search rules) returns)

@@ -10,13 +10,10 @@ use Rattle.capi.proofs.date_calls.ct_calendar_to_julian.Tie as tie
 
 returns : tie.Need-returns
 returns c =
-    let p = c.before.before in
-    let n = p.before.before in
-    let s = n.before.before in
-    same_outcome julian_bytes p.put-date.type-inv
-    (n.calendar-to-julian.ensures ∙ read-date calendar_to_julian _ _ _ s.ranges.year s.ranges.month s.ranges.day)
-    p.put-date.ensures
+    same_outcome julian_bytes c.put_date.type_inv
+    (c.calendar_to_julian.ensures ∙ read-date calendar_to_julian _ _ _ c.ranges.year c.ranges.month c.ranges.day)
+    c.put_date.ensures
 
-pub ct-calendar-to-julian-spec : {M : Type 1} → statement M
-ct-calendar-to-julian-spec =
+pub ct_calendar_to_julian_spec : {M : Type 1} → statement M
+ct_calendar_to_julian_spec =
     tie.close (tie.spec (λ c κs. search rules) (λ c κs. search rules) (λ c. search rules) returns)

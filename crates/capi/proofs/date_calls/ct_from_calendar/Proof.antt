@@ -11,14 +11,11 @@ use Rattle.capi.proofs.date_calls.ct_from_calendar.Tie as tie
 
 returns : tie.Need-returns
 returns c =
-    let p = c.before.before in
-    let n = p.before.before in
-    let s = n.before.before in
-    let a = s.args in
-    same_outcome julian_bytes p.put-date.type-inv
-    (n.from-calendar.ensures ∙ ap (λ (y : ℤ). from_calendar y a.month a.day a.hour a.minute a.second) (to_z-of_z s.ranges.year))
-    p.put-date.ensures
+    let a = c.args in
+    same_outcome julian_bytes c.put_date.type_inv
+    (c.from_calendar.ensures ∙ ap (λ (y : ℤ). from_calendar y a.month a.day a.hour a.minute a.second) (to_z-of_z c.ranges.year))
+    c.put_date.ensures
 
-pub ct-from-calendar-spec : {M : Type 1} → statement M
-ct-from-calendar-spec =
+pub ct_from_calendar_spec : {M : Type 1} → statement M
+ct_from_calendar_spec =
     tie.close (tie.spec (λ c κs. search rules) (λ c κs. search rules) (λ c. search rules) returns)

@@ -8,9 +8,8 @@ use Rattle.capi.proofs.date_calls.ct_from_julian_year.Tie as tie
 
 returns : tie.Need-returns
 returns c =
-    let p = c.before.before in
-    same_bytes p.put-julian.type-inv (ap julian_bytes p.before.before.from-julian-year.ensures) p.put-julian.ensures
+    same_bytes c.put_julian.type_inv (ap julian_bytes c.from_julian_year.ensures) c.put_julian.ensures
 
-pub ct-from-julian-year-spec : {M : Type 1} → statement M
-ct-from-julian-year-spec =
+pub ct_from_julian_year_spec : {M : Type 1} → statement M
+ct_from_julian_year_spec =
     tie.close (tie.spec (λ c κs. search rules) (λ c κs. search rules) (λ c. search rules) returns)

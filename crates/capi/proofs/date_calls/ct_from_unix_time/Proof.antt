@@ -11,13 +11,10 @@ use Rattle.capi.proofs.date_calls.ct_from_unix_time.Tie as tie
 
 returns : tie.Need-returns
 returns c =
-    let p = c.before.before in
-    let n = p.before.before in
-    let s = n.before.before in
-    same_bytes p.put-julian.type-inv
-    (ap julian_bytes (n.from-unix-time.ensures ∙ ap (λ (z : ℤ). from_unix_time z s.args.nanos) (to_z-of_z s.ranges.seconds)))
-    p.put-julian.ensures
+    same_bytes c.put_julian.type_inv
+    (ap julian_bytes (c.from_unix_time.ensures ∙ ap (λ (z : ℤ). from_unix_time z c.args.nanos) (to_z-of_z c.ranges.seconds)))
+    c.put_julian.ensures
 
-pub ct-from-unix-time-spec : {M : Type 1} → statement M
-ct-from-unix-time-spec =
+pub ct_from_unix_time_spec : {M : Type 1} → statement M
+ct_from_unix_time_spec =
     tie.close (tie.spec (λ c κs. search rules) (λ c κs. search rules) (λ c. search rules) returns)

@@ -5,5 +5,5 @@ use borrow.Author.Rules.{rules}
 use Rattle.capi.proofs.date_calls.ct_to_f64.Statement.{statement}
 use Rattle.capi.proofs.date_calls.ct_to_f64.Tie as tie
 
-pub ct-to-f64-spec : {M : Type 1} → statement M
-ct-to-f64-spec = tie.close (tie.spec (λ c κs. search rules) (λ c κs. search rules) (λ c. c.to-f64.ensures ∙ ap rounded_sum c.before.new.ensures))
+pub ct_to_f64_spec : {M : Type 1} → statement M
+ct_to_f64_spec = tie.close (tie.spec (λ c κs. search rules) (λ c κs. search rules) (λ c. c.to_f64.ensures ∙ ap rounded_sum c.new.ensures))

@@ -6,7 +6,7 @@ use Rattle.capi.proofs.date_calls.ct_to_julian_year.Statement.{statement}
 use Rattle.capi.proofs.date_calls.ct_to_julian_year.Tie as tie
 
 returns : tie.Need-returns
-returns c = c.to-julian-year.ensures ∙ ap to_julian_year c.before.new.ensures
+returns c = c.to_julian_year.ensures ∙ ap to_julian_year c.new.ensures
 
-pub ct-to-julian-year-spec : {M : Type 1} → statement M
-ct-to-julian-year-spec = tie.close (tie.spec (λ c κs. search rules) (λ c κs. search rules) returns)
+pub ct_to_julian_year_spec : {M : Type 1} → statement M
+ct_to_julian_year_spec = tie.close (tie.spec (λ c κs. search rules) (λ c κs. search rules) returns)

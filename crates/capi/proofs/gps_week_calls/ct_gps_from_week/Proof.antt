@@ -7,9 +7,8 @@ use Rattle.capi.proofs.gps_week_calls.ct_gps_from_week.Tie as tie
 
 returns : tie.Need-returns
 returns c =
-    let p = c.before.before in
-    same_outcome julian_bytes p.put-gps.type-inv p.before.before.from-week.ensures p.put-gps.ensures
+    same_outcome julian_bytes c.put_gps.type_inv c.from_week.ensures c.put_gps.ensures
 
-pub ct-gps-from-week-spec : {M : Type 1} → statement M
-ct-gps-from-week-spec =
+pub ct_gps_from_week_spec : {M : Type 1} → statement M
+ct_gps_from_week_spec =
     tie.close (tie.spec (λ c κs. search rules) (λ c κs. search rules) (λ c. search rules) returns)

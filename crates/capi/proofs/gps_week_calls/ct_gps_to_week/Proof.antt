@@ -7,8 +7,7 @@ use Rattle.capi.proofs.gps_week_calls.ct_gps_to_week.Tie as tie
 
 returns : tie.Need-returns
 returns c =
-    let p = c.before.before in
-    same_outcome week_bytes p.put-week.type-inv p.before.before.to_week.ensures p.put-week.ensures
+    same_outcome week_bytes c.put_week.type_inv c.to_week.ensures c.put_week.ensures
 
-pub ct-gps-to-week-spec : {M : Type 1} → statement M
-ct-gps-to-week-spec = tie.close (tie.spec (λ c κs. search rules) (λ c κs. search rules) (λ c. search rules) returns)
+pub ct_gps_to_week_spec : {M : Type 1} → statement M
+ct_gps_to_week_spec = tie.close (tie.spec (λ c κs. search rules) (λ c κs. search rules) (λ c. search rules) returns)

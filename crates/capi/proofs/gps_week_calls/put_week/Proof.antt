@@ -7,17 +7,16 @@ use borrow.Author.Rules.{rules}
 use Rattle.capi.proofs.gps_week_calls.put_week.Statement.{statement}
 use Rattle.capi.proofs.gps_week_calls.put_week.Tie as tie
 
-returns : tie.Need-returns
+returns : tie.Need-returns-in-At
 unfolding week_outcome week_bytes
 returns c =
-    let p = c.before.before in
-    delivered_answer week_bytes p.put-two-numbers.type-inv _ (ap week_outcome p.before.before.before.found.given.1) p.put-two-numbers.ensures
+    delivered_answer week_bytes c.put_two_numbers.type_inv _ (ap week_outcome c.in-At.is) c.put_two_numbers.ensures
 
-returns-2 : tie.Need-returns-2
+returns-2 : tie.Need-returns-in-Refused
 unfolding week_outcome
-returns-2 c = refused-on week_bytes c.refused.type-inv _ (ap week_outcome c.before.before.found2.given.1) c.refused.ensures
+returns-2 c = refused-on week_bytes c.refused.type_inv _ (ap week_outcome c.in-Refused.is) c.refused.ensures
 
-pub put-week-spec : {M : Type 1} → statement M
-put-week-spec =
+pub put_week_spec : {M : Type 1} → statement M
+put_week_spec =
     tie.close
     (tie.spec (λ c. search rules) (λ c κs. search rules) (λ c. search rules) (λ c κs. search rules) (λ c. search rules) returns returns-2)

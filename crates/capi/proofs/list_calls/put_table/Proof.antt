@@ -6,14 +6,9 @@ use Rattle.capi.proofs.list_calls.put_table.Tie as tie
 
 returns : tie.Need-returns
 returns c =
-    let d = c.before.before in
-    let e = d.before.before.before.before.before.before in
-    let b = e.before.before.before.before.before.before in
-    let a = b.before.before.before.before in
-    let s = a.before.before.before in
-    put_all s.args.t1 s.args.out.now _ _ _ _ a.put-nth-u32.ensures b.put-nth-u322.ensures e.put-numbers.ensures d.put-numbers2.ensures
+    put_all c.args.table c.args.out.now _ _ _ _ c.put_nth_u32.ensures c.put_nth_u32-2.ensures c.put_numbers.ensures c.put_numbers-2.ensures
 
-pub put-table-spec : {M : Type 1} → statement M
-put-table-spec =
+pub put_table_spec : {M : Type 1} → statement M
+put_table_spec =
     tie.close
     (tie.spec (λ c κs. search rules) (λ c κs. search rules) (λ c κs. search rules) (λ c κs. search rules) (λ c. search rules) returns)

@@ -4,32 +4,28 @@ use borrow.Author.Rules.{rules}
 use Rattle.capi.proofs.offset_calls.ct_check_table.Statement.{statement}
 use Rattle.capi.proofs.offset_calls.ct_check_table.Tie as tie
 
-returns : tie.Need-returns
+returns : tie.Need-returns-then-number-ne0
 returns c =
-    let n = c.before.before in
-    count-refused _ n.before.announced-rows-at.result n.table-number.result n.table-number.ensures n.before.announced-rows-at.ensures
-    c.refused.type-inv
-    c.before.if1.true c.refused.ensures
+    count-refused _ c.announced_rows_at-rows.result c.table_number-number.result c.table_number-number.ensures c.announced_rows_at-rows.ensures
+    c.refused.type_inv
+    c.if-number-ne0.true c.refused.ensures
 
-add-result : tie.Need-overflow-add-result
+add-result : tie.Need-overflow_add-result
 add-result c =
-    let n = c.before.before in
-    count_fits _ n.before.announced-rows-at.result n.table-number.result n.table-number.ensures n.before.announced-rows-at.ensures
-    c.before.if1.false
+    count_fits _ c.announced_rows_at-rows.result c.table_number-number.result c.table_number-number.ensures c.announced_rows_at-rows.ensures
+    c.if-number-ne0.false
 
-cast-result : tie.Need-overflow-cast-result
+cast-result : tie.Need-overflow_cast-result
 cast-result c =
-    let n = c.before.before in
-    count-fits-code _ n.before.announced-rows-at.result n.table-number.result n.table-number.ensures n.before.announced-rows-at.ensures
-    c.before.if1.false
+    count-fits-code _ c.announced_rows_at-rows.result c.table_number-number.result c.table_number-number.ensures c.announced_rows_at-rows.ensures
+    c.if-number-ne0.false
 
-returns-2 : tie.Need-returns-2
+returns-2 : tie.Need-returns
 returns-2 c =
-    let n = c.before.before in
-    count-answered _ n.before.announced-rows-at.result n.table-number.result n.table-number.ensures n.before.announced-rows-at.ensures
-    c.before.if1.false
+    count-answered _ c.announced_rows_at-rows.result c.table_number-number.result c.table_number-number.ensures c.announced_rows_at-rows.ensures
+    c.if-number-ne0.false
 
-pub ct-check-table-spec : {M : Type 1} → statement M
-ct-check-table-spec =
+pub ct_check_table_spec : {M : Type 1} → statement M
+ct_check_table_spec =
     tie.close
     (tie.spec (λ c κs. search rules) (λ c κs. search rules) (λ c κs. search rules) returns add-result cast-result returns-2)

@@ -11,27 +11,22 @@ use borrow.Author.Rules.{rules}
 use Rattle.capi.proofs.offset_calls.ct_leap_at_end_of_day.Statement.{statement}
 use Rattle.capi.proofs.offset_calls.ct_leap_at_end_of_day.Tie as tie
 
-returns : tie.Need-returns
+returns : tie.Need-returns-then-number-ne0
 returns c =
-    let n = c.before.before in
-    lent_refused _ _ n.read_table.result.number (n.read_table.ensures.0 refl refl) float_bytes _ c.refused.type-inv
-    c.before.if1.true c.refused.ensures
+    lent_refused _ _ c.read_table-lent.result.number (c.read_table-lent.ensures.0 refl refl) float_bytes _ c.refused.type_inv
+    c.if-number-ne0.true c.refused.ensures
 
-returns-2 : tie.Need-returns-2
+returns-2 : tie.Need-returns
 returns-2 c =
-    let p = c.before.before in
-    let b = p.before.before in
-    let n = b.before.before.before.before in
-    let s = n.before.before.before.before.before in
-    with_announced _ _ n.read_table.result.number (n.read_table.ensures.0 refl refl) float_bytes _ p.put-leap.type-inv
-    b.before.before.before.if1.false
-    (ap forget b.leap-at-end-of-day-by-arrays.ensures
-    ∙ leap-forgets (rows_in n.read_table.result.size n.read_table.new.1.0 n.read_table.new.1.1.0) _ _ _
-    ∙ read-date (leap_at_end_of_day (rows_in n.read_table.result.size n.read_table.new.1.0 n.read_table.new.1.1.0)) _ _ _ s.ranges.year
-    s.ranges.month s.ranges.day)
-    p.put-leap.ensures
+    with_announced _ _ c.read_table-lent.result.number (c.read_table-lent.ensures.0 refl refl) float_bytes _ c.put_leap.type_inv
+    c.if-number-ne0.false
+    (ap forget c.leap_at_end_of_day_by_arrays.ensures
+    ∙ leap-forgets (rows_in c.read_table-lent.result.size c.read_table-lent.new.months c.read_table-lent.new.seconds) _ _ _
+    ∙ read-date (leap_at_end_of_day (rows_in c.read_table-lent.result.size c.read_table-lent.new.months c.read_table-lent.new.seconds)) _ _ _ c.ranges.year
+    c.ranges.month c.ranges.day)
+    c.put_leap.ensures
 
-pub ct-leap-at-end-of-day-spec : {M : Type 1} → statement M
-ct-leap-at-end-of-day-spec =
+pub ct_leap_at_end_of_day_spec : {M : Type 1} → statement M
+ct_leap_at_end_of_day_spec =
     tie.close
     (tie.spec (λ c κs. search rules) (λ c κs. search rules) returns (λ c κs. search rules) (λ c κs. search rules) (λ c. search rules) returns-2)

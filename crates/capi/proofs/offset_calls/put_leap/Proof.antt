@@ -10,19 +10,18 @@ use borrow.Author.Rules.{rules}
 use Rattle.capi.proofs.offset_calls.put_leap.Statement.{statement}
 use Rattle.capi.proofs.offset_calls.put_leap.Tie as tie
 
-returns : tie.Need-returns
+returns : tie.Need-returns-in-Seconds
 unfolding seconds_by_rule_outcome forget onward
 returns c =
-    let p = c.before.before in
-    delivered_answer float_bytes p.put-float.type-inv _
-    (ap (λ (x : SecondsByRule). forget (seconds_by_rule_outcome x)) p.before.before.before.found.given.1) p.put-float.ensures
+    delivered_answer float_bytes c.put_float.type_inv _
+    (ap (λ (x : SecondsByRule). forget (seconds_by_rule_outcome x)) c.in-Seconds.is) c.put_float.ensures
 
-returns-2 : tie.Need-returns-2
+returns-2 : tie.Need-returns-in-Refused
 unfolding seconds_by_rule_outcome forget onward
-returns-2 c = refused-on float_bytes c.refused.type-inv _ (ap (λ (x : SecondsByRule). forget (seconds_by_rule_outcome x)) c.before.before.found2.given.1)
+returns-2 c = refused-on float_bytes c.refused.type_inv _ (ap (λ (x : SecondsByRule). forget (seconds_by_rule_outcome x)) c.in-Refused.is)
     c.refused.ensures
 
-pub put-leap-spec : {M : Type 1} → statement M
-put-leap-spec =
+pub put_leap_spec : {M : Type 1} → statement M
+put_leap_spec =
     tie.close
     (tie.spec (λ c. search rules) (λ c κs. search rules) (λ c. search rules) (λ c κs. search rules) (λ c. search rules) returns returns-2)

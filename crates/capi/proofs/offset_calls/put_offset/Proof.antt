@@ -7,18 +7,17 @@ use borrow.Author.Rules.{rules}
 use Rattle.capi.proofs.offset_calls.put_offset.Statement.{statement}
 use Rattle.capi.proofs.offset_calls.put_offset.Tie as tie
 
-returns : tie.Need-returns
+returns : tie.Need-returns-in-Seconds
 unfolding seconds_by_rule_outcome
 returns c =
-    let p = c.before.before in
-    delivered_answer offset_rule_bytes p.put-offset-by-rule.type-inv _ (ap seconds_by_rule_outcome p.before.before.before.found.given.1)
-    p.put-offset-by-rule.ensures
+    delivered_answer offset_rule_bytes c.put_offset_by_rule.type_inv _ (ap seconds_by_rule_outcome c.in-Seconds.is)
+    c.put_offset_by_rule.ensures
 
-returns-2 : tie.Need-returns-2
+returns-2 : tie.Need-returns-in-Refused
 unfolding seconds_by_rule_outcome
-returns-2 c = refused-on offset_rule_bytes c.refused.type-inv _ (ap seconds_by_rule_outcome c.before.before.found2.given.1) c.refused.ensures
+returns-2 c = refused-on offset_rule_bytes c.refused.type_inv _ (ap seconds_by_rule_outcome c.in-Refused.is) c.refused.ensures
 
-pub put-offset-spec : {M : Type 1} → statement M
-put-offset-spec =
+pub put_offset_spec : {M : Type 1} → statement M
+put_offset_spec =
     tie.close
     (tie.spec (λ c. search rules) (λ c κs. search rules) (λ c. search rules) (λ c κs. search rules) (λ c. search rules) returns returns-2)

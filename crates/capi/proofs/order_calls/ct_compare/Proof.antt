@@ -13,9 +13,9 @@ use Rattle.capi.proofs.order_calls.ct_compare.Statement.{statement}
 use Rattle.capi.proofs.order_calls.ct_compare.Tie as tie
 
 is : (c : tie.After-compare)
-    → order_outcome c.compare.result ≡ comparison (julian c.before.before.before.args.jd1 c.before.before.before.args.jd2)
-    (julian c.before.before.before.args.other1 c.before.before.before.args.other2)
-is c = let n = c.before in c.compare.ensures ∙ λ i. comparison (n.before.new.ensures i) (n.new2.ensures i)
+    → order_outcome c.compare.result ≡ comparison (julian c.args.jd1 c.args.jd2)
+    (julian c.args.other1 c.args.other2)
+is c = c.compare.ensures ∙ λ i. comparison (c.new.ensures i) (c.new-2.ensures i)
 
 numbered-order : {o : Outcome Order} (x : Order) → o ≡ answer x → pos (order_number x) ≡ code (numbered o)
 unfolding code numbered onward
@@ -25,25 +25,25 @@ not_taken : {o : Outcome Order} (k : ℕ) → o ≡ refusal k → code (refusal 
 unfolding numbered onward
 not_taken k e = rw e
 
-returns : tie.Need-returns
+returns : tie.Need-returns-in-Before
 unfolding order_outcome order_number
-returns c = numbered-order _ (sym (is c.before.before) ∙ ap order_outcome c.enum_told.given.1)
+returns c = numbered-order _ (sym (is c.before) ∙ ap order_outcome c.in-Before.is)
 
-returns-2 : tie.Need-returns-2
+returns-2 : tie.Need-returns-in-Equal
 unfolding order_outcome order_number
-returns-2 c = numbered-order _ (sym (is c.before.before) ∙ ap order_outcome c.enum-told2.given.1)
+returns-2 c = numbered-order _ (sym (is c.before) ∙ ap order_outcome c.in-Equal.is)
 
-returns-3 : tie.Need-returns-3
+returns-3 : tie.Need-returns-in-After
 unfolding order_outcome order_number
-returns-3 c = numbered-order _ (sym (is c.before.before) ∙ ap order_outcome c.enum-told3.given.1)
+returns-3 c = numbered-order _ (sym (is c.before) ∙ ap order_outcome c.in-After.is)
 
-returns-4 : tie.Need-returns-4
+returns-4 : tie.Need-returns-in-Refused
 unfolding order_outcome
-returns-4 c = code-back c.refused.type-inv ∙ c.refused.ensures
-    ∙ not_taken _ (sym (is c.before.before.before.before) ∙ ap order_outcome c.before.before.number.given.1)
+returns-4 c = code-back c.refused.type_inv ∙ c.refused.ensures
+    ∙ not_taken _ (sym (is c.before.before) ∙ ap order_outcome c.in-Refused.is)
 
-pub ct-compare-spec : {M : Type 1} → statement M
-ct-compare-spec =
+pub ct_compare_spec : {M : Type 1} → statement M
+ct_compare_spec =
     tie.close
     (tie.spec (λ c κs. search rules) (λ c κs. search rules) (λ c κs. search rules) (λ c. search rules) (λ c. search rules) (λ c. search rules)
     (λ c. search rules) (λ c κs. search rules) returns returns-2 returns-3 returns-4)

@@ -7,9 +7,8 @@ use Rattle.capi.proofs.reader_calls.ct_parse_iso8601.Tie as tie
 
 returns : tie.Need-returns
 returns c =
-    let p = c.before.before in
-    same_outcome parsed_bytes p.put-parsed.type-inv p.before.before.parse-iso8601.ensures p.put-parsed.ensures
+    same_outcome parsed_bytes c.put_parsed.type_inv c.parse_iso8601.ensures c.put_parsed.ensures
 
-pub ct-parse-iso8601-spec : {M : Type 1} → statement M
-ct-parse-iso8601-spec =
+pub ct_parse_iso8601_spec : {M : Type 1} → statement M
+ct_parse_iso8601_spec =
     tie.close (tie.spec (λ c κs. search rules) (λ c κs. search rules) (λ c. search rules) returns)

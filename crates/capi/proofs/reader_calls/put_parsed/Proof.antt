@@ -7,17 +7,16 @@ use borrow.Author.Rules.{rules}
 use Rattle.capi.proofs.reader_calls.put_parsed.Statement.{statement}
 use Rattle.capi.proofs.reader_calls.put_parsed.Tie as tie
 
-returns : tie.Need-returns
+returns : tie.Need-returns-in-Fields
 unfolding parsed_outcome
 returns c =
-    let p = c.before.before in
-    delivered_answer parsed_bytes p.put-fields.type-inv _ (ap parsed_outcome p.before.before.before.found.given.1) p.put-fields.ensures
+    delivered_answer parsed_bytes c.put_fields.type_inv _ (ap parsed_outcome c.in-Fields.is) c.put_fields.ensures
 
-returns-2 : tie.Need-returns-2
+returns-2 : tie.Need-returns-in-Refused
 unfolding parsed_outcome
-returns-2 c = refused-on parsed_bytes c.refused.type-inv _ (ap parsed_outcome c.before.before.found2.given.1) c.refused.ensures
+returns-2 c = refused-on parsed_bytes c.refused.type_inv _ (ap parsed_outcome c.in-Refused.is) c.refused.ensures
 
-pub put-parsed-spec : {M : Type 1} → statement M
-put-parsed-spec =
+pub put_parsed_spec : {M : Type 1} → statement M
+put_parsed_spec =
     tie.close
     (tie.spec (λ c. search rules) (λ c κs. search rules) (λ c. search rules) (λ c κs. search rules) (λ c. search rules) returns returns-2)

@@ -7,18 +7,17 @@ use borrow.Author.Rules.{rules}
 use Rattle.capi.proofs.reader_calls.put_parsed_utc.Statement.{statement}
 use Rattle.capi.proofs.reader_calls.put_parsed_utc.Tie as tie
 
-returns : tie.Need-returns
+returns : tie.Need-returns-in-Read
 unfolding parsed_utc_outcome
 returns c =
-    let p = c.before.before in
-    delivered_answer parsed_utc_bytes p.put-fields-and-date.type-inv _ (ap parsed_utc_outcome p.before.before.before.found.given.1)
-    p.put-fields-and-date.ensures
+    delivered_answer parsed_utc_bytes c.put_fields_and_date.type_inv _ (ap parsed_utc_outcome c.in-Read.is)
+    c.put_fields_and_date.ensures
 
-returns-2 : tie.Need-returns-2
+returns-2 : tie.Need-returns-in-Refused
 unfolding parsed_utc_outcome
-returns-2 c = refused-on parsed_utc_bytes c.refused.type-inv _ (ap parsed_utc_outcome c.before.before.found2.given.1) c.refused.ensures
+returns-2 c = refused-on parsed_utc_bytes c.refused.type_inv _ (ap parsed_utc_outcome c.in-Refused.is) c.refused.ensures
 
-pub put-parsed-utc-spec : {M : Type 1} → statement M
-put-parsed-utc-spec =
+pub put_parsed_utc_spec : {M : Type 1} → statement M
+put_parsed_utc_spec =
     tie.close
     (tie.spec (λ c. search rules) (λ c κs. search rules) (λ c. search rules) (λ c κs. search rules) (λ c. search rules) returns returns-2)

@@ -9,11 +9,9 @@ use Rattle.capi.proofs.reason_calls.ct_date_reason.Tie as tie
 
 returns : tie.Need-returns
 returns c =
-    let t = c.before.before in
-    let s = t.before.before.before in
-    delivered_on t.deliver-reason.type-inv
-    (λ i. sentence s.args.number (Date (to_z-of_z s.ranges.year i) (to_z-of_z s.ranges.month i) (to_z-of_z s.ranges.day i)))
-    t.deliver-reason.ensures
+    delivered_on c.deliver_reason.type_inv
+    (λ i. sentence c.args.number (Date (to_z-of_z c.ranges.year i) (to_z-of_z c.ranges.month i) (to_z-of_z c.ranges.day i)))
+    c.deliver_reason.ensures
 
-pub ct-date-reason-spec : {M : Type 1} → statement M
-ct-date-reason-spec = tie.close (tie.spec (λ c κs. search rules) (λ c. search rules) returns)
+pub ct_date_reason_spec : {M : Type 1} → statement M
+ct_date_reason_spec = tie.close (tie.spec (λ c κs. search rules) (λ c. search rules) returns)

@@ -5,29 +5,29 @@ use borrow.Author.Rules.{rules}
 use Rattle.capi.proofs.reason_calls.deliver_reason.Statement.{statement}
 use Rattle.capi.proofs.reason_calls.deliver_reason.Tie as tie
 
-cast-result : tie.Need-overflow-cast-result
+cast-result : tie.Need-overflow_cast-result
 cast-result c =
-    let q = c.before.before.before.before.before.put-reason in
+    let q = c.put_reason in
     record {
       sfits = omega (
         arith,
-        text-count q.ensures _ c.before.n.given.1,
-        c.before.before.before.before.before.before.before.before.well_formed,
+        text-count q.ensures _ c.in-Written.is,
+        c.well_formed,
       );
     }
 
-returns : tie.Need-returns
+returns : tie.Need-returns-in-Written
 returns c =
-    let q = c.before.before.before.before.before.put-reason in
-    text-put q.ensures _ c.before.n.given.1
-    (omega (arith, text-count q.ensures _ c.before.n.given.1, c.before.before.before.before.before.before.before.before.well_formed))
+    let q = c.put_reason in
+    text-put q.ensures _ c.in-Written.is
+    (omega (arith, text-count q.ensures _ c.in-Written.is, c.well_formed))
 
-returns-2 : tie.Need-returns-2
-returns-2 c = text_refused c.before.before.before.before.before.before.put-reason.ensures _ c.refused.type-inv c.before.before.other.given.1
+returns-2 : tie.Need-returns-in-Refused
+returns-2 c = text_refused c.put_reason.ensures _ c.refused.type_inv c.in-Refused.is
     c.refused.ensures
 
-pub deliver-reason-spec : {M : Type 1} → statement M
-deliver-reason-spec =
+pub deliver_reason_spec : {M : Type 1} → statement M
+deliver_reason_spec =
     tie.close
     (tie.spec (λ c κs. search rules) (λ c. search rules) cast-result (λ c. search rules) (λ c κs. search rules) (λ c. search rules) returns
     (λ c. search rules) returns-2)

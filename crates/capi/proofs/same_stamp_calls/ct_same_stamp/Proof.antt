@@ -5,6 +5,6 @@ use borrow.Author.Rules.{rules}
 use Rattle.capi.proofs.same_stamp_calls.ct_same_stamp.Statement.{statement}
 use Rattle.capi.proofs.same_stamp_calls.ct_same_stamp.Tie as tie
 
-pub ct-same-stamp-spec : {M : Type 1} → statement M
-ct-same-stamp-spec = tie.close (tie.spec (λ c κs. search rules) (λ c. ap truth (sym c.if1.true ∙ c.before.same_stamp.ensures))
-    (λ c. ap truth (sym c.if1.false ∙ c.before.same_stamp.ensures)))
+pub ct_same_stamp_spec : {M : Type 1} → statement M
+ct_same_stamp_spec = tie.close (tie.spec (λ c κs. search rules) (λ c. ap truth (sym c.if-same_stamp.true ∙ c.same_stamp.ensures))
+    (λ c. ap truth (sym c.if-same_stamp.false ∙ c.same_stamp.ensures)))

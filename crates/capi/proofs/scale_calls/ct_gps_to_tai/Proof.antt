@@ -7,8 +7,7 @@ use Rattle.capi.proofs.scale_calls.ct_gps_to_tai.Tie as tie
 
 returns : tie.Need-returns
 returns c =
-    let p = c.before.before in
-    same_outcome julian_bytes p.put-tai.type-inv p.before.before.gps_to_tai.ensures p.put-tai.ensures
+    same_outcome julian_bytes c.put_tai.type_inv c.gps_to_tai.ensures c.put_tai.ensures
 
-pub ct-gps-to-tai-spec : {M : Type 1} → statement M
-ct-gps-to-tai-spec = tie.close (tie.spec (λ c κs. search rules) (λ c κs. search rules) (λ c. search rules) returns)
+pub ct_gps_to_tai_spec : {M : Type 1} → statement M
+ct_gps_to_tai_spec = tie.close (tie.spec (λ c κs. search rules) (λ c κs. search rules) (λ c. search rules) returns)

@@ -7,8 +7,7 @@ use Rattle.capi.proofs.scale_calls.ct_tai_to_gps.Tie as tie
 
 returns : tie.Need-returns
 returns c =
-    let p = c.before.before in
-    same_outcome julian_bytes p.put-gps.type-inv p.before.before.tai_to_gps.ensures p.put-gps.ensures
+    same_outcome julian_bytes c.put_gps.type_inv c.tai_to_gps.ensures c.put_gps.ensures
 
-pub ct-tai-to-gps-spec : {M : Type 1} → statement M
-ct-tai-to-gps-spec = tie.close (tie.spec (λ c κs. search rules) (λ c κs. search rules) (λ c. search rules) returns)
+pub ct_tai_to_gps_spec : {M : Type 1} → statement M
+ct_tai_to_gps_spec = tie.close (tie.spec (λ c κs. search rules) (λ c κs. search rules) (λ c. search rules) returns)

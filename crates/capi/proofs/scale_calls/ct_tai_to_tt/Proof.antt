@@ -7,8 +7,7 @@ use Rattle.capi.proofs.scale_calls.ct_tai_to_tt.Tie as tie
 
 returns : tie.Need-returns
 returns c =
-    let p = c.before.before in
-    same_outcome julian_bytes p.put-tt.type-inv p.before.before.tai_to_tt.ensures p.put-tt.ensures
+    same_outcome julian_bytes c.put_tt.type_inv c.tai_to_tt.ensures c.put_tt.ensures
 
-pub ct-tai-to-tt-spec : {M : Type 1} → statement M
-ct-tai-to-tt-spec = tie.close (tie.spec (λ c κs. search rules) (λ c κs. search rules) (λ c. search rules) returns)
+pub ct_tai_to_tt_spec : {M : Type 1} → statement M
+ct_tai_to_tt_spec = tie.close (tie.spec (λ c κs. search rules) (λ c κs. search rules) (λ c. search rules) returns)

@@ -7,9 +7,8 @@ use Rattle.capi.proofs.scale_calls.ct_tai_to_ut1_with_offset.Tie as tie
 
 returns : tie.Need-returns
 returns c =
-    let p = c.before.before in
-    same_outcome julian_bytes p.put-ut1.type-inv p.before.before.tai-to-ut1-with-offset.ensures p.put-ut1.ensures
+    same_outcome julian_bytes c.put_ut1.type_inv c.tai_to_ut1_with_offset.ensures c.put_ut1.ensures
 
-pub ct-tai-to-ut1-with-offset-spec : {M : Type 1} → statement M
-ct-tai-to-ut1-with-offset-spec =
+pub ct_tai_to_ut1_with_offset_spec : {M : Type 1} → statement M
+ct_tai_to_ut1_with_offset_spec =
     tie.close (tie.spec (λ c κs. search rules) (λ c κs. search rules) (λ c. search rules) returns)

@@ -7,8 +7,7 @@ use Rattle.capi.proofs.scale_calls.ct_tcb_to_tdb.Tie as tie
 
 returns : tie.Need-returns
 returns c =
-    let p = c.before.before in
-    same_outcome julian_bytes p.put-tdb.type-inv p.before.before.tcb-to-tdb.ensures p.put-tdb.ensures
+    same_outcome julian_bytes c.put_tdb.type_inv c.tcb_to_tdb.ensures c.put_tdb.ensures
 
-pub ct-tcb-to-tdb-spec : {M : Type 1} → statement M
-ct-tcb-to-tdb-spec = tie.close (tie.spec (λ c κs. search rules) (λ c κs. search rules) (λ c. search rules) returns)
+pub ct_tcb_to_tdb_spec : {M : Type 1} → statement M
+ct_tcb_to_tdb_spec = tie.close (tie.spec (λ c κs. search rules) (λ c κs. search rules) (λ c. search rules) returns)

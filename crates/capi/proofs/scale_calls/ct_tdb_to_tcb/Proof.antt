@@ -7,8 +7,7 @@ use Rattle.capi.proofs.scale_calls.ct_tdb_to_tcb.Tie as tie
 
 returns : tie.Need-returns
 returns c =
-    let p = c.before.before in
-    same_outcome julian_bytes p.put-tcb.type-inv p.before.before.tdb-to-tcb.ensures p.put-tcb.ensures
+    same_outcome julian_bytes c.put_tcb.type_inv c.tdb_to_tcb.ensures c.put_tcb.ensures
 
-pub ct-tdb-to-tcb-spec : {M : Type 1} → statement M
-ct-tdb-to-tcb-spec = tie.close (tie.spec (λ c κs. search rules) (λ c κs. search rules) (λ c. search rules) returns)
+pub ct_tdb_to_tcb_spec : {M : Type 1} → statement M
+ct_tdb_to_tcb_spec = tie.close (tie.spec (λ c κs. search rules) (λ c κs. search rules) (λ c. search rules) returns)

@@ -7,9 +7,8 @@ use Rattle.capi.proofs.scale_calls.ct_tdb_to_tt_with_offset.Tie as tie
 
 returns : tie.Need-returns
 returns c =
-    let p = c.before.before in
-    same_outcome julian_bytes p.put-tt.type-inv p.before.before.tdb-to-tt-with-offset.ensures p.put-tt.ensures
+    same_outcome julian_bytes c.put_tt.type_inv c.tdb_to_tt_with_offset.ensures c.put_tt.ensures
 
-pub ct-tdb-to-tt-with-offset-spec : {M : Type 1} → statement M
-ct-tdb-to-tt-with-offset-spec =
+pub ct_tdb_to_tt_with_offset_spec : {M : Type 1} → statement M
+ct_tdb_to_tt_with_offset_spec =
     tie.close (tie.spec (λ c κs. search rules) (λ c κs. search rules) (λ c. search rules) returns)

@@ -7,8 +7,7 @@ use Rattle.capi.proofs.scale_calls.ct_tt_to_tcg.Tie as tie
 
 returns : tie.Need-returns
 returns c =
-    let p = c.before.before in
-    same_outcome julian_bytes p.put-tcg.type-inv p.before.before.tt-to-tcg.ensures p.put-tcg.ensures
+    same_outcome julian_bytes c.put_tcg.type_inv c.tt_to_tcg.ensures c.put_tcg.ensures
 
-pub ct-tt-to-tcg-spec : {M : Type 1} → statement M
-ct-tt-to-tcg-spec = tie.close (tie.spec (λ c κs. search rules) (λ c κs. search rules) (λ c. search rules) returns)
+pub ct_tt_to_tcg_spec : {M : Type 1} → statement M
+ct_tt_to_tcg_spec = tie.close (tie.spec (λ c κs. search rules) (λ c κs. search rules) (λ c. search rules) returns)

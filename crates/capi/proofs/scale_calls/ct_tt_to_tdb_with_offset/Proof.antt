@@ -7,9 +7,8 @@ use Rattle.capi.proofs.scale_calls.ct_tt_to_tdb_with_offset.Tie as tie
 
 returns : tie.Need-returns
 returns c =
-    let p = c.before.before in
-    same_outcome julian_bytes p.put-tdb.type-inv p.before.before.tt-to-tdb-with-offset.ensures p.put-tdb.ensures
+    same_outcome julian_bytes c.put_tdb.type_inv c.tt_to_tdb_with_offset.ensures c.put_tdb.ensures
 
-pub ct-tt-to-tdb-with-offset-spec : {M : Type 1} → statement M
-ct-tt-to-tdb-with-offset-spec =
+pub ct_tt_to_tdb_with_offset_spec : {M : Type 1} → statement M
+ct_tt_to_tdb_with_offset_spec =
     tie.close (tie.spec (λ c κs. search rules) (λ c κs. search rules) (λ c. search rules) returns)

@@ -7,9 +7,8 @@ use Rattle.capi.proofs.scale_calls.ct_tt_to_ut1_with_delta_t.Tie as tie
 
 returns : tie.Need-returns
 returns c =
-    let p = c.before.before in
-    same_outcome julian_bytes p.put-ut1.type-inv p.before.before.tt-to-ut1-with-delta-t.ensures p.put-ut1.ensures
+    same_outcome julian_bytes c.put_ut1.type_inv c.tt_to_ut1_with_delta_t.ensures c.put_ut1.ensures
 
-pub ct-tt-to-ut1-with-delta-t-spec : {M : Type 1} → statement M
-ct-tt-to-ut1-with-delta-t-spec =
+pub ct_tt_to_ut1_with_delta_t_spec : {M : Type 1} → statement M
+ct_tt_to_ut1_with_delta_t_spec =
     tie.close (tie.spec (λ c κs. search rules) (λ c κs. search rules) (λ c. search rules) returns)

@@ -7,9 +7,8 @@ use Rattle.capi.proofs.scale_calls.ct_ut1_to_tai_with_offset.Tie as tie
 
 returns : tie.Need-returns
 returns c =
-    let p = c.before.before in
-    same_outcome julian_bytes p.put-tai.type-inv p.before.before.ut1-to-tai-with-offset.ensures p.put-tai.ensures
+    same_outcome julian_bytes c.put_tai.type_inv c.ut1_to_tai_with_offset.ensures c.put_tai.ensures
 
-pub ct-ut1-to-tai-with-offset-spec : {M : Type 1} → statement M
-ct-ut1-to-tai-with-offset-spec =
+pub ct_ut1_to_tai_with_offset_spec : {M : Type 1} → statement M
+ct_ut1_to_tai_with_offset_spec =
     tie.close (tie.spec (λ c κs. search rules) (λ c κs. search rules) (λ c. search rules) returns)

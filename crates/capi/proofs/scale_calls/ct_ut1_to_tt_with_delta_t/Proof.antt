@@ -7,9 +7,8 @@ use Rattle.capi.proofs.scale_calls.ct_ut1_to_tt_with_delta_t.Tie as tie
 
 returns : tie.Need-returns
 returns c =
-    let p = c.before.before in
-    same_outcome julian_bytes p.put-tt.type-inv p.before.before.ut1-to-tt-with-delta-t.ensures p.put-tt.ensures
+    same_outcome julian_bytes c.put_tt.type_inv c.ut1_to_tt_with_delta_t.ensures c.put_tt.ensures
 
-pub ct-ut1-to-tt-with-delta-t-spec : {M : Type 1} → statement M
-ct-ut1-to-tt-with-delta-t-spec =
+pub ct_ut1_to_tt_with_delta_t_spec : {M : Type 1} → statement M
+ct_ut1_to_tt_with_delta_t_spec =
     tie.close (tie.spec (λ c κs. search rules) (λ c κs. search rules) (λ c. search rules) returns)

@@ -7,17 +7,16 @@ use borrow.Author.Rules.{rules}
 use Rattle.capi.proofs.scale_calls.put_tai.Statement.{statement}
 use Rattle.capi.proofs.scale_calls.put_tai.Tie as tie
 
-returns : tie.Need-returns
+returns : tie.Need-returns-in-Date
 unfolding tai_outcome
 returns c =
-    let p = c.before.before in
-    delivered_answer julian_bytes p.put-julian.type-inv _ (ap tai_outcome p.before.before.before.found.given.1) p.put-julian.ensures
+    delivered_answer julian_bytes c.put_julian.type_inv _ (ap tai_outcome c.in-Date.is) c.put_julian.ensures
 
-returns-2 : tie.Need-returns-2
+returns-2 : tie.Need-returns-in-Refused
 unfolding tai_outcome
-returns-2 c = refused-on julian_bytes c.refused.type-inv _ (ap tai_outcome c.before.before.found2.given.1) c.refused.ensures
+returns-2 c = refused-on julian_bytes c.refused.type_inv _ (ap tai_outcome c.in-Refused.is) c.refused.ensures
 
-pub put-tai-spec : {M : Type 1} → statement M
-put-tai-spec =
+pub put_tai_spec : {M : Type 1} → statement M
+put_tai_spec =
     tie.close
     (tie.spec (λ c. search rules) (λ c κs. search rules) (λ c. search rules) (λ c κs. search rules) (λ c. search rules) returns returns-2)

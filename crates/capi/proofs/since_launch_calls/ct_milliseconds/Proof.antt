@@ -11,28 +11,25 @@ use borrow.Author.Rules.{rules}
 use Rattle.capi.proofs.since_launch_calls.ct_milliseconds.Statement.{statement}
 use Rattle.capi.proofs.since_launch_calls.ct_milliseconds.Tie as tie
 
-cast-result : tie.Need-overflow-cast-result
+cast-result : tie.Need-overflow_cast-result
 unfolding millis_outcome
 cast-result c =
-    let f = c.before.before.before in
     record {
-      sfits = omega (arith, answer-small _ _ _ (sym f.milliseconds.ensures ∙ ap millis_outcome c.before.millis.given.1));
+      sfits = omega (arith, answer-small _ _ _ (sym c.milliseconds.ensures ∙ ap millis_outcome c.in-Millis.is));
     }
 
-returns : tie.Need-returns
+returns : tie.Need-returns-in-Millis
 unfolding millis_outcome code
 returns c =
-    let f = c.before.before.before in
-    let e = sym (ap millis_outcome c.before.millis.given.1) ∙ f.milliseconds.ensures in
-    to_z_pos w64 {n = c.before.millis.given.0.0} (omega (arith, answer-small _ _ _ (sym e))) ∙ ap code e
+    let e = sym (ap millis_outcome c.in-Millis.is) ∙ c.milliseconds.ensures in
+    to_z_pos w64 {n = c.in-Millis.millis} (omega (arith, answer-small _ _ _ (sym e))) ∙ ap code e
 
-returns-2 : tie.Need-returns-2
+returns-2 : tie.Need-returns-in-Refused
 unfolding millis_outcome
 returns-2 c =
-    let f = c.before.before.before.before in
-    code-back c.refused.type-inv ∙ c.refused.ensures ∙ ap code (sym (ap millis_outcome c.before.before.number.given.1) ∙ f.milliseconds.ensures)
+    code-back c.refused.type_inv ∙ c.refused.ensures ∙ ap code (sym (ap millis_outcome c.in-Refused.is) ∙ c.milliseconds.ensures)
 
-pub ct-milliseconds-spec : {M : Type 1} → statement M
-ct-milliseconds-spec =
+pub ct_milliseconds_spec : {M : Type 1} → statement M
+ct_milliseconds_spec =
     tie.close
     (tie.spec (λ c κs. search rules) (λ c. search rules) cast-result (λ c. search rules) (λ c κs. search rules) returns returns-2)

@@ -6,42 +6,36 @@ use borrow.Author.Rules.{rules}
 use Rattle.capi.proofs.since_launch_calls.ct_milliseconds_of_run.Statement.{statement}
 use Rattle.capi.proofs.since_launch_calls.ct_milliseconds_of_run.Tie as tie
 
-cast-result : tie.Need-overflow-cast-result
+cast-result : tie.Need-overflow_cast-result
 cast-result c =
-    let f = c.before.before.before.before.before.before.before in
-    let s = f.before.before.before.before.before.before.before in
     record {
       sfits = omega (
         arith,
-        written_count (julian s.args.from1 s.args.from2) s.args.jd1.now s.args.jd2.now s.args.millis.now s.args.numbers.now
-            f.milliseconds-of-run.result f.milliseconds-of-run.ensures _ c.before.n.given.1,
-        s.well_formed,
+        written_count (julian c.args.from1 c.args.from2) c.args.jd1.now c.args.jd2.now c.args.millis.now c.args.numbers.now
+            c.milliseconds_of_run.result c.milliseconds_of_run.ensures _ c.in-Written.is,
+        c.well_formed,
       );
     }
 
-returns : tie.Need-returns
+returns : tie.Need-returns-in-Written
 returns c =
-    let f = c.before.before.before.before.before.before.before in
-    let s = f.before.before.before.before.before.before.before in
-    let d = julian s.args.from1 s.args.from2 in
-    all-written d s.args.jd1.now s.args.jd2.now s.args.millis.now s.args.numbers.now f.milliseconds-of-run.result
-    f.milliseconds-of-run.ensures _ c.before.n.given.1
+    let d = julian c.args.from1 c.args.from2 in
+    all-written d c.args.jd1.now c.args.jd2.now c.args.millis.now c.args.numbers.now c.milliseconds_of_run.result
+    c.milliseconds_of_run.ensures _ c.in-Written.is
     (omega (
       arith,
-      written_count d s.args.jd1.now s.args.jd2.now s.args.millis.now s.args.numbers.now f.milliseconds-of-run.result
-          f.milliseconds-of-run.ensures _ c.before.n.given.1,
-      s.well_formed,
+      written_count d c.args.jd1.now c.args.jd2.now c.args.millis.now c.args.numbers.now c.milliseconds_of_run.result
+          c.milliseconds_of_run.ensures _ c.in-Written.is,
+      c.well_formed,
     ))
 
-returns-2 : tie.Need-returns-2
+returns-2 : tie.Need-returns-in-Refused
 returns-2 c =
-    let f = c.before.before.before.before.before.before.before.before in
-    let s = f.before.before.before.before.before.before.before in
-    all-refused (julian s.args.from1 s.args.from2) s.args.jd1.now s.args.jd2.now s.args.millis.now s.args.numbers.now
-    f.milliseconds-of-run.result f.milliseconds-of-run.ensures _ c.refused.type-inv c.before.before.number.given.1 c.refused.ensures
+    all-refused (julian c.args.from1 c.args.from2) c.args.jd1.now c.args.jd2.now c.args.millis.now c.args.numbers.now
+    c.milliseconds_of_run.result c.milliseconds_of_run.ensures _ c.refused.type_inv c.in-Refused.is c.refused.ensures
 
-pub ct-milliseconds-of-run-spec : {M : Type 1} → statement M
-ct-milliseconds-of-run-spec =
+pub ct_milliseconds_of_run_spec : {M : Type 1} → statement M
+ct_milliseconds_of_run_spec =
     tie.close
     (tie.spec (λ c κs. search rules) (λ c. search rules) cast-result (λ c. search rules) (λ c κs. search rules) (λ c. search rules)
     (λ c. search rules) returns (λ c. search rules) (λ c. search rules) returns-2)

@@ -10,30 +10,26 @@ use borrow.Author.Rules.{rules}
 use Rattle.capi.proofs.standby_calls.bill_call.Statement.{statement}
 use Rattle.capi.proofs.standby_calls.bill_call.Tie as tie
 
-returns : tie.Need-returns
+returns : tie.Need-returns-then-number-ne0
 returns c =
-    let n = c.before.before in
-    table-refused _ n.before.announced-rows-at.result n.table-number.result n.table-number.ensures n.before.announced-rows-at.ensures
-    bill_bytes _ c.refused.type-inv
-    c.before.if1.true c.refused.ensures
+    table-refused _ c.announced_rows_at-rows.result c.table_number-number.result c.table_number-number.ensures c.announced_rows_at-rows.ensures
+    bill_bytes _ c.refused.type_inv
+    c.if-number-ne0.true c.refused.ensures
 
-returns-2 : tie.Need-returns-2
+returns-2 : tie.Need-returns
 unfolding onward
 returns-2 c =
-    let p = c.before.before in
-    let b = p.before.before in
-    let n = b.before.before in
-    let a = n.before.before.before.before.args in
-    with_rows _ n.before.announced-rows-at.result n.table-number.result n.table-number.ensures n.before.announced-rows-at.ensures bill_bytes
-    _ p.put-bill.type-inv b.before.if1.false
-    (b.standby-bill.ensures
-    ∙ ap (λ (o : Outcome (List Row)). onward o (λ rows. standby_bill rows a.start a.end a.rate a.first-metres a.second-metres))
-    (is-taken _ n.before.announced-rows-at.result n.table-number.result n.table-number.ensures n.before.announced-rows-at.ensures
-    b.before.if1.false))
-    p.put-bill.ensures
+    let a = c.args in
+    with_rows _ c.announced_rows_at-rows.result c.table_number-number.result c.table_number-number.ensures c.announced_rows_at-rows.ensures bill_bytes
+    _ c.put_bill.type_inv c.if-number-ne0.false
+    (c.standby_bill.ensures
+    ∙ ap (λ (o : Outcome (List Row)). onward o (λ rows. standby_bill rows a.start a.end a.rate a.first_metres a.second_metres))
+    (is-taken _ c.announced_rows_at-rows.result c.table_number-number.result c.table_number-number.ensures c.announced_rows_at-rows.ensures
+    c.if-number-ne0.false))
+    c.put_bill.ensures
 
-pub bill-call-spec : {M : Type 1} → statement M
-bill-call-spec =
+pub bill_call_spec : {M : Type 1} → statement M
+bill_call_spec =
     tie.close
     (tie.spec (λ c κs. search rules) (λ c κs. search rules) (λ c κs. search rules) returns (λ c κs. search rules) (λ c κs. search rules)
     (λ c. search rules) returns-2)

@@ -12,16 +12,14 @@ use Rattle.capi.proofs.standby_calls.ct_standby_bill.Tie as tie
 
 returns : tie.Need-returns
 returns c =
-    let p = c.before.before in
-    let s = p.before.before.before.before in
-    let a = s.args in
-    same_outcome bill_bytes p.bill-call.type-inv
+    let a = c.args in
+    same_outcome bill_bytes c.bill_call.type_inv
     (λ i. onward (table_bytes a.table.now) (λ rows.
     standby_bill rows
-    (utc_time (to_z-of_z s.ranges.start-year i) a.start-month a.start-day a.start-hour a.start-minute a.start-second a.start-millis)
-    (utc_time (to_z-of_z s.ranges.end-year i) a.end-month a.end-day a.end-hour a.end-minute a.end-second a.end-millis)
-    a.rate a.first-metres a.second-metres))
-    p.bill-call.ensures
+    (utc_time (to_z-of_z c.ranges.start_year i) a.start_month a.start_day a.start_hour a.start_minute a.start_second a.start_millis)
+    (utc_time (to_z-of_z c.ranges.end_year i) a.end_month a.end_day a.end_hour a.end_minute a.end_second a.end_millis)
+    a.rate a.first_metres a.second_metres))
+    c.bill_call.ensures
 
-pub ct-standby-bill-spec : {M : Type 1} → statement M
-ct-standby-bill-spec = tie.close (tie.spec (λ c κs. search rules) (λ c. search rules) returns)
+pub ct_standby_bill_spec : {M : Type 1} → statement M
+ct_standby_bill_spec = tie.close (tie.spec (λ c κs. search rules) (λ c. search rules) returns)

@@ -7,17 +7,16 @@ use borrow.Author.Rules.{rules}
 use Rattle.capi.proofs.standby_calls.put_bill.Statement.{statement}
 use Rattle.capi.proofs.standby_calls.put_bill.Tie as tie
 
-returns : tie.Need-returns
+returns : tie.Need-returns-in-Billed
 unfolding bill_outcome bill_bytes
 returns c =
-    let p = c.before.before in
-    delivered_answer bill_bytes p.put-three-patterns.type-inv _ (ap bill_outcome p.before.before.before.found.given.1) p.put-three-patterns.ensures
+    delivered_answer bill_bytes c.put_three_patterns.type_inv _ (ap bill_outcome c.in-Billed.is) c.put_three_patterns.ensures
 
-returns-2 : tie.Need-returns-2
+returns-2 : tie.Need-returns-in-Refused
 unfolding bill_outcome
-returns-2 c = refused-on bill_bytes c.refused.type-inv _ (ap bill_outcome c.before.before.found2.given.1) c.refused.ensures
+returns-2 c = refused-on bill_bytes c.refused.type_inv _ (ap bill_outcome c.in-Refused.is) c.refused.ensures
 
-pub put-bill-spec : {M : Type 1} → statement M
-put-bill-spec =
+pub put_bill_spec : {M : Type 1} → statement M
+put_bill_spec =
     tie.close
     (tie.spec (λ c. search rules) (λ c κs. search rules) (λ c. search rules) (λ c κs. search rules) (λ c. search rules) returns returns-2)

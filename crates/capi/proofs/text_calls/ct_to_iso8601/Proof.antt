@@ -5,19 +5,16 @@ use borrow.Author.Rules.{rules}
 use Rattle.capi.proofs.text_calls.ct_to_iso8601.Statement.{statement}
 use Rattle.capi.proofs.text_calls.ct_to_iso8601.Tie as tie
 
-returns : tie.Need-returns
+returns : tie.Need-returns-then-number-ne0
 returns c =
-    let n = c.before.before in
-    text-lent-refused _ _ n.read_table.result.number (n.read_table.ensures.0 refl refl) _ c.refused.type-inv c.before.if1.true c.refused.ensures
+    text-lent-refused _ _ c.read_table-lent.result.number (c.read_table-lent.ensures.0 refl refl) _ c.refused.type_inv c.if-number-ne0.true c.refused.ensures
 
-returns-2 : tie.Need-returns-2
+returns-2 : tie.Need-returns
 returns-2 c =
-    let p = c.before.before.before.before in
-    let b = p.before.before.before.before.before in
-    let n = b.before in
-    text-with-announced _ _ n.read_table.result.number (n.read_table.ensures.0 refl refl) _ p.put-text.type-inv b.if1.false p.put-text.ensures
+    text-with-announced _ _ c.read_table-lent.result.number (c.read_table-lent.ensures.0 refl refl) _ c.put_text.type_inv c.if-number-ne0.false
+    c.put_text.ensures
 
-pub ct-to-iso8601-spec : {M : Type 1} → statement M
-ct-to-iso8601-spec =
+pub ct_to_iso8601_spec : {M : Type 1} → statement M
+ct_to_iso8601_spec =
     tie.close
     (tie.spec (λ c κs. search rules) (λ c κs. search rules) returns (λ c κs. search rules) (λ c. search rules) (λ c. search rules) returns-2)

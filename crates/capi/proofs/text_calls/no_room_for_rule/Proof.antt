@@ -4,16 +4,16 @@ use borrow.Author.Rules.{rules}
 use Rattle.capi.proofs.text_calls.no_room_for_rule.Statement.{statement}
 use Rattle.capi.proofs.text_calls.no_room_for_rule.Tie as tie
 
-returns : tie.Need-returns
-returns c = no_room_refused _ c.before.before.before.before.before.to-text-by-arrays.ensures c.refused.type-inv c.before.before.number.given.1
+returns : tie.Need-returns-in-Refused
+returns c = no_room_refused _ c.to_text_by_arrays.ensures c.refused.type_inv c.in-Refused.is
     c.refused.ensures
 
-returns-2 : tie.Need-returns-2
-returns-2 c = no_room_written _ c.before.before.before.before.to-text-by-arrays.ensures c.refused2.type-inv c.before.enum_told.given.1
-    c.refused2.ensures
+returns-2 : tie.Need-returns-in-Written
+returns-2 c = no_room_written _ c.to_text_by_arrays.ensures c.refused-in-Written.type_inv c.in-Written.is
+    c.refused-in-Written.ensures
 
-pub no-room-for-rule-spec : {M : Type 1} → statement M
-no-room-for-rule-spec =
+pub no_room_for_rule_spec : {M : Type 1} → statement M
+no_room_for_rule_spec =
     tie.close
     (tie.spec (λ c. search rules) (λ c κs. search rules) (λ c. search rules) (λ c κs. search rules) (λ c. search rules) (λ c κs. search rules) returns
     returns-2)

@@ -6,32 +6,31 @@ use borrow.Author.Rules.{rules}
 use Rattle.capi.proofs.text_calls.put_expanded.Statement.{statement}
 use Rattle.capi.proofs.text_calls.put_expanded.Tie as tie
 
-returns : tie.Need-returns
+returns : tie.Need-returns-then-rule-lt8
 unfolding form_named
-returns c = short-lent _ _ _ _ c.before.before.with-short-rule.type-inv c.before.before.with-short-rule.ensures
+returns c = short-lent _ _ _ _ c.with_short_rule.type_inv c.with_short_rule.ensures
 
-cast-result : tie.Need-overflow-cast-result
+cast-result : tie.Need-overflow_cast-result
 unfolding form_named
 cast-result c = count_fits _ (text-few Expanded _ _)
-    c.before.before.before.before.before.before.before.before.before.to-iso8601-expanded-by-arrays.ensures
-    c.before.before.before.before.before.n.given.1
+    c.to_iso8601_expanded_by_arrays.ensures
+    c.in-Written.is
 
-returns-2 : tie.Need-returns-2
+returns-2 : tie.Need-returns-in-Refused
 unfolding form_named
-returns-2 c = two-refused _ (text-few Expanded _ _) c.before.before.before.before.before.before.to-iso8601-expanded-by-arrays.ensures _
-    c.refused.type-inv c.before.before.number.given.1 c.refused.ensures
+returns-2 c = two-refused _ (text-few Expanded _ _) c.to_iso8601_expanded_by_arrays.ensures _
+    c.refused.type_inv c.in-Refused.is c.refused.ensures
 
-returns-3 : tie.Need-returns-3
+returns-3 : tie.Need-returns-in-Written
 unfolding form_named
 returns-3 c =
-    let back = c.before.before.before.before.before.before.before.before in
     two-written _ (text-few Expanded _ _)
-    back.before.to-iso8601-expanded-by-arrays.ensures
-    c.before.before.before.before.before.n.given.1
-    back.before.before.before.if1.false c.before.before.put-rule.ensures
+    c.to_iso8601_expanded_by_arrays.ensures
+    c.in-Written.is
+    c.if-rule-lt8.false c.put_rule.ensures
 
-pub put-expanded-spec : {M : Type 1} → statement M
-put-expanded-spec =
+pub put_expanded_spec : {M : Type 1} → statement M
+put_expanded_spec =
     tie.close
     (tie.spec (λ c κs. search rules) (λ c. search rules) returns (λ c κs. search rules) (λ c. search rules) (λ c κs. search rules) (λ c. search rules)
     (λ c κs. search rules) cast-result (λ c. search rules) returns-2 (λ c. search rules) (λ c. search rules) returns-3)

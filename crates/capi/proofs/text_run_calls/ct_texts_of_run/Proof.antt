@@ -6,77 +6,56 @@ use borrow.Author.Rules.{rules}
 use Rattle.capi.proofs.text_run_calls.ct_texts_of_run.Statement.{statement}
 use Rattle.capi.proofs.text_run_calls.ct_texts_of_run.Tie as tie
 
-returns : tie.Need-returns
+returns : tie.Need-returns-then-number-ne0
 returns c =
-    let n = c.before.before in
-    let s = n.before.before.before.before.before.before.before.before.before in
-    let a = s.args in
-    texts-table-refused _ _ n.read_table.result.number (n.read_table.ensures.0 refl refl) a.text-form a.jd1.now a.jd2.now
-    a.texts.now a.lengths.now a.numbers.now c.refused.type-inv c.before.if1.true c.refused.ensures
+    let a = c.args in
+    texts-table-refused _ _ c.read_table-lent.result.number (c.read_table-lent.ensures.0 refl refl) a.text_form a.jd1.now a.jd2.now
+    a.texts.now a.lengths.now a.numbers.now c.refused.type_inv c.if-number-ne0.true c.refused.ensures
 
-returns-2 : tie.Need-returns-2
+returns-2 : tie.Need-returns-then-text_form-gt2
 returns-2 c =
-    let i = c.before.before in
-    let n = i.before in
-    let s = n.before.before.before.before.before.before.before.before.before in
-    let a = s.args in
-    texts-form-refused _ _ n.read_table.result.number (n.read_table.ensures.0 refl refl) a.text-form a.jd1.now a.jd2.now
-    a.texts.now a.lengths.now a.numbers.now c.refused2.type-inv i.if1.false c.before.if2.true c.refused2.ensures
+    let a = c.args in
+    texts-form-refused _ _ c.read_table-lent.result.number (c.read_table-lent.ensures.0 refl refl) a.text_form a.jd1.now a.jd2.now
+    a.texts.now a.lengths.now a.numbers.now c.refused-then-text_form-gt2.type_inv c.if-number-ne0.false c.if-text_form-gt2.true
+    c.refused-then-text_form-gt2.ensures
 
-cast-result : tie.Need-overflow-cast-result
+cast-result : tie.Need-overflow_cast-result
 cast-result c =
-    let f = c.before.before.before.before.before.before.before.before.before in
-    let o = f.before.before.before.before.before.before in
-    let i2 = o.before in
-    let i = i2.before in
-    let n = i.before in
-    let s = n.before.before.before.before.before.before.before.before.before in
-    let a = s.args in
+    let a = c.args in
     record {
       sfits = omega (
         arith,
-        texts-counted _ _ n.read_table.result.number (n.read_table.ensures.0 refl refl) a.text-form a.jd1.now a.jd2.now
-            a.texts.now a.lengths.now a.numbers.now i.if1.false i2.if2.false o.form_of.result o.form_of.ensures
-            f.texts-of-run-by-arrays.result f.texts-of-run-by-arrays.ensures _ c.before.n.given.1,
-        s.well_formed,
+        texts-counted _ _ c.read_table-lent.result.number (c.read_table-lent.ensures.0 refl refl) a.text_form a.jd1.now a.jd2.now
+            a.texts.now a.lengths.now a.numbers.now c.if-number-ne0.false c.if-text_form-gt2.false c.form_of.result c.form_of.ensures
+            c.texts_of_run_by_arrays.result c.texts_of_run_by_arrays.ensures _ c.in-Written.is,
+        c.well_formed,
       );
     }
 
-returns-3 : tie.Need-returns-3
+returns-3 : tie.Need-returns-in-Written
 returns-3 c =
-    let f = c.before.before.before.before.before.before.before.before.before in
-    let o = f.before.before.before.before.before.before in
-    let i2 = o.before in
-    let i = i2.before in
-    let n = i.before in
-    let s = n.before.before.before.before.before.before.before.before.before in
-    let a = s.args in
-    texts-written _ _ n.read_table.result.number (n.read_table.ensures.0 refl refl) a.text-form a.jd1.now a.jd2.now
-    a.texts.now a.lengths.now a.numbers.now i.if1.false i2.if2.false o.form_of.result o.form_of.ensures
-    f.texts-of-run-by-arrays.result f.texts-of-run-by-arrays.ensures _ c.before.n.given.1
+    let a = c.args in
+    texts-written _ _ c.read_table-lent.result.number (c.read_table-lent.ensures.0 refl refl) a.text_form a.jd1.now a.jd2.now
+    a.texts.now a.lengths.now a.numbers.now c.if-number-ne0.false c.if-text_form-gt2.false c.form_of.result c.form_of.ensures
+    c.texts_of_run_by_arrays.result c.texts_of_run_by_arrays.ensures _ c.in-Written.is
     (omega (
       arith,
-      texts-counted _ _ n.read_table.result.number (n.read_table.ensures.0 refl refl) a.text-form a.jd1.now a.jd2.now
-          a.texts.now a.lengths.now a.numbers.now i.if1.false i2.if2.false o.form_of.result o.form_of.ensures
-          f.texts-of-run-by-arrays.result f.texts-of-run-by-arrays.ensures _ c.before.n.given.1,
-      s.well_formed,
+      texts-counted _ _ c.read_table-lent.result.number (c.read_table-lent.ensures.0 refl refl) a.text_form a.jd1.now a.jd2.now
+          a.texts.now a.lengths.now a.numbers.now c.if-number-ne0.false c.if-text_form-gt2.false c.form_of.result c.form_of.ensures
+          c.texts_of_run_by_arrays.result c.texts_of_run_by_arrays.ensures _ c.in-Written.is,
+      c.well_formed,
     ))
 
-returns-4 : tie.Need-returns-4
+returns-4 : tie.Need-returns-in-Refused
 returns-4 c =
-    let f = c.before.before.before.before.before.before.before.before.before.before in
-    let o = f.before.before.before.before.before.before in
-    let i2 = o.before in
-    let i = i2.before in
-    let n = i.before in
-    let s = n.before.before.before.before.before.before.before.before.before in
-    let a = s.args in
-    texts-refused _ _ n.read_table.result.number (n.read_table.ensures.0 refl refl) a.text-form a.jd1.now a.jd2.now
-    a.texts.now a.lengths.now a.numbers.now i.if1.false i2.if2.false o.form_of.result o.form_of.ensures
-    f.texts-of-run-by-arrays.result f.texts-of-run-by-arrays.ensures _ c.refused3.type-inv c.before.before.number.given.1 c.refused3.ensures
+    let a = c.args in
+    texts-refused _ _ c.read_table-lent.result.number (c.read_table-lent.ensures.0 refl refl) a.text_form a.jd1.now a.jd2.now
+    a.texts.now a.lengths.now a.numbers.now c.if-number-ne0.false c.if-text_form-gt2.false c.form_of.result c.form_of.ensures
+    c.texts_of_run_by_arrays.result c.texts_of_run_by_arrays.ensures _ c.refused-in-Refused.type_inv
+    c.in-Refused.is c.refused-in-Refused.ensures
 
-pub ct-texts-of-run-spec : {M : Type 1} → statement M
-ct-texts-of-run-spec =
+pub ct_texts_of_run_spec : {M : Type 1} → statement M
+ct_texts_of_run_spec =
     tie.close
     (tie.spec (λ c κs. search rules) (λ c κs. search rules) returns (λ c κs. search rules) returns-2 (λ c κs. search rules) (λ c κs. search rules)
     (λ c. search rules) cast-result (λ c. search rules) (λ c κs. search rules) (λ c. search rules) (λ c. search rules) (λ c. search rules) returns-3

@@ -6,23 +6,19 @@ use borrow.Author.Rules.{rules}
 use Rattle.capi.proofs.utc_calls.ct_ut1_to_utc_with_dut1.Statement.{statement}
 use Rattle.capi.proofs.utc_calls.ct_ut1_to_utc_with_dut1.Tie as tie
 
-returns : tie.Need-returns
+returns : tie.Need-returns-then-number-ne0
 returns c =
-    let n = c.before.before in
-    lent_refused _ _ n.read_table.result.number (n.read_table.ensures.0 refl refl) julian_bytes _ c.refused.type-inv
-    c.before.if1.true c.refused.ensures
+    lent_refused _ _ c.read_table-lent.result.number (c.read_table-lent.ensures.0 refl refl) julian_bytes _ c.refused.type_inv
+    c.if-number-ne0.true c.refused.ensures
 
-returns-2 : tie.Need-returns-2
+returns-2 : tie.Need-returns
 returns-2 c =
-    let p = c.before.before in
-    let b = p.before.before in
-    let n = b.before.before.before.before in
-    with_announced _ _ n.read_table.result.number (n.read_table.ensures.0 refl refl) julian_bytes _ p.put-utc.type-inv
-    b.before.before.before.if1.false
-    b.ut1-to-utc-with-dut1-by-arrays.ensures
-    p.put-utc.ensures
+    with_announced _ _ c.read_table-lent.result.number (c.read_table-lent.ensures.0 refl refl) julian_bytes _ c.put_utc.type_inv
+    c.if-number-ne0.false
+    c.ut1_to_utc_with_dut1_by_arrays.ensures
+    c.put_utc.ensures
 
-pub ct-ut1-to-utc-with-dut1-spec : {M : Type 1} → statement M
-ct-ut1-to-utc-with-dut1-spec =
+pub ct_ut1_to_utc_with_dut1_spec : {M : Type 1} → statement M
+ct_ut1_to_utc_with_dut1_spec =
     tie.close
     (tie.spec (λ c κs. search rules) (λ c κs. search rules) returns (λ c κs. search rules) (λ c κs. search rules) (λ c. search rules) returns-2)

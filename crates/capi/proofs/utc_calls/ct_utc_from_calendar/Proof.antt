@@ -10,26 +10,21 @@ use borrow.Author.Rules.{rules}
 use Rattle.capi.proofs.utc_calls.ct_utc_from_calendar.Statement.{statement}
 use Rattle.capi.proofs.utc_calls.ct_utc_from_calendar.Tie as tie
 
-returns : tie.Need-returns
+returns : tie.Need-returns-then-number-ne0
 returns c =
-    let n = c.before.before in
-    lent_refused _ _ n.read_table.result.number (n.read_table.ensures.0 refl refl) julian_bytes _ c.refused.type-inv
-    c.before.if1.true c.refused.ensures
+    lent_refused _ _ c.read_table-lent.result.number (c.read_table-lent.ensures.0 refl refl) julian_bytes _ c.refused.type_inv
+    c.if-number-ne0.true c.refused.ensures
 
-returns-2 : tie.Need-returns-2
+returns-2 : tie.Need-returns
 returns-2 c =
-    let p = c.before.before in
-    let b = p.before.before in
-    let n = b.before.before.before.before in
-    let s = n.before.before.before.before.before in
-    with_announced _ _ n.read_table.result.number (n.read_table.ensures.0 refl refl) julian_bytes _ p.put-utc.type-inv
-    b.before.before.before.if1.false
-    (b.utc-from-calendar-by-arrays.ensures
-    ∙ ap (λ (y : ℤ). utc_from_calendar (rows_in n.read_table.result.size n.read_table.new.1.0 n.read_table.new.1.1.0) y s.args.month
-    s.args.day s.args.hour s.args.minute s.args.second) (to_z-of_z s.ranges.year))
-    p.put-utc.ensures
+    with_announced _ _ c.read_table-lent.result.number (c.read_table-lent.ensures.0 refl refl) julian_bytes _ c.put_utc.type_inv
+    c.if-number-ne0.false
+    (c.utc_from_calendar_by_arrays.ensures
+    ∙ ap (λ (y : ℤ). utc_from_calendar (rows_in c.read_table-lent.result.size c.read_table-lent.new.months c.read_table-lent.new.seconds) y c.args.month
+    c.args.day c.args.hour c.args.minute c.args.second) (to_z-of_z c.ranges.year))
+    c.put_utc.ensures
 
-pub ct-utc-from-calendar-spec : {M : Type 1} → statement M
-ct-utc-from-calendar-spec =
+pub ct_utc_from_calendar_spec : {M : Type 1} → statement M
+ct_utc_from_calendar_spec =
     tie.close
     (tie.spec (λ c κs. search rules) (λ c κs. search rules) returns (λ c κs. search rules) (λ c κs. search rules) (λ c. search rules) returns-2)

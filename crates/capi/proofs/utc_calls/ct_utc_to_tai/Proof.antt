@@ -6,23 +6,19 @@ use borrow.Author.Rules.{rules}
 use Rattle.capi.proofs.utc_calls.ct_utc_to_tai.Statement.{statement}
 use Rattle.capi.proofs.utc_calls.ct_utc_to_tai.Tie as tie
 
-returns : tie.Need-returns
+returns : tie.Need-returns-then-number-ne0
 returns c =
-    let n = c.before.before in
-    lent_refused _ _ n.read_table.result.number (n.read_table.ensures.0 refl refl) julian_rule_bytes _ c.refused.type-inv
-    c.before.if1.true c.refused.ensures
+    lent_refused _ _ c.read_table-lent.result.number (c.read_table-lent.ensures.0 refl refl) julian_rule_bytes _ c.refused.type_inv
+    c.if-number-ne0.true c.refused.ensures
 
-returns-2 : tie.Need-returns-2
+returns-2 : tie.Need-returns
 returns-2 c =
-    let p = c.before.before in
-    let b = p.before.before in
-    let n = b.before.before.before.before in
-    with_announced _ _ n.read_table.result.number (n.read_table.ensures.0 refl refl) julian_rule_bytes _ p.put-tai-by-rule.type-inv
-    b.before.before.before.if1.false
-    b.utc-to-tai-by-arrays.ensures
-    p.put-tai-by-rule.ensures
+    with_announced _ _ c.read_table-lent.result.number (c.read_table-lent.ensures.0 refl refl) julian_rule_bytes _ c.put_tai_by_rule.type_inv
+    c.if-number-ne0.false
+    c.utc_to_tai_by_arrays.ensures
+    c.put_tai_by_rule.ensures
 
-pub ct-utc-to-tai-spec : {M : Type 1} → statement M
-ct-utc-to-tai-spec =
+pub ct_utc_to_tai_spec : {M : Type 1} → statement M
+ct_utc_to_tai_spec =
     tie.close
     (tie.spec (λ c κs. search rules) (λ c κs. search rules) returns (λ c κs. search rules) (λ c κs. search rules) (λ c. search rules) returns-2)

@@ -7,18 +7,17 @@ use borrow.Author.Rules.{rules}
 use Rattle.capi.proofs.utc_calls.put_tai_by_rule.Statement.{statement}
 use Rattle.capi.proofs.utc_calls.put_tai_by_rule.Tie as tie
 
-returns : tie.Need-returns
+returns : tie.Need-returns-in-Date
 unfolding tai_by_rule_outcome
 returns c =
-    let p = c.before.before in
-    delivered_answer julian_rule_bytes p.put-julian-by-rule.type-inv _ (ap tai_by_rule_outcome p.before.before.before.found.given.1)
-    p.put-julian-by-rule.ensures
+    delivered_answer julian_rule_bytes c.put_julian_by_rule.type_inv _ (ap tai_by_rule_outcome c.in-Date.is)
+    c.put_julian_by_rule.ensures
 
-returns-2 : tie.Need-returns-2
+returns-2 : tie.Need-returns-in-Refused
 unfolding tai_by_rule_outcome
-returns-2 c = refused-on julian_rule_bytes c.refused.type-inv _ (ap tai_by_rule_outcome c.before.before.found2.given.1) c.refused.ensures
+returns-2 c = refused-on julian_rule_bytes c.refused.type_inv _ (ap tai_by_rule_outcome c.in-Refused.is) c.refused.ensures
 
-pub put-tai-by-rule-spec : {M : Type 1} → statement M
-put-tai-by-rule-spec =
+pub put_tai_by_rule_spec : {M : Type 1} → statement M
+put_tai_by_rule_spec =
     tie.close
     (tie.spec (λ c. search rules) (λ c κs. search rules) (λ c. search rules) (λ c κs. search rules) (λ c. search rules) returns returns-2)

@@ -8,5 +8,5 @@ returns : tie.Need-returns
 unfolding add_days uncarried
 returns c = cc
 
-pub add-days-spec : {M : Type 1} → statement M
-add-days-spec = tie.close (tie.spec (λ c κs. search rules) (λ c κs. search rules) (λ c κs. search rules) returns)
+pub add_days_spec : {M : Type 1} → statement M
+add_days_spec = tie.close (tie.spec (λ c κs. search rules) (λ c κs. search rules) (λ c κs. search rules) returns)

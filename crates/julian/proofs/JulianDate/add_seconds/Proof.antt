@@ -11,7 +11,7 @@ returns : tie.Need-returns
 unfolding add_seconds
 returns c =
     let a = c.before.args in
-    c.add-days.ensures ∙ ap (λ (k : Float). add_days a.self (div binary64 a.seconds k)) seconds-per-day
+    c.add_days.ensures ∙ ap (λ (k : Float). add_days a.self (div binary64 a.seconds k)) seconds-per-day
 
-pub add-seconds-spec : {M : Type 1} → statement M
-add-seconds-spec = tie.close (tie.spec (λ c κs. search rules) returns)
+pub add_seconds_spec : {M : Type 1} → statement M
+add_seconds_spec = tie.close (tie.spec (λ c κs. search rules) returns)

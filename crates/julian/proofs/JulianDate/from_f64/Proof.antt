@@ -8,5 +8,5 @@ returns : tie.Need-returns
 unfolding of_bits round
 returns c = c.new.ensures
 
-pub from-f64-spec : {M : Type 1} → statement M
-from-f64-spec = tie.close (tie.spec (λ c κs. search rules) returns)
+pub from_f64_spec : {M : Type 1} → statement M
+from_f64_spec = tie.close (tie.spec (λ c κs. search rules) returns)

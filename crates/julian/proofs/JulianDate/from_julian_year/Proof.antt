@@ -10,5 +10,5 @@ returns : tie.Need-returns
 unfolding from_julian_year mjd_zero_point j2000_jd days_per_julian_year of_bits round
 returns c = c.new.ensures
 
-pub from-julian-year-spec : {M : Type 1} → statement M
-from-julian-year-spec = tie.close (tie.spec (λ c κs. search rules) returns)
+pub from_julian_year_spec : {M : Type 1} → statement M
+from_julian_year_spec = tie.close (tie.spec (λ c κs. search rules) returns)

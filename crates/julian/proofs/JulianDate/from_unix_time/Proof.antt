@@ -25,13 +25,13 @@ left-read z f = ap (λ (x : ℤ). rem_z x (pos 86400)) (to_z-of_z f) ∙ remaind
 divides : (z : ℤ) → SFits w64 z → (0 < 86400) × SFits w64 (quot_z (to_z w64 (of_z w64 z)) (pos 86400))
 divides z f = (lit< tt, subst (SFits w64) (sym (days-read z f)) (days-fit z f))
 
-int-to-float-days : tie.Need-int-to-float-days
+int-to-float-days : tie.Need-int_to_float-days
 int-to-float-days c =
     let s = c.before in
     rw (days-read s.args.seconds s.ranges.seconds, to_z-of_z (days-fit s.args.seconds s.ranges.seconds))
     (days-in-float s.args.seconds s.ranges.seconds)
 
-int-to-float-rest : tie.Need-int-to-float-rest
+int-to-float-rest : tie.Need-int_to_float-rest
 int-to-float-rest c =
     let s = c.before.before in
     rw (left-read s.args.seconds s.ranges.seconds, to_z-of_z (left-fit s.args.seconds)) (left-in-float s.args.seconds)
@@ -50,8 +50,8 @@ returns c =
       unix-epoch-jd,
     )
 
-pub from-unix-time-spec : {M : Type 1} → statement M
-from-unix-time-spec =
+pub from_unix_time_spec : {M : Type 1} → statement M
+from_unix_time_spec =
     tie.close
     (tie.spec (λ c. divides c.args.seconds c.ranges.seconds) int-to-float-days
     (λ c. divides c.before.args.seconds c.before.ranges.seconds) int-to-float-rest (λ c. search rules) (λ c κs. search rules) returns)

@@ -11,5 +11,5 @@ returns : tie.Need-returns
 unfolding of_bits round j2000_jd
 returns c = c.new.ensures
 
-pub j2000-spec : {M : Type 1} → statement M
-j2000-spec = tie.close (tie.spec (λ c κs. search rules) returns)
+pub j2000_spec : {M : Type 1} → statement M
+j2000_spec = tie.close (tie.spec (λ c κs. search rules) returns)

@@ -8,5 +8,5 @@ returns : tie.Need-returns
 unfolding rounded_sum
 returns c = refl
 
-pub to-f64-spec : {M : Type 1} → statement M
-to-f64-spec = tie.close (tie.spec returns)
+pub to_f64_spec : {M : Type 1} → statement M
+to_f64_spec = tie.close (tie.spec returns)

@@ -10,5 +10,5 @@ returns : tie.Need-returns
 unfolding to_julian_year j2000_jd days_per_julian_year of_bits round
 returns c = refl
 
-pub to-julian-year-spec : {M : Type 1} → statement M
-to-julian-year-spec = tie.close (tie.spec returns)
+pub to_julian_year_spec : {M : Type 1} → statement M
+to_julian_year_spec = tie.close (tie.spec returns)

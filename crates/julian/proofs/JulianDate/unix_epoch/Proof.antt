@@ -9,5 +9,5 @@ returns : tie.Need-returns
 unfolding of_bits round unix_epoch_jd
 returns c = c.new.ensures
 
-pub unix-epoch-spec : {M : Type 1} → statement M
-unix-epoch-spec = tie.close (tie.spec (λ c κs. search rules) returns)
+pub unix_epoch_spec : {M : Type 1} → statement M
+unix_epoch_spec = tie.close (tie.spec (λ c κs. search rules) returns)

@@ -9,5 +9,5 @@ returns : tie.Need-returns
 unfolding borrow_day of_bits
 returns c = refl
 
-pub borrow-day-spec : {M : Type 1} → statement M
-borrow-day-spec = tie.close (tie.spec returns)
+pub borrow_day_spec : {M : Type 1} → statement M
+borrow_day_spec = tie.close (tie.spec returns)

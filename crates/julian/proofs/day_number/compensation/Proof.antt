@@ -4,13 +4,13 @@ use borrow.Author.Rules.{rules}
 use Rattle.julian.proofs.day_number.compensation.Statement.{statement}
 use Rattle.julian.proofs.day_number.compensation.Tie as tie
 
-returns : tie.Need-returns
-returns c = let s = c.before.before.args in sum-larger s.sum s.frac s.temp c.before.at-least-in-size.result
-    c.before.at-least-in-size.ensures c.if1.true
+returns : tie.Need-returns-then-at_least_in_size
+returns c = let s = c.before.before.args in sum-larger s.sum s.frac s.temp c.before.at_least_in_size.result
+    c.before.at_least_in_size.ensures c.if-at_least_in_size.true
 
-returns-2 : tie.Need-returns-2
-returns-2 c = let s = c.before.before.args in fraction-larger s.sum s.frac s.temp c.before.at-least-in-size.result
-    c.before.at-least-in-size.ensures c.if1.false
+returns-2 : tie.Need-returns-else-at_least_in_size
+returns-2 c = let s = c.before.before.args in fraction-larger s.sum s.frac s.temp c.before.at_least_in_size.result
+    c.before.at_least_in_size.ensures c.if-at_least_in_size.false
 
-pub compensation-spec : {M : Type 1} → statement M
-compensation-spec = tie.close (tie.spec (λ c κs. search rules) returns returns-2)
+pub compensation_spec : {M : Type 1} → statement M
+compensation_spec = tie.close (tie.spec (λ c κs. search rules) returns returns-2)

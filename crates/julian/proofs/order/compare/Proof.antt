@@ -7,37 +7,37 @@ use Rattle.julian.proofs.order.Tests.{first-refused, second-refused, is-before, 
 use Rattle.julian.proofs.order.compare.Statement.{statement}
 use Rattle.julian.proofs.order.compare.Tie as tie
 
-returns : tie.Need-returns
+returns : tie.Need-returns-then-not-is_finite
 unfolding order_outcome
 returns c =
     let t = c.before.before in
     let s = t.before in
-    first-refused s.before.args.a s.before.args.b s.exact-sum.result t.exact-sum2.result s.exact-sum.ensures t.exact-sum2.ensures
-    (sym c.before.is_finite.ensures ∙ not-true c.before.is_finite.result c.if1.true)
+    first-refused s.before.args.a s.before.args.b s.exact_sum-one.result t.exact_sum-two.result s.exact_sum-one.ensures t.exact_sum-two.ensures
+    (sym c.before.is_finite.ensures ∙ c.if-not-is_finite.true)
 
-returns-2 : tie.Need-returns-2
+returns-2 : tie.Need-returns-then-not-is_finite-2
 unfolding order_outcome
 returns-2 c =
     let f = c.before.before in
     let t = f.before.before in
     let s = t.before in
-    second-refused s.before.args.a s.before.args.b s.exact-sum.result t.exact-sum2.result s.exact-sum.ensures t.exact-sum2.ensures
-    (sym f.before.is_finite.ensures ∙ not-false f.before.is_finite.result f.if1.false)
-    (sym c.before.is-finite2.ensures ∙ not-true c.before.is-finite2.result c.if2.true)
+    second-refused s.before.args.a s.before.args.b s.exact_sum-one.result t.exact_sum-two.result s.exact_sum-one.ensures t.exact_sum-two.ensures
+    (sym f.before.is_finite.ensures ∙ f.if-not-is_finite.false)
+    (sym c.before.is_finite-2.ensures ∙ c.if-not-is_finite-2.true)
 
-returns-3 : tie.Need-returns-3
+returns-3 : tie.Need-returns-then-sooner
 unfolding order_outcome
 returns-3 c =
     let g = c.before.before in
     let f = g.before.before in
     let t = f.before.before in
     let s = t.before in
-    is-before s.before.args.a s.before.args.b s.exact-sum.result t.exact-sum2.result s.exact-sum.ensures t.exact-sum2.ensures
-    (sym f.before.is_finite.ensures ∙ not-false f.before.is_finite.result f.if1.false)
-    (sym g.before.is-finite2.ensures ∙ not-false g.before.is-finite2.result g.if2.false)
-    (sym c.before.sooner.ensures ∙ c.if3.true)
+    is-before s.before.args.a s.before.args.b s.exact_sum-one.result t.exact_sum-two.result s.exact_sum-one.ensures t.exact_sum-two.ensures
+    (sym f.before.is_finite.ensures ∙ f.if-not-is_finite.false)
+    (sym g.before.is_finite-2.ensures ∙ g.if-not-is_finite-2.false)
+    (sym c.before.sooner.ensures ∙ c.if-sooner.true)
 
-returns-4 : tie.Need-returns-4
+returns-4 : tie.Need-returns-then-sooner-2
 unfolding order_outcome
 returns-4 c =
     let h = c.before.before in
@@ -45,13 +45,13 @@ returns-4 c =
     let f = g.before.before in
     let t = f.before.before in
     let s = t.before in
-    is-after s.before.args.a s.before.args.b s.exact-sum.result t.exact-sum2.result s.exact-sum.ensures t.exact-sum2.ensures
-    (sym f.before.is_finite.ensures ∙ not-false f.before.is_finite.result f.if1.false)
-    (sym g.before.is-finite2.ensures ∙ not-false g.before.is-finite2.result g.if2.false)
-    (sym h.before.sooner.ensures ∙ h.if3.false)
-    (sym c.before.sooner2.ensures ∙ c.if4.true)
+    is-after s.before.args.a s.before.args.b s.exact_sum-one.result t.exact_sum-two.result s.exact_sum-one.ensures t.exact_sum-two.ensures
+    (sym f.before.is_finite.ensures ∙ f.if-not-is_finite.false)
+    (sym g.before.is_finite-2.ensures ∙ g.if-not-is_finite-2.false)
+    (sym h.before.sooner.ensures ∙ h.if-sooner.false)
+    (sym c.before.sooner-2.ensures ∙ c.if-sooner-2.true)
 
-returns-5 : tie.Need-returns-5
+returns-5 : tie.Need-returns
 unfolding order_outcome
 returns-5 c =
     let h = c.before.before in
@@ -59,14 +59,14 @@ returns-5 c =
     let f = g.before.before in
     let t = f.before.before in
     let s = t.before in
-    is-equal s.before.args.a s.before.args.b s.exact-sum.result t.exact-sum2.result s.exact-sum.ensures t.exact-sum2.ensures
-    (sym f.before.is_finite.ensures ∙ not-false f.before.is_finite.result f.if1.false)
-    (sym g.before.is-finite2.ensures ∙ not-false g.before.is-finite2.result g.if2.false)
-    (sym h.before.sooner.ensures ∙ h.if3.false)
-    (sym c.before.sooner2.ensures ∙ c.if4.false)
+    is-equal s.before.args.a s.before.args.b s.exact_sum-one.result t.exact_sum-two.result s.exact_sum-one.ensures t.exact_sum-two.ensures
+    (sym f.before.is_finite.ensures ∙ f.if-not-is_finite.false)
+    (sym g.before.is_finite-2.ensures ∙ g.if-not-is_finite-2.false)
+    (sym h.before.sooner.ensures ∙ h.if-sooner.false)
+    (sym c.before.sooner-2.ensures ∙ c.if-sooner-2.false)
 
-pub compare-spec : {M : Type 1} → statement M
-compare-spec =
+pub compare_spec : {M : Type 1} → statement M
+compare_spec =
     tie.close
     (tie.spec (λ c κs. search rules) (λ c κs. search rules) (λ c κs. search rules) returns (λ c κs. search rules) returns-2 (λ c κs. search rules)
     returns-3 (λ c κs. search rules) returns-4 returns-5)

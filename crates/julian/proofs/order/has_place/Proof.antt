@@ -9,7 +9,7 @@ use Rattle.julian.proofs.order.has_place.Tie as tie
 
 returns : tie.Need-returns
 unfolding sums
-returns c = c.is_finite.ensures ∙ ap (λ (s : ExactSum). finite s.error) c.before.exact-sum.ensures
+returns c = c.is_finite.ensures ∙ ap (λ (s : ExactSum). finite s.error) c.before.exact_sum-one.ensures
 
-pub has-place-spec : {M : Type 1} → statement M
-has-place-spec = tie.close (tie.spec (λ c κs. search rules) (λ c κs. search rules) returns)
+pub has_place_spec : {M : Type 1} → statement M
+has_place_spec = tie.close (tie.spec (λ c κs. search rules) (λ c κs. search rules) returns)

@@ -8,7 +8,7 @@ use Rattle.julian.proofs.order.is_earlier.Tie as tie
 
 returns : tie.Need-returns
 unfolding sums is_earlier
-returns c = c.sooner.ensures ∙ rw (c.before.before.exact-sum.ensures, c.before.exact-sum2.ensures)
+returns c = c.sooner.ensures ∙ rw (c.before.before.exact_sum-one.ensures, c.before.exact_sum-two.ensures)
 
-pub is-earlier-spec : {M : Type 1} → statement M
-is-earlier-spec = tie.close (tie.spec (λ c κs. search rules) (λ c κs. search rules) (λ c κs. search rules) returns)
+pub is_earlier_spec : {M : Type 1} → statement M
+is_earlier_spec = tie.close (tie.spec (λ c κs. search rules) (λ c κs. search rules) (λ c κs. search rules) returns)

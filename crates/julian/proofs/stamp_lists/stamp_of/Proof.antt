@@ -9,11 +9,11 @@ returns : tie.Need-returns
 returns c =
     let s = c.before.before.before.before.before.before.before in
     let a = s.args in
-    c.new.ensures ∙ stamp-is a.jd1s.now a.jd2s.now a.i c.before.before.before.before.nth-u64.result
-    c.before.before.nth-u642.result c.before.before.before.from-bits.result c.before.from-bits2.result
-    c.before.before.before.before.nth-u64.ensures c.before.before.nth-u642.ensures c.before.before.before.from-bits.ensures
-    c.before.from-bits2.ensures
+    c.new.ensures ∙ stamp-is a.jd1s.now a.jd2s.now a.i c.before.before.before.before.nth_u64.result
+    c.before.before.nth_u64-2.result c.before.before.before.from_bits-x.result c.before.from_bits-y.result
+    c.before.before.before.before.nth_u64.ensures c.before.before.nth_u64-2.ensures c.before.before.before.from_bits-x.ensures
+    c.before.from_bits-y.ensures
 
-pub stamp-of-spec : {M : Type 1} → statement M
-stamp-of-spec =
+pub stamp_of_spec : {M : Type 1} → statement M
+stamp_of_spec =
     tie.close (tie.spec (λ c κs. search rules) (λ c κs. search rules) (λ c κs. search rules) (λ c κs. search rules) (λ c κs. search rules) returns)

@@ -2,30 +2,27 @@
 use borrow.Author.Rules.{rules}
 use mathlib.Core.Path.{sym, ◌∙◌}
 use mathlib.Core.Bool.{true, false}
-use borrow.Author.Tests.{not-true, not-false}
 use Rattle.leap_lists.proofs.held.Tests.{full, not_later, by-step}
 use Rattle.leap_lists.proofs.held.later_fault.Statement.{statement}
 use Rattle.leap_lists.proofs.held.later_fault.Tie as tie
 
-returns : tie.Need-returns
-returns c = let a = c.before.before.args in full a.held a.month a.seconds c.if1.true
+returns : tie.Need-returns-then-held-ge16
+returns c = let a = c.args in full a.held a.month a.seconds c.if-held-ge16.true
 
-returns-2 : tie.Need-returns-2
-returns-2 c = let a = c.before.before.before.before.args in not_later a.held a.month a.seconds c.before.before.if1.false c.if2.true
+returns-2 : tie.Need-returns-then-month-held
+returns-2 c = let a = c.args in not_later a.held a.month a.seconds c.if-held-ge16.false c.if-month-held.true
 
-returns-3 : tie.Need-returns-3
+returns-3 : tie.Need-returns-then-not-one_apart
 returns-3 c =
-    let o = c.before in
-    let a = o.before.before.before.before.before.args in
-    by-step a.held a.month a.seconds false o.before.before.before.if1.false o.before.if2.false
-    (sym o.one-Apart.ensures ∙ not-true _ c.if3.true)
+    let a = c.args in
+    by-step a.held a.month a.seconds false c.if-held-ge16.false c.if-month-held.false
+    (sym c.one_apart.ensures ∙ c.if-not-one_apart.true)
 
-returns-4 : tie.Need-returns-4
+returns-4 : tie.Need-returns
 returns-4 c =
-    let o = c.before in
-    let a = o.before.before.before.before.before.args in
-    by-step a.held a.month a.seconds true o.before.before.before.if1.false o.before.if2.false
-    (sym o.one-Apart.ensures ∙ not-false _ c.if3.false)
+    let a = c.args in
+    by-step a.held a.month a.seconds true c.if-held-ge16.false c.if-month-held.false
+    (sym c.one_apart.ensures ∙ c.if-not-one_apart.false)
 
-pub later-fault-spec : {M : Type 1} → statement M
-later-fault-spec = tie.close (tie.spec returns returns-2 (λ c κs. search rules) returns-3 returns-4)
+pub later_fault_spec : {M : Type 1} → statement M
+later_fault_spec = tie.close (tie.spec returns returns-2 (λ c κs. search rules) returns-3 returns-4)

@@ -16,9 +16,9 @@ held m s = record { size = 0; months = replicate 16 (pos 0); seconds = replicate
 returns : tie.Need-returns
 unfolding none_held held
 returns c =
-    let m = c.before.last-month.ensures in
-    let s = c.seconds-from.ensures.0 ∙ ap seconds_from m ∙ last-second in
+    let m = c.last_month-month.ensures in
+    let s = c.seconds_from.ensures.0 ∙ ap seconds_from m ∙ last-second in
     λ i. held (m i) (s i)
 
-pub none-held-spec : {M : Type 1} → statement M
-none-held-spec = tie.close (tie.spec (λ c κs. search rules) (λ c κs. search rules) returns)
+pub none_held_spec : {M : Type 1} → statement M
+none_held_spec = tie.close (tie.spec (λ c κs. search rules) (λ c κs. search rules) returns)

@@ -9,27 +9,24 @@ use Rattle.leap_lists.proofs.held.Tests.{as_later, as_own}
 use Rattle.leap_lists.proofs.held.row_fault.Statement.{statement}
 use Rattle.leap_lists.proofs.held.row_fault.Tie as tie
 
-returns : tie.Need-returns
+returns : tie.Need-returns-then-last_month-month
 returns c =
-    let m = c.before.before in
-    let a = m.before.args in
-    as_later a.held a.month a.seconds _ (omega (arith, m.last-month.ensures, c.before.if1.true)) c.later-fault.ensures
+    let a = c.args in
+    as_later a.held a.month a.seconds _ (omega (arith, c.last_month.ensures, c.if-last_month-month.true)) c.later_fault.ensures
 
-returns-2 : tie.Need-returns-2
+returns-2 : tie.Need-returns-then-library_row
 returns-2 c =
-    let m = c.before.before.before in
-    let a = m.before.args in
-    as_own a.held a.month a.seconds true (omega (arith, m.last-month.ensures, c.before.before.if1.false))
-    (sym c.before.library-row.ensures ∙ c.if2.true)
+    let a = c.args in
+    as_own a.held a.month a.seconds true (omega (arith, c.last_month.ensures, c.if-last_month-month.false))
+    (sym c.library_row.ensures ∙ c.if-library_row.true)
 
-returns-3 : tie.Need-returns-3
+returns-3 : tie.Need-returns
 returns-3 c =
-    let m = c.before.before.before in
-    let a = m.before.args in
-    as_own a.held a.month a.seconds false (omega (arith, m.last-month.ensures, c.before.before.if1.false))
-    (sym c.before.library-row.ensures ∙ c.if2.false)
+    let a = c.args in
+    as_own a.held a.month a.seconds false (omega (arith, c.last_month.ensures, c.if-last_month-month.false))
+    (sym c.library_row.ensures ∙ c.if-library_row.false)
 
-pub row-fault-spec : {M : Type 1} → statement M
-row-fault-spec =
+pub row_fault_spec : {M : Type 1} → statement M
+row_fault_spec =
     tie.close
     (tie.spec (λ c κs. search rules) (λ c κs. search rules) returns (λ c κs. search rules) returns-2 returns-3)

@@ -14,15 +14,15 @@ use Rattle.leap_lists.proofs.held.seconds_from.Tie as tie
 
 returns : tie.Need-returns
 returns c =
-    let t = c.before.no_rows.result in
-    let m = c.before.before.args.month in (
-      c.whole-seconds-by-rows.ensures.0
+    let t = c.no_rows.result in
+    let m = c.args.month in (
+      c.whole_seconds_by_rows.ensures.0
           ∙ ap (λ (y : ℤ). whole_seconds (rows_of t) y (m % 12 + 1)) (to_z_pos w32 {n = m / 12} (omega arith))
-          ∙ own-seconds t m c.before.no_rows.ensures,
-      c.whole-seconds-by-rows.ensures.1,
+          ∙ own-seconds t m c.no_rows.ensures,
+      c.whole_seconds_by_rows.ensures.1,
     )
 
-pub seconds-from-spec : {M : Type 1} → statement M
-seconds-from-spec =
+pub seconds_from_spec : {M : Type 1} → statement M
+seconds_from_spec =
     tie.close
     (tie.spec (λ c. search rules) (λ c. search rules) (λ c κs. search rules) (λ c κs. search rules) returns)

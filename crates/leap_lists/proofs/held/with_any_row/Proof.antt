@@ -6,24 +6,20 @@ use Rattle.leap_lists.proofs.held.Tests.{room, is_held, not_held}
 use Rattle.leap_lists.proofs.held.with_any_row.Statement.{statement}
 use Rattle.leap_lists.proofs.held.with_any_row.Tie as tie
 
-with-row-requires : tie.Need-with-row-requires
+with-row-requires : tie.Need-with_row-requires
 with-row-requires c κs =
-    let m = c.before in
-    let s = m.before in
-    let a = s.args in
-    (room a.held a.month a.seconds (omega (arith, m.last-month.ensures, c.if1.true)) s.requires.0, s.requires.1, s.requires.2)
+    let a = c.args in
+    (room a.held a.month a.seconds (omega (arith, c.last_month.ensures, c.if-last_month-month.true)) c.requires.0, c.requires.1, c.requires.2)
 
-returns : tie.Need-returns
+returns : tie.Need-returns-then-last_month-month
 returns c =
-    let m = c.before.before in
-    let a = m.before.args in
-    c.with_row.ensures ∙ is_held a.held a.month a.seconds (omega (arith, m.last-month.ensures, c.before.if1.true))
+    let a = c.args in
+    c.with_row.ensures ∙ is_held a.held a.month a.seconds (omega (arith, c.last_month.ensures, c.if-last_month-month.true))
 
-returns-2 : tie.Need-returns-2
+returns-2 : tie.Need-returns
 returns-2 c =
-    let m = c.before in
-    let a = m.before.args in
-    not_held a.held a.month a.seconds (omega (arith, m.last-month.ensures, c.if1.false))
+    let a = c.args in
+    not_held a.held a.month a.seconds (omega (arith, c.last_month.ensures, c.if-last_month-month.false))
 
-pub with-any-row-spec : {M : Type 1} → statement M
-with-any-row-spec = tie.close (tie.spec (λ c κs. search rules) with-row-requires returns returns-2)
+pub with_any_row_spec : {M : Type 1} → statement M
+with_any_row_spec = tie.close (tie.spec (λ c κs. search rules) with-row-requires returns returns-2)

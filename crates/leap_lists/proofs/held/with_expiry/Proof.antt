@@ -8,5 +8,5 @@ returns : tie.Need-returns
 unfolding with_line
 returns c = search rules
 
-pub with-expiry-spec : {M : Type 1} → statement M
-with-expiry-spec = tie.close (tie.spec returns)
+pub with_expiry_spec : {M : Type 1} → statement M
+with_expiry_spec = tie.close (tie.spec returns)

@@ -13,19 +13,18 @@ use Rattle.leap_lists.proofs.held.with_row.Tie as tie
 
 returns : tie.Need-returns
 returns c =
-    let a = c.before.before.before.before in
-    let h = a.args.held in
+    let h = c.args.held in
     λ i. record {
       size = h.size + 1;
-      months = set h.months h.size (to_z_pos w32 {n = a.args.month} (omega arith) i);
-      seconds = set h.seconds h.size (to_z_pos w32 {n = a.args.seconds} (omega arith) i);
-      month = a.args.month;
-      second = a.args.seconds;
+      months = set h.months h.size (to_z_pos w32 {n = c.args.month} (omega arith) i);
+      seconds = set h.seconds h.size (to_z_pos w32 {n = c.args.seconds} (omega arith) i);
+      month = c.args.month;
+      second = c.args.seconds;
       known = h.known;
     }
 
-pub with-row-spec : {M : Type 1} → statement M
-with-row-spec =
+pub with_row_spec : {M : Type 1} → statement M
+with_row_spec =
     tie.close
     (tie.spec (λ c. search rules) (λ c. search rules) (λ c. search rules) (λ c. search rules) (λ c. search rules) (λ c. search rules) (λ c. search rules)
     (λ c. search rules) returns)

@@ -7,33 +7,31 @@ use Rattle.leap_lists.proofs.lines.Ladder.{no_number, no_midnight, no_month, ntp
 use Rattle.leap_lists.proofs.lines.ntp_row.Statement.{statement}
 use Rattle.leap_lists.proofs.lines.ntp_row.Tie as tie
 
-returns : tie.Need-returns
-returns c = let a = c.before.before.args in (no_number a.ntp a.places (drop a.at a.line.now) c.if1.true, tt)
+returns : tie.Need-returns-then-places-eq0
+returns c = let a = c.args in (no_number a.ntp a.places (drop a.at a.line.now) c.if-places-eq0.true, tt)
 
-returns-2 : tie.Need-returns-2
-returns-2 c = let a = c.before.before.before.args in (no_midnight a.ntp a.places (drop a.at a.line.now) c.if2.true, tt)
+returns-2 : tie.Need-returns-then-ntp-ne0
+returns-2 c = let a = c.args in (no_midnight a.ntp a.places (drop a.at a.line.now) c.if-ntp-ne0.true, tt)
 
-returns-3 : tie.Need-returns-3
+returns-3 : tie.Need-returns-then-month-eq0
 returns-3 c =
-    let m = c.before in
-    let a = m.before.before.before.before.args in (
-      no_month a.ntp a.places (drop a.at a.line.now) m.month-from.result m.before.before.if1.false m.before.if2.false
-          m.month-from.ensures.0 c.if3.true,
+    let a = c.args in (
+      no_month a.ntp a.places (drop a.at a.line.now) c.month_from-month.result c.if-places-eq0.false c.if-ntp-ne0.false
+          c.month_from-month.ensures.0 c.if-month-eq0.true,
       tt,
     )
 
-returns-4 : tie.Need-returns-4
+returns-4 : tie.Need-returns
 returns-4 c =
-    let m = c.before.before in
-    let a = m.before.before.before.before.args in (
-      c.row-with.ensures.0
-          ∙ ntp-is a.ntp a.places (drop a.at a.line.now) m.month-from.result m.before.before.if1.false m.before.if2.false
-          m.month-from.ensures.0 c.before.if3.false,
-      c.row-with.ensures.1,
+    let a = c.args in (
+      c.row_with.ensures.0
+          ∙ ntp-is a.ntp a.places (drop a.at a.line.now) c.month_from-month.result c.if-places-eq0.false c.if-ntp-ne0.false
+          c.month_from-month.ensures.0 c.if-month-eq0.false,
+      c.row_with.ensures.1,
     )
 
-pub ntp-row-spec : {M : Type 1} → statement M
-ntp-row-spec =
+pub ntp_row_spec : {M : Type 1} → statement M
+ntp_row_spec =
     tie.close
     (tie.spec returns returns-2 (λ c κs. search rules) returns-3
-    (λ c κs. (c.before.before.before.before.before.requires, omega (arith, c.before.month-from.ensures.1))) returns-4)
+    (λ c κs. (c.requires, omega (arith, c.month_from-month.ensures.1))) returns-4)

@@ -11,36 +11,36 @@ use Rattle.leap_lists.proofs.lines.Ladder.{hyphen, no_hyphen, four-digits}
 use Rattle.leap_lists.proofs.lines.row_at.Statement.{statement}
 use Rattle.leap_lists.proofs.lines.row_at.Tie as tie
 
-returns : tie.Need-returns
+returns : tie.Need-returns-then-byte_at-eq45
 returns c =
-    let y = c.before.before in
-    let d = y.before in
-    let a = d.before.before.args in (
-      hyphen a.at a.line.now d.digits.result d.digits.ensures _ (sym y.byte_at.ensures ∙ c.before.if1.true) c.month-row.ensures.0,
-      c.month-row.ensures.1,
+    let a = c.args in (
+      hyphen a.at a.line.now c.digits-run.result c.digits-run.ensures _ (sym c.byte_at.ensures ∙ c.if-byte_at-eq45.true) c.month_row.ensures.0,
+      c.month_row.ensures.1,
     )
 
-month-row-requires : tie.Need-month-row-requires
+month-row-requires : tie.Need-month_row-requires
 month-row-requires c κs =
-    let y = c.before in
-    let d = y.before in
-    let a = d.before.before.args in (
-      add-one-le (inside a.line.now d.digits.result.end 45 (lit< tt) (sym y.byte_at.ensures ∙ c.if1.true)),
-      four-digits a.at a.line.now d.digits.result d.digits.ensures,
+    let a = c.args in (
+      add-one-le (inside a.line.now c.digits-run.result.end 45 (lit< tt) (sym c.byte_at.ensures ∙ c.if-byte_at-eq45.true)),
+      four-digits a.at a.line.now c.digits-run.result c.digits-run.ensures,
     )
 
-returns-2 : tie.Need-returns-2
+returns-2 : tie.Need-returns
 returns-2 c =
-    let y = c.before.before in
-    let d = y.before in
-    let a = d.before.before.args in (
-      no_hyphen a.at a.line.now d.digits.result d.digits.ensures _ (λ e. c.before.if1.false (y.byte_at.ensures ∙ e)) c.ntp-row.ensures.0,
-      c.ntp-row.ensures.1,
+    let a = c.args in (
+      no_hyphen a.at a.line.now c.digits-run.result c.digits-run.ensures _ (λ e. c.if-byte_at-eq45.false (c.byte_at.ensures ∙ e))
+          c.ntp_row.ensures.0,
+      c.ntp_row.ensures.1,
     )
 
-pub row-at-spec : {M : Type 1} → statement M
-row-at-spec =
+pub row_at_spec : {M : Type 1} → statement M
+row_at_spec =
     tie.close
-    (tie.spec (λ c κs. search rules) (λ c κs. search rules) (λ c. omega (arith, c.before.before.digits.ensures.within, inside c.before.before.before.before.args.line.now c.before.before.digits.result.end 45 (lit< tt) (sym c.before.byte_at.ensures ∙ c.if1.true)))
-    (λ c. omega (arith, c.before.before.digits.ensures.end)) month-row-requires returns (λ c. omega (arith, c.before.before.digits.ensures.end))
-    (λ c κs. c.before.before.digits.ensures.within) returns-2)
+    (tie.spec (λ c κs. search rules) (λ c κs. search rules) (λ c. omega (
+      arith,
+      c.digits-run.ensures.within,
+      inside c.args.line.now c.digits-run.result.end 45 (lit< tt)
+          (sym c.byte_at.ensures ∙ c.if-byte_at-eq45.true),
+    ))
+    (λ c. omega (arith, c.digits-run.ensures.end)) month-row-requires returns (λ c. omega (arith, c.digits-run.ensures.end))
+    (λ c κs. c.digits-run.ensures.within) returns-2)

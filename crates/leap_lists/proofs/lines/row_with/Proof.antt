@@ -8,29 +8,25 @@ use Rattle.leap_lists.proofs.lines.Ladder.{row_is, small-number}
 use Rattle.leap_lists.proofs.lines.row_with.Statement.{statement}
 use Rattle.leap_lists.proofs.lines.row_with.Tie as tie
 
-module _ (c : tie.After-known-told) where
-  small : c.before.seconds.given.0.0 < 1000000000
+module _ (c : tie.In-Number) where
+  small : c.in-Number.seconds < 1000000000
   small =
-      let n = c.before.before.before in
-      let a = n.before.before.args in
-      small-number (drop a.at a.line.now) n.last-number.result 9 _ n.last-number.ensures c.before.seconds.given.1
+      let a = c.args in
+      small-number (drop a.at a.line.now) c.last_number.result 9 _ c.last_number.ensures c.in-Number.is
 
-returns : tie.Need-returns
+returns : tie.Need-returns-in-Number
 returns c =
-    let n = c.before.before.before in
-    let s = n.before.before in
-    let a = s.args in (
-      row_is (drop a.at a.line.now) n.last-number.result a.month _ n.last-number.ensures c.before.seconds.given.1,
-      (s.requires.1, omega (arith, small c)),
+    let a = c.args in (
+      row_is (drop a.at a.line.now) c.last_number.result a.month _ c.last_number.ensures c.in-Number.is,
+      (c.requires.1, omega (arith, small c)),
     )
 
-returns-2 : tie.Need-returns-2
+returns-2 : tie.Need-returns-in-Nothing
 returns-2 c =
-    let n = c.before.before in
-    let a = n.before.before.args in
-    (row_is (drop a.at a.line.now) n.last-number.result a.month _ n.last-number.ensures c.enum_told.given.1, tt)
+    let a = c.args in
+    (row_is (drop a.at a.line.now) c.last_number.result a.month _ c.last_number.ensures c.in-Nothing.is, tt)
 
-pub row-with-spec : {M : Type 1} → statement M
-row-with-spec =
+pub row_with_spec : {M : Type 1} → statement M
+row_with_spec =
     tie.close
     (tie.spec (λ c κs. search rules) (λ c. search rules) (λ c. omega (arith, small c)) (λ c. search rules) returns returns-2)

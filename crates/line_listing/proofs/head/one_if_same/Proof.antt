@@ -1,14 +1,13 @@
 -- `head::one_if_same` meets its contract. Assumes nothing.
-use native.Mathlib.Omega.{arith}
-use borrow.Author.Tests.{eq-eqb, ne_eqb}
+use Rattle.std.proofs.Common.{arith, eq-eqb, ne_eqb}
 use Rattle.line_listing.proofs.head.one_if_same.Statement.{statement}
 use Rattle.line_listing.proofs.head.one_if_same.Tie as tie
 
-returns : tie.Need-returns
-returns c = (rw (eq-eqb _ _ c.if1.true), omega arith)
+returns : tie.Need-returns-then-a-b
+returns c = (rw (eq-eqb _ _ c.if-a-b.true), omega arith)
 
-returns-2 : tie.Need-returns-2
-returns-2 c = (rw (ne_eqb _ _ c.if1.false), omega arith)
+returns-2 : tie.Need-returns-else-a-b
+returns-2 c = (rw (ne_eqb _ _ c.if-a-b.false), omega arith)
 
-pub one-if-same-spec : {M : Type 1} → statement M
-one-if-same-spec = tie.close (tie.spec returns returns-2)
+pub one_if_same_spec : {M : Type 1} → statement M
+one_if_same_spec = tie.close (tie.spec returns returns-2)

@@ -1,42 +1,38 @@
 -- `head::put_head` meets its contract. Assumes nothing.
-use native.Mathlib.Omega.{arith}
-use mathlib.Core.Path.{ap}
-use lib.ListN.{length}
+use Rattle.std.proofs.Common.{length, ap, arith, rules}
 use Rattle.numerals.proofs.digits.Places.{placed_first}
 use Rattle.utc.proofs.text.Laws.{short, put-done}
 use Rattle.line_listing.specs.head.Head.{head_text}
 use Rattle.line_listing.specs.lines.StampLine.{stamps}
-use borrow.Author.Rules.{rules}
 use Rattle.line_listing.proofs.head.put_head.Statement.{statement}
 use Rattle.line_listing.proofs.head.put_head.Tie as tie
 
-returns : tie.Need-returns
+returns : tie.Need-returns-then-out-n
 returns c =
-    let st = c.before.before.before.before.before.before.before.before in
-    short (head_text st.args.gps st.args.tai st.args.utc
-    (stamps st.args.jd1s.now st.args.jd2s.now st.args.numbers.now st.args.first st.args.second)) st.args.out.now (omega
-    (arith, c.if1.true, c.before.before.compose.ensures.placed.ends))
+    short (head_text c.args.gps c.args.tai c.args.utc
+    (stamps c.args.jd1s.now c.args.jd2s.now c.args.numbers.now c.args.first c.args.second))
+    c.args.out.now (omega (arith, c.if-out-n.true, c.compose-n.ensures.placed.ends))
 
-slice-aggregate-copy : tie.Need-slice-aggregate-copy
+slice-aggregate-copy : tie.Need-slice_bounds-copy-end
 slice-aggregate-copy c =
-    let p = c.before.before.before.compose.ensures.placed in
+    let p = c.compose-n.ensures.placed in
     omega (arith, ap length (placed_first p), p.ends)
 
 copy-requires : tie.Need-copy-requires
 copy-requires c κs =
-    let p = c.before.before.before.before.compose.ensures.placed in
-    omega (arith, ap length (placed_first p), p.ends, c.before.before.if1.false)
+    let p = c.compose-n.ensures.placed in
+    omega (arith, ap length (placed_first p), p.ends, c.if-out-n.false)
 
-returns-2 : tie.Need-returns-2
+returns-2 : tie.Need-returns
 returns-2 c =
-    let st = c.before.before.before.before.before.before.before.before.before.before.before.before.before in
-    let p = c.before.before.before.before.before.before.before.compose.ensures.placed in
-    put-done _ (head_text st.args.gps st.args.tai st.args.utc
-    (stamps st.args.jd1s.now st.args.jd2s.now st.args.numbers.now st.args.first st.args.second)) st.args.out.now _ _
-    (placed_first p) c.before.before.copy.ensures.0 c.before.before.copy.ensures.1
-    (omega (arith, c.before.before.before.before.before.if1.false, p.ends))
+    let p = c.compose-n.ensures.placed in
+    put-done _ (head_text c.args.gps c.args.tai c.args.utc
+    (stamps c.args.jd1s.now c.args.jd2s.now c.args.numbers.now c.args.first c.args.second))
+    c.args.out.now _ _
+    (placed_first p) c.copy.ensures.0 c.copy.ensures.1
+    (omega (arith, c.if-out-n.false, p.ends))
 
-pub put-head-spec : {M : Type 1} → statement M
-put-head-spec =
+pub put_head_spec : {M : Type 1} → statement M
+put_head_spec =
     tie.close
     (tie.spec (λ c. search rules) (λ c κs. search rules) returns (λ c. search rules) slice-aggregate-copy copy-requires (λ c. search rules) returns-2)

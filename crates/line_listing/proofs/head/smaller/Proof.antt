@@ -1,14 +1,14 @@
 -- `head::smaller` meets its contract. Assumes nothing.
-use native.Mathlib.Omega.{arith}
-use borrow.Author.Tests.{le-leb, lt-leb}
+use Rattle.std.proofs.Common.{arith, le-leb}
+use borrow.Author.Tests.{lt-leb}
 use Rattle.line_listing.proofs.head.smaller.Statement.{statement}
 use Rattle.line_listing.proofs.head.smaller.Tie as tie
 
-returns : tie.Need-returns
-returns c = (rw (le-leb _ _ c.if1.true), omega arith, omega arith)
+returns : tie.Need-returns-then-a-b
+returns c = (rw (le-leb _ _ c.if-a-b.true), omega arith, omega arith)
 
-returns-2 : tie.Need-returns-2
-returns-2 c = (rw (lt-leb _ _ c.if1.false), omega arith, omega arith)
+returns-2 : tie.Need-returns-else-a-b
+returns-2 c = (rw (lt-leb _ _ c.if-a-b.false), omega arith, omega arith)
 
-pub smaller-spec : {M : Type 1} → statement M
-smaller-spec = tie.close (tie.spec returns returns-2)
+pub smaller_spec : {M : Type 1} → statement M
+smaller_spec = tie.close (tie.spec returns returns-2)

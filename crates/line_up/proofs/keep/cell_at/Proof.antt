@@ -8,7 +8,7 @@ use Rattle.line_up.proofs.keep.cell_at.Tie as tie
 returns : tie.Need-returns
 returns c =
     let s = c.before.before in
-    c.nth-u32.ensures ∙ cells_at s.args.tails.now s.args.k s.requires
+    c.nth_u32.ensures ∙ cells_at s.args.tails.now s.args.k s.requires
 
-pub cell-at-spec : {M : Type 1} → statement M
-cell-at-spec = tie.close (tie.spec (λ c κs. search rules) (λ c. search rules) returns)
+pub cell_at_spec : {M : Type 1} → statement M
+cell_at_spec = tie.close (tie.spec (λ c κs. search rules) (λ c. search rules) returns)

@@ -18,144 +18,106 @@ record Filled (jd1s jd2s numbers : List ℕ) (from to : ℕ) (tails₀ ranks₀ 
   ranks_long : length ranks ≡ length ranks₀
   laying : Laying (FiniteAt jd1s jd2s) (sooner_at jd1s jd2s) numbers from to (cells tails₀) (cells ranks₀) (cells tails) (cells ranks) many i
 
-abbrev invariant-loop : tie.invariant-loop
+abbrev invariant-loop : tie.invariant-loop-i
 invariant-loop jd1s jd2s numbers from to tails₀ ranks₀ many₀ i₀ tails ranks many i = Filled jd1s jd2s numbers from to tails₀ ranks₀ tails ranks many i
 
-abbrev decreases-loop : tie.decreases-loop
+abbrev decreases-loop : tie.decreases-loop-i
 decreases-loop jd1s jd2s numbers from to tails₀ ranks₀ many₀ i₀ tails ranks many i = to - i
 
-loop-holds : tie.Need-loop-init invariant-loop decreases-loop
+loop-holds : tie.Need-loop-i-init invariant-loop decreases-loop
 loop-holds c =
-    let s = c.before.before.before.before.before in
-    let a = s.args in
+    let a = c.args in
     record {
       tails_long = refl;
       ranks_long = refl;
       laying =
           laying_starts (FiniteAt a.jd1s.now a.jd2s.now) (sooner_at a.jd1s.now a.jd2s.now) (date-order a.jd1s.now a.jd2s.now)
-          a.numbers.now a.from a.to (cells a.tails.now) (cells a.ranks.now) s.requires.layable
-          (λ p x y z. finite-at a.jd1s.now a.jd2s.now p (s.requires.ordered p x y z));
+          a.numbers.now a.from a.to (cells a.tails.now) (cells a.ranks.now) c.requires.layable
+          (λ p x y z. finite-at a.jd1s.now a.jd2s.now p (c.requires.ordered p x y z));
     }
 
-shared-slice-read-rank : tie.Need-shared-slice-read-rank invariant-loop decreases-loop
+shared-slice-read-rank : tie.Need-bounds-numbers-i invariant-loop decreases-loop
 shared-slice-read-rank c =
-    let l = c.before.before in
-    let i = c.before in
-    let s = l.before.before.before.before.before.before in
-    let a = s.args in
-    omega (arith, i.loop-test.true, s.requires.layable.high)
+    omega (arith, c.loop-i-test.true, c.requires.layable.high)
 
-rank-requires : tie.Need-rank-requires invariant-loop decreases-loop
+rank-requires : tie.Need-rank-r-requires invariant-loop decreases-loop
 rank-requires c κs =
-    let l = c.before.before.before in
-    let i = c.before.before in
-    let s = l.before.before.before.before.before.before in
-    let a = s.args in (
-      omega (arith, i.loop-test.true, l.loop.invariant.laying.few, s.requires.layable.small),
+    let a = c.args in (
+      omega (arith, c.loop-i-test.true, c.loop-i.invariant.laying.few, c.requires.layable.small),
       λ e. laying_searchable (FiniteAt a.jd1s.now a.jd2s.now) (sooner_at a.jd1s.now a.jd2s.now) (date-order a.jd1s.now a.jd2s.now)
-          a.numbers.now a.from a.to (cells a.tails.now) (cells a.ranks.now) s.requires.layable
-          (λ p x y z. finite-at a.jd1s.now a.jd2s.now p (s.requires.ordered p x y z)) (cells l.loop.tails) (cells l.loop.ranks) l.loop.many
-          l.loop.i l.loop.invariant.laying i.loop-test.true e,
+          a.numbers.now a.from a.to (cells a.tails.now) (cells a.ranks.now) c.requires.layable
+          (λ p x y z. finite-at a.jd1s.now a.jd2s.now p (c.requires.ordered p x y z)) (cells c.loop-i.tails) (cells c.loop-i.ranks) c.loop-i.many
+          c.loop-i.i c.loop-i.invariant.laying c.loop-i-test.true e,
     )
 
-put-tail-requires : tie.Need-put-tail-requires invariant-loop decreases-loop
+put-tail-requires : tie.Need-put_tail-requires invariant-loop decreases-loop
 put-tail-requires c κs =
-    let l = c.before.before.before.before.before in
-    let i = c.before.before.before.before in
-    let s = l.before.before.before.before.before.before in
-    let a = s.args in
+    let a = c.args in
     let r = laying_rank (FiniteAt a.jd1s.now a.jd2s.now) (sooner_at a.jd1s.now a.jd2s.now) (date-order a.jd1s.now a.jd2s.now)
-    a.numbers.now a.from a.to (cells a.tails.now) (cells a.ranks.now) s.requires.layable
-    (λ p x y z. finite-at a.jd1s.now a.jd2s.now p (s.requires.ordered p x y z)) (cells l.loop.tails) (cells l.loop.ranks) l.loop.many
-    l.loop.i l.loop.invariant.laying i.loop-test.true in
+    a.numbers.now a.from a.to (cells a.tails.now) (cells a.ranks.now) c.requires.layable
+    (λ p x y z. finite-at a.jd1s.now a.jd2s.now p (c.requires.ordered p x y z)) (cells c.loop-i.tails) (cells c.loop-i.ranks) c.loop-i.many
+    c.loop-i.i c.loop-i.invariant.laying c.loop-i-test.true in
     let m = many-room (FiniteAt a.jd1s.now a.jd2s.now) (sooner_at a.jd1s.now a.jd2s.now) (date-order a.jd1s.now a.jd2s.now)
-    a.numbers.now a.from a.to (cells a.tails.now) (cells a.ranks.now) s.requires.layable
-    (λ p x y z. finite-at a.jd1s.now a.jd2s.now p (s.requires.ordered p x y z)) (cells l.loop.tails) (cells l.loop.ranks) l.loop.many
-    l.loop.i l.loop.invariant.laying i.loop-test.true in
-    (omega (arith, r, m, c.before.rank.ensures), omega (arith, i.loop-test.true, s.requires.layable.small))
+    a.numbers.now a.from a.to (cells a.tails.now) (cells a.ranks.now) c.requires.layable
+    (λ p x y z. finite-at a.jd1s.now a.jd2s.now p (c.requires.ordered p x y z)) (cells c.loop-i.tails) (cells c.loop-i.ranks) c.loop-i.many
+    c.loop-i.i c.loop-i.invariant.laying c.loop-i-test.true in
+    (omega (arith, r, m, c.rank-r.ensures), omega (arith, c.loop-i-test.true, c.requires.layable.small))
 
-put-cell-requires : tie.Need-put-cell-requires invariant-loop decreases-loop
+put-cell-requires : tie.Need-put_cell-requires invariant-loop decreases-loop
 put-cell-requires c κs =
-    let l = c.before.before.before.before.before.before.before.before.before in
-    let i = c.before.before.before.before.before.before.before.before in
-    let s = l.before.before.before.before.before.before in
-    let a = s.args in
+    let a = c.args in
     let r = laying_rank (FiniteAt a.jd1s.now a.jd2s.now) (sooner_at a.jd1s.now a.jd2s.now) (date-order a.jd1s.now a.jd2s.now)
-    a.numbers.now a.from a.to (cells a.tails.now) (cells a.ranks.now) s.requires.layable
-    (λ p x y z. finite-at a.jd1s.now a.jd2s.now p (s.requires.ordered p x y z)) (cells l.loop.tails) (cells l.loop.ranks) l.loop.many
-    l.loop.i l.loop.invariant.laying i.loop-test.true in (
-      omega (arith, i.loop-test.true, s.requires.layable.rank_room, l.loop.invariant.laying.ranks_length),
-      omega (arith, r, c.before.before.before.before.before.rank.ensures, i.loop-test.true, l.loop.invariant.laying.few, s.requires.layable.small),
+    a.numbers.now a.from a.to (cells a.tails.now) (cells a.ranks.now) c.requires.layable
+    (λ p x y z. finite-at a.jd1s.now a.jd2s.now p (c.requires.ordered p x y z)) (cells c.loop-i.tails) (cells c.loop-i.ranks) c.loop-i.many
+    c.loop-i.i c.loop-i.invariant.laying c.loop-i-test.true in (
+      omega (arith, c.loop-i-test.true, c.requires.layable.rank_room, c.loop-i.invariant.laying.ranks_length),
+      omega (arith, r, c.rank-r.ensures, c.loop-i-test.true, c.loop-i.invariant.laying.few, c.requires.layable.small),
     )
 
-larger-requires : tie.Need-larger-requires invariant-loop decreases-loop
+larger-requires : tie.Need-larger-many-requires invariant-loop decreases-loop
 larger-requires c κs = search rules
 
-add-i : tie.Need-overflow-add-i invariant-loop decreases-loop
+add-i : tie.Need-overflow_add-i invariant-loop decreases-loop
 add-i c =
-    let back2 = c.before.before.before.before.before.before.before.before.before in
-    let back = back2.before.before.before in
-    let back3 = back.before in
-    let l = back3 in
-    let i = back in
-    let s = l.before.before.before.before.before.before in
-    let a = s.args in
-    record { fits = omega (arith, i.loop-test.true, s.requires.layable.small) }
+    record { fits = omega (arith, c.loop-i-test.true, c.requires.layable.small) }
 
-loop-less : tie.Need-loop-smaller invariant-loop decreases-loop
+loop-less : tie.Need-loop-i-smaller invariant-loop decreases-loop
 loop-less c =
-    let back2 = c.before.before.before.before.before.before.before.before.before in
-    let back = back2.before.before.before in
-    let back3 = back.before in
-    let l = back3 in
-    let i = back in
-    let s = l.before.before.before.before.before.before in
-    let a = s.args in
-    omega (arith, i.loop-test.true)
+    omega (arith, c.loop-i-test.true)
 
-loop-again : tie.Need-loop-preserved invariant-loop decreases-loop
+loop-again : tie.Need-loop-i-preserved invariant-loop decreases-loop
 loop-again c =
-    let at-put-cell = c.before.before.before in
-    let at-put-tail = at-put-cell.before.before.before.before in
-    let at-rank = at-put-tail.before.before in
-    let back = at-rank.before.before.before in
-    let back2 = back.before in
-    let l = back2 in
-    let i = back in
-    let s = l.before.before.before.before.before.before in
-    let a = s.args in
+    let a = c.args in
     record {
-      tails_long = at-put-tail.put-tail.auto.0 ∙ l.loop.invariant.tails_long;
-      ranks_long = at-put-cell.put-cell.auto.0 ∙ l.loop.invariant.ranks_long;
+      tails_long = c.put_tail.auto.tails ∙ c.loop-i.invariant.tails_long;
+      ranks_long = c.put_cell.auto.tails ∙ c.loop-i.invariant.ranks_long;
       laying = laying_goes (FiniteAt a.jd1s.now a.jd2s.now) (sooner_at a.jd1s.now a.jd2s.now) (date-order a.jd1s.now a.jd2s.now)
-          a.numbers.now a.from a.to (cells a.tails.now) (cells a.ranks.now) s.requires.layable
-          (λ p x y z. finite-at a.jd1s.now a.jd2s.now p (s.requires.ordered p x y z)) (cells l.loop.tails) (cells l.loop.ranks) l.loop.many
-          l.loop.i l.loop.invariant.laying i.loop-test.true
-          at-rank.rank.result c.larger.result
-          (cells at-put-tail.put-tail.new.0) (cells at-put-cell.put-cell.new.0)
-          at-rank.rank.ensures
-          at-put-tail.put-tail.ensures at-put-cell.put-cell.ensures
-          c.larger.ensures;
+          a.numbers.now a.from a.to (cells a.tails.now) (cells a.ranks.now) c.requires.layable
+          (λ p x y z. finite-at a.jd1s.now a.jd2s.now p (c.requires.ordered p x y z)) (cells c.loop-i.tails) (cells c.loop-i.ranks) c.loop-i.many
+          c.loop-i.i c.loop-i.invariant.laying c.loop-i-test.true
+          c.rank-r.result c.larger-many.result
+          (cells c.put_tail.new.tails) (cells c.put_cell.new.tails)
+          c.rank-r.ensures
+          c.put_tail.ensures c.put_cell.ensures
+          c.larger-many.ensures;
     }
 
-same_length : tie.Need-same-length invariant-loop decreases-loop
-same_length c = c.before.loop.invariant.tails_long
+same_length : tie.Need-shape_of-tails invariant-loop decreases-loop
+same_length c = c.loop-i.invariant.tails_long
 
-same-length-2 : tie.Need-same-length-2 invariant-loop decreases-loop
-same-length-2 c = c.before.loop.invariant.ranks_long
+same-length-2 : tie.Need-shape_of-ranks invariant-loop decreases-loop
+same-length-2 c = c.loop-i.invariant.ranks_long
 
 returns : tie.Need-returns invariant-loop decreases-loop
 returns c =
-    let l = c.before in
-    let s = l.before.before.before.before.before.before in
-    let a = s.args in
+    let a = c.args in
     laying_ends (FiniteAt a.jd1s.now a.jd2s.now) (sooner_at a.jd1s.now a.jd2s.now) (date-order a.jd1s.now a.jd2s.now)
-    a.numbers.now a.from a.to (cells a.tails.now) (cells a.ranks.now) s.requires.layable
-    (λ p x y z. finite-at a.jd1s.now a.jd2s.now p (s.requires.ordered p x y z)) (cells l.loop.tails) (cells l.loop.ranks) l.loop.many
-    l.loop.i l.loop.invariant.laying c.loop-test.false
+    a.numbers.now a.from a.to (cells a.tails.now) (cells a.ranks.now) c.requires.layable
+    (λ p x y z. finite-at a.jd1s.now a.jd2s.now p (c.requires.ordered p x y z)) (cells c.loop-i.tails) (cells c.loop-i.ranks) c.loop-i.many
+    c.loop-i.i c.loop-i.invariant.laying c.loop-i-test.false
 
-pub lay-spec : {M : Type 1} → statement M
-lay-spec =
+pub lay_spec : {M : Type 1} → statement M
+lay_spec =
     tie.close
     (tie.spec invariant-loop decreases-loop loop-holds shared-slice-read-rank rank-requires put-tail-requires put-cell-requires larger-requires add-i loop-less
     loop-again same_length same-length-2 returns)

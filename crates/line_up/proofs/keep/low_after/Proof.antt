@@ -3,5 +3,5 @@ use borrow.Author.Rules.{rules}
 use Rattle.line_up.proofs.keep.low_after.Statement.{statement}
 use Rattle.line_up.proofs.keep.low_after.Tie as tie
 
-pub low-after-spec : {M : Type 1} → statement M
-low-after-spec = tie.close (tie.spec (λ c. search rules) (λ c. search rules) (λ c. rw c.if1.false))
+pub low_after_spec : {M : Type 1} → statement M
+low_after_spec = tie.close (tie.spec (λ c. search rules) (λ c. search rules) (λ c. rw c.if-sooner.false))

@@ -1,5 +1,4 @@
 -- `line_up::keep::piles_before` meets its contract. Assumes nothing.
-use Prim.Native.Nat.{◌-◌}
 use mathlib.Core.Path.{◌≡◌, sym, ◌∙◌}
 use native.Mathlib.Omega.{arith}
 use borrow.Author.Rules.{rules}
@@ -9,20 +8,18 @@ use Rattle.line_up.proofs.keep.Searching.{none_before, last-before}
 use Rattle.line_up.proofs.keep.piles_before.Statement.{statement}
 use Rattle.line_up.proofs.keep.piles_before.Tie as tie
 
-returns : tie.Need-returns
+returns : tie.Need-returns-then-many-eq0
 returns c =
-    let s = c.before.before.before.before in
-    let a = s.args in
-    none_before (sooner_at a.jd1s.now a.jd2s.now) (cells a.tails.now) a.many a.i s.requires c.if1.true
+    let a = c.args in
+    none_before (sooner_at a.jd1s.now a.jd2s.now) (cells a.tails.now) a.many a.i c.requires c.if-many-eq0.true
 
-returns-3 : tie.Need-returns-3
+returns-3 : tie.Need-returns
 returns-3 c =
-    let s = c.before.before.before.before.before.before.before in
-    let a = s.args in
-    let e : a.many ≡ 0 → ⊥ = c.before.before.before.if1.false in
-    last-before (sooner_at a.jd1s.now a.jd2s.now) (cells a.tails.now) a.many a.i s.requires c.before.before.Cell-at.result
-    (omega (arith, e)) c.before.before.Cell-at.ensures (sym c.before.sooner-at.ensures ∙ c.if2.false)
+    let a = c.args in
+    let e : a.many ≡ 0 → ⊥ = c.if-many-eq0.false in
+    last-before (sooner_at a.jd1s.now a.jd2s.now) (cells a.tails.now) a.many a.i c.requires c.cell_at-t.result
+    (omega (arith, e)) c.cell_at-t.ensures (sym c.sooner_at.ensures ∙ c.if-sooner_at.false)
 
-pub piles-before-spec : {M : Type 1} → statement M
-piles-before-spec = tie.close (tie.spec returns (λ c. search rules) (λ c κs. search rules) (λ c κs. search rules) (λ c κs. search rules) (λ c. search rules)
+pub piles_before_spec : {M : Type 1} → statement M
+piles_before_spec = tie.close (tie.spec returns (λ c. search rules) (λ c κs. search rules) (λ c κs. search rules) (λ c κs. search rules) (λ c. search rules)
     returns-3)

@@ -12,8 +12,8 @@ returns : tie.Need-returns
 returns c =
     let s = c.before.before.before.before.before in
     let a = s.args in
-    ap cells (c.before.before.put-nth-u32.ensures ∙ put-32-is a.tails.now a.k a.p (omega (arith, length-low a.tails.now, s.requires.0)))
+    ap cells (c.before.before.put_nth_u32.ensures ∙ put-32-is a.tails.now a.k a.p (omega (arith, length-low a.tails.now, s.requires.0)))
     ∙ cells-put a.tails.now a.k a.p s.requires.0 s.requires.1
 
-pub put-cell-spec : {M : Type 1} → statement M
-put-cell-spec = tie.close (tie.spec (λ c. search rules) (λ c κs. search rules) (λ c. search rules) returns)
+pub put_cell_spec : {M : Type 1} → statement M
+put_cell_spec = tie.close (tie.spec (λ c. search rules) (λ c κs. search rules) (λ c. search rules) returns)

@@ -5,20 +5,20 @@ use borrow.Author.Tests.{eq-eqb, ne_eqb}
 use Rattle.line_up.proofs.keep.wanted_before.Statement.{statement}
 use Rattle.line_up.proofs.keep.wanted_before.Tie as tie
 
-returns : tie.Need-returns
+returns : tie.Need-returns-then-r-gt0
 returns c =
     let a = c.before.before.args in
-    rw (eq-eqb a.r a.wanted c.before.if1.true) (omega arith)
+    rw (eq-eqb a.r a.wanted c.before.if-r-wanted.true) (omega arith)
 
-returns-2 : tie.Need-returns-2
+returns-2 : tie.Need-returns-else-r-gt0
 returns-2 c =
     let a = c.before.before.args in
-    rw (eq-eqb a.r a.wanted c.before.if1.true) (omega (arith, c.before.if1.true, c.if2.false))
+    rw (eq-eqb a.r a.wanted c.before.if-r-wanted.true) (omega (arith, c.before.if-r-wanted.true, c.if-r-gt0.false))
 
-returns-3 : tie.Need-returns-3
+returns-3 : tie.Need-returns-else-r-wanted
 returns-3 c =
     let a = c.before.args in
-    rw (ne_eqb a.r a.wanted c.if1.false)
+    rw (ne_eqb a.r a.wanted c.if-r-wanted.false)
 
-pub wanted-before-spec : {M : Type 1} → statement M
-wanted-before-spec = tie.close (tie.spec (λ c. search rules) returns returns-2 returns-3)
+pub wanted_before_spec : {M : Type 1} → statement M
+wanted_before_spec = tie.close (tie.spec (λ c. search rules) returns returns-2 returns-3)

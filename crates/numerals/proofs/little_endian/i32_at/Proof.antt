@@ -12,9 +12,9 @@ use Rattle.numerals.proofs.little_endian.i32_at.Tie as tie
 
 returns : tie.Need-returns
 returns c =
-    let n = c.before.u32-at.result in
-    let f : SFits w32 c.i32-of-pattern.result = subst (SFits w32) (sym c.i32-of-pattern.ensures) (signed-32-fits n (omega arith)) in
-    to_z-of_z {w = w32} f ∙ c.i32-of-pattern.ensures ∙ ap signed32 c.before.u32-at.ensures
+    let n = c.before.u32_at.result in
+    let f : SFits w32 c.i32_of_pattern.result = subst (SFits w32) (sym c.i32_of_pattern.ensures) (signed-32-fits n (omega arith)) in
+    to_z-of_z {w = w32} f ∙ c.i32_of_pattern.ensures ∙ ap signed32 c.before.u32_at.ensures
 
-pub i32-at-spec : {M : Type 1} → statement M
-i32-at-spec = tie.close (tie.spec (λ c κs. search rules) (λ c κs. search rules) returns)
+pub i32_at_spec : {M : Type 1} → statement M
+i32_at_spec = tie.close (tie.spec (λ c κs. search rules) (λ c κs. search rules) returns)

@@ -10,16 +10,16 @@ use borrow.Author.Rules.{rules}
 use Rattle.numerals.proofs.little_endian.nth_u64.Statement.{statement}
 use Rattle.numerals.proofs.little_endian.nth_u64.Tie as tie
 
-returns-2 : tie.Need-returns-2
+returns-2 : tie.Need-returns
 returns-2 c =
     let s = c.before.before.before.before in
     let l = s.args.s.now in
     let i = s.args.i in
     let e : 8 * i + 8 - 8 * i ≡ 8 = omega arith in
-    c.u64-at.ensures ∙ ap (λ (n : ℕ). u64_at (take n (drop (8 * i) l)) 0) e ∙ eight_in_part l (8 * i) (omega arith)
+    c.u64_at.ensures ∙ ap (λ (n : ℕ). u64_at (take n (drop (8 * i) l)) 0) e ∙ eight_in_part l (8 * i) (omega arith)
 
-pub nth-u64-spec : {M : Type 1} → statement M
-nth-u64-spec =
+pub nth_u64_spec : {M : Type 1} → statement M
+nth_u64_spec =
     tie.close
     (tie.spec (λ c. absent64 _ _ (omega arith)) (λ c. search rules) (λ c. search rules) (λ c. search rules) (λ c. search rules) (λ c. search rules)
     (λ c κs. search rules) returns-2)

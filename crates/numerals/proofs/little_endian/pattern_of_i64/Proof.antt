@@ -3,8 +3,8 @@ use Rattle.numerals.proofs.little_endian.Signed.{less-fits, less-cast, less-few,
 use Rattle.numerals.proofs.little_endian.pattern_of_i64.Statement.{statement}
 use Rattle.numerals.proofs.little_endian.pattern_of_i64.Tie as tie
 
-pub pattern-of-i64-spec : {M : Type 1} → statement M
-pattern-of-i64-spec =
-    tie.close (tie.spec (λ c. less-fits _ c.before.ranges.n c.if1.true) (λ c. less-cast _ c.before.ranges.n c.if1.true)
-    (λ c. less-few _ c.before.ranges.n c.if1.true) (λ c. less-pattern _ c.before.ranges.n c.if1.true)
-    (λ c. more-cast _ c.before.ranges.n c.if1.false) (λ c. more-pattern _ c.before.ranges.n c.if1.false))
+pub pattern_of_i64_spec : {M : Type 1} → statement M
+pattern_of_i64_spec =
+    tie.close (tie.spec (λ c. less-fits _ c.before.ranges.n c.if-n-lt0.true) (λ c. less-cast _ c.before.ranges.n c.if-n-lt0.true)
+    (λ c. less-few _ c.before.ranges.n c.if-n-lt0.true) (λ c. less-pattern _ c.before.ranges.n c.if-n-lt0.true)
+    (λ c. more-cast _ c.before.ranges.n c.if-n-lt0.false) (λ c. more-pattern _ c.before.ranges.n c.if-n-lt0.false))

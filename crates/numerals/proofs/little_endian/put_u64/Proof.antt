@@ -6,20 +6,20 @@ use borrow.Author.Rules.{rules}
 use Rattle.numerals.proofs.little_endian.put_u64.Statement.{statement}
 use Rattle.numerals.proofs.little_endian.put_u64.Tie as tie
 
-returns : tie.Need-returns
-returns c = too_few c.before.before.args.out.now c.before.before.args.n c.if1.true
+returns : tie.Need-returns-then-out-lt8
+returns c = too_few c.before.before.args.out.now c.before.before.args.n c.if-out-lt8.true
 
-returns-2 : tie.Need-returns-2
+returns-2 : tie.Need-returns
 returns-2 c =
     let a = c.before.before.before.args in
-    put-at-start a.out.now _ a.n c.before.if1.false c.bytes-of-u64.ensures
+    put-at-start a.out.now _ a.n c.before.if-out-lt8.false c.bytes_of_u64-b.ensures
 
-pub put-u64-spec : {M : Type 1} → statement M
-put-u64-spec =
+pub put_u64_spec : {M : Type 1} → statement M
+put_u64_spec =
     tie.close
     (tie.spec returns (λ c κs. search rules) (λ c. search rules) (λ c. search rules) (λ c. search rules)
-    (λ c. simp length-set (omega (arith, c.before.if1.false))) (λ c. search rules) (λ c. simp length-set (omega (arith, c.before.if1.false)))
-    (λ c. search rules) (λ c. simp length-set (omega (arith, c.before.if1.false))) (λ c. search rules)
-    (λ c. simp length-set (omega (arith, c.before.if1.false))) (λ c. search rules) (λ c. simp length-set (omega (arith, c.before.if1.false)))
-    (λ c. search rules) (λ c. simp length-set (omega (arith, c.before.if1.false))) (λ c. search rules)
-    (λ c. simp length-set (omega (arith, c.before.if1.false))) (λ c. simp length-set) returns-2)
+    (λ c. simp length-set (omega (arith, c.before.if-out-lt8.false))) (λ c. search rules) (λ c. simp length-set (omega (arith, c.before.if-out-lt8.false)))
+    (λ c. search rules) (λ c. simp length-set (omega (arith, c.before.if-out-lt8.false))) (λ c. search rules)
+    (λ c. simp length-set (omega (arith, c.before.if-out-lt8.false))) (λ c. search rules) (λ c. simp length-set (omega (arith, c.before.if-out-lt8.false)))
+    (λ c. search rules) (λ c. simp length-set (omega (arith, c.before.if-out-lt8.false))) (λ c. search rules)
+    (λ c. simp length-set (omega (arith, c.before.if-out-lt8.false))) (λ c. simp length-set) returns-2)

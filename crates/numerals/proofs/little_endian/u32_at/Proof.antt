@@ -6,6 +6,6 @@ use borrow.Author.Rules.{rules}
 use Rattle.numerals.proofs.little_endian.u32_at.Statement.{statement}
 use Rattle.numerals.proofs.little_endian.u32_at.Tie as tie
 
-pub u32-at-spec : {M : Type 1} → statement M
-u32-at-spec = tie.close (tie.spec (λ c. absent32 _ _ (omega arith)) (λ c. search rules) (λ c. absent32 _ _ (omega arith)) (λ c κs. search rules)
-    (λ c. search rules) (λ c. c.four-at.ensures.0 ∙ present32 _ _ (omega arith)))
+pub u32_at_spec : {M : Type 1} → statement M
+u32_at_spec = tie.close (tie.spec (λ c. absent32 _ _ (omega arith)) (λ c. search rules) (λ c. absent32 _ _ (omega arith)) (λ c κs. search rules)
+    (λ c. search rules) (λ c. c.four_at.ensures.0 ∙ present32 _ _ (omega arith)))

@@ -5,14 +5,14 @@ use borrow.Author.Rules.{rules}
 use Rattle.numerals.proofs.place.place_bytes.Statement.{statement}
 use Rattle.numerals.proofs.place.place_bytes.Tie as tie
 
-returns-3 : tie.Need-returns-3
+returns-3 : tie.Need-returns
 returns-3 c =
     let b = c.before.before in
     let a = b.before.before.before.before.before.before.args in
     all_room (omega arith) (bytes-put a.dst.now a.at (omega arith) a.src.now _ _ b.copy.ensures.0 b.copy.ensures.1)
 
-pub place-bytes-spec : {M : Type 1} → statement M
-place-bytes-spec =
+pub place_bytes_spec : {M : Type 1} → statement M
+place_bytes_spec =
     tie.close
     (tie.spec (λ c. no_room (omega arith)) (λ c. search rules) (λ c. no_room (omega arith)) (λ c. search rules) (λ c. search rules)
     (λ c. search rules) (λ c κs. search rules) (λ c. search rules) (λ c. search rules) returns-3)

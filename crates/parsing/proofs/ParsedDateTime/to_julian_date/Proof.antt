@@ -13,8 +13,8 @@ returns : tie.Need-returns
 unfolding to_julian_date
 returns c =
     let p = c.before.before.args.self in
-    let fit : SFits w32 p.year = record { sfits = c.before.struct_told.given.0.1 } in
-    c.from-calendar.ensures ∙ (λ i. from_calendar (to_z-of_z {w = w32} {z = p.year} fit i) p.month p.day p.hour p.minute p.second)
+    let fit : SFits w32 p.year = record { sfits = c.before.struct_told-1.given.0.1 } in
+    c.from_calendar.ensures ∙ (λ i. from_calendar (to_z-of_z {w = w32} {z = p.year} fit i) p.month p.day p.hour p.minute p.second)
 
-pub to-julian-date-spec : {M : Type 1} → statement M
-to-julian-date-spec = tie.close (tie.spec (λ c κs. search rules) returns)
+pub to_julian_date_spec : {M : Type 1} → statement M
+to_julian_date_spec = tie.close (tie.spec (λ c κs. search rules) returns)

@@ -4,13 +4,13 @@ use Rattle.numerals.specs.digits.Decimal.{is_digit}
 use Rattle.parsing.proofs.scan.digit.Statement.{statement}
 use Rattle.parsing.proofs.scan.digit.Tie as tie
 
-returns : tie.Need-returns
+returns : tie.Need-returns-then-c-lt48
 unfolding is_digit
-returns c = simp (lt-leb _ _ c.if1.true)
+returns c = simp (lt-leb _ _ c.if-c-lt48.true)
 
-returns-2 : tie.Need-returns-2
+returns-2 : tie.Need-returns
 unfolding is_digit
-returns-2 c = simp (le-leb _ _ c.if1.false)
+returns-2 c = simp (le-leb _ _ c.if-c-lt48.false)
 
-pub digit-spec : {M : Type 1} → statement M
-digit-spec = tie.close (tie.spec returns returns-2)
+pub digit_spec : {M : Type 1} → statement M
+digit_spec = tie.close (tie.spec returns returns-2)

@@ -12,8 +12,8 @@ use Rattle.parsing.proofs.scan.end_right.Tie as tie
 
 returns : tie.Need-returns
 unfolding end_right
-returns c = none_left c.before.before.before.args.text.now c.blanks-end.result c.blanks-end.ensures.0
-    ∙ ap (λ (s : List ℕ). eqb (length s) 0) (c.blanks-end.ensures.1 ∙ ap after_blanks c.before.zone-end.ensures.1)
+returns c = none_left c.before.before.before.args.text.now c.blanks_end.result c.blanks_end.ensures.0
+    ∙ ap (λ (s : List ℕ). eqb (length s) 0) (c.blanks_end.ensures.1 ∙ ap after_blanks c.before.zone_end.ensures.1)
 
-pub end-right-spec : {M : Type 1} → statement M
-end-right-spec = tie.close (tie.spec (λ c κs. search rules) (λ c κs. search rules) returns)
+pub end_right_spec : {M : Type 1} → statement M
+end_right_spec = tie.close (tie.spec (λ c κs. search rules) (λ c κs. search rules) returns)

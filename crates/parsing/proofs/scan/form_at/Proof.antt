@@ -17,13 +17,13 @@ returns c =
     start.args.at
     start.args.whole
     start.args.places _ _ _ _ _ _ _
-    at-two.two.ensures.0 at-two2.two2.ensures.0
-    at-two3.two3.ensures.0
-    at-two4.two4.ensures.0
-    at-two5.two5.ensures.0 at-two6.two6.ensures.0 c.two7.ensures.0
+    at-two.two.ensures.0 at-two2.two-2.ensures.0
+    at-two3.two-3.ensures.0
+    at-two4.two-4.ensures.0
+    at-two5.two-5.ensures.0 at-two6.two-6.ensures.0 c.two-7.ensures.0
 
-pub form-at-spec : {M : Type 1} → statement M
-form-at-spec =
+pub form_at_spec : {M : Type 1} → statement M
+form_at_spec =
     tie.close
     (tie.spec (λ c. search rules) (λ c. search rules) (λ c. search rules) (λ c κs. search rules) (λ c. search rules) (λ c. search rules)
     (λ c. search rules) (λ c. search rules) (λ c. search rules) (λ c. search rules) (λ c κs. search rules) (λ c. search rules) (λ c. search rules)

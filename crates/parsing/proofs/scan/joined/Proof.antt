@@ -6,9 +6,10 @@ use borrow.Author.Rules.{rules}
 use Rattle.parsing.proofs.scan.joined.Statement.{statement}
 use Rattle.parsing.proofs.scan.joined.Tie as tie
 
-returns : tie.Need-returns
-returns c = rw (lt-ltb _ _ c.before.if1.true) (ap (λ (d : ℕ). 10 * c.before.before.args.whole + d) c.worth.ensures.0)
+returns : tie.Need-returns-then-place-lt13
+returns c = rw (lt-ltb _ _ c.before.if-place-lt13.true) (ap (λ (d : ℕ). 10 * c.before.before.args.whole + d) c.worth.ensures.0)
 
-pub joined-spec : {M : Type 1} → statement M
-joined-spec =
-    tie.close (tie.spec (λ c. search rules) (λ c κs. search rules) (λ c. search rules) (λ c. search rules) returns (λ c. simp (le-ltb _ _ c.if1.false)))
+pub joined_spec : {M : Type 1} → statement M
+joined_spec =
+    tie.close (tie.spec (λ c. search rules) (λ c κs. search rules) (λ c. search rules) (λ c. search rules) returns
+    (λ c. simp (le-ltb _ _ c.if-place-lt13.false)))

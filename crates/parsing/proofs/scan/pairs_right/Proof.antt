@@ -6,39 +6,39 @@ use borrow.Author.Rules.{rules}
 use Rattle.parsing.proofs.scan.pairs_right.Statement.{statement}
 use Rattle.parsing.proofs.scan.pairs_right.Tie as tie
 
-returns : tie.Need-returns
+returns : tie.Need-returns-then-not-two_digits
 unfolding pairs_at
-returns c = rw (sym c.before.two_digits.ensures ∙ not-true _ c.if1.true)
+returns c = rw (sym c.before.two_digits.ensures ∙ c.if-not-two_digits.true)
 
-returns-2 : tie.Need-returns-2
+returns-2 : tie.Need-returns-then-text-at
 unfolding pairs_at
-returns-2 c = let i1 = c.before.before in rw (sym i1.before.two_digits.ensures ∙ not-false _ i1.if1.false, ne_eqb _ _ c.if2.true)
+returns-2 c = let i1 = c.before.before in rw (sym i1.before.two_digits.ensures ∙ i1.if-not-two_digits.false, ne_eqb _ _ c.if-text-at.true)
 
-returns-3 : tie.Need-returns-3
+returns-3 : tie.Need-returns-then-not-two_digits-2
 unfolding pairs_at
 returns-3 c =
     let i2 = c.before.before.before.before in
     let i1 = i2.before.before in
     rw (
-      sym i1.before.two_digits.ensures ∙ not-false _ i1.if1.false,
-      eq-eqb _ _ i2.if2.false,
-      sym c.before.two-digits2.ensures ∙ not-true _ c.if3.true,
+      sym i1.before.two_digits.ensures ∙ i1.if-not-two_digits.false,
+      eq-eqb _ _ i2.if-text-at.false,
+      sym c.before.two_digits-2.ensures ∙ c.if-not-two_digits-2.true,
     )
 
-returns-4 : tie.Need-returns-4
+returns-4 : tie.Need-returns-then-text-at-2
 unfolding pairs_at
 returns-4 c =
     let i3 = c.before.before in
     let i2 = i3.before.before.before.before in
     let i1 = i2.before.before in
     rw (
-      sym i1.before.two_digits.ensures ∙ not-false _ i1.if1.false,
-      eq-eqb _ _ i2.if2.false,
-      sym i3.before.two-digits2.ensures ∙ not-false _ i3.if3.false,
-      ne_eqb _ _ c.if4.true,
+      sym i1.before.two_digits.ensures ∙ i1.if-not-two_digits.false,
+      eq-eqb _ _ i2.if-text-at.false,
+      sym i3.before.two_digits-2.ensures ∙ i3.if-not-two_digits-2.false,
+      ne_eqb _ _ c.if-text-at-2.true,
     )
 
-returns-5 : tie.Need-returns-5
+returns-5 : tie.Need-returns
 unfolding pairs_at
 returns-5 c =
     let i4 = c.before.before.before in
@@ -46,14 +46,14 @@ returns-5 c =
     let i2 = i3.before.before.before.before in
     let i1 = i2.before.before in
     rw (
-      sym i1.before.two_digits.ensures ∙ not-false _ i1.if1.false,
-      eq-eqb _ _ i2.if2.false,
-      sym i3.before.two-digits2.ensures ∙ not-false _ i3.if3.false,
-      eq-eqb _ _ i4.if4.false,
-    ) c.two-digits3.ensures
+      sym i1.before.two_digits.ensures ∙ i1.if-not-two_digits.false,
+      eq-eqb _ _ i2.if-text-at.false,
+      sym i3.before.two_digits-2.ensures ∙ i3.if-not-two_digits-2.false,
+      eq-eqb _ _ i4.if-text-at-2.false,
+    ) c.two_digits-3.ensures
 
-pub pairs-right-spec : {M : Type 1} → statement M
-pairs-right-spec =
+pub pairs_right_spec : {M : Type 1} → statement M
+pairs_right_spec =
     tie.close
     (tie.spec (λ c. search rules) (λ c. search rules) (λ c. search rules) (λ c κs. search rules) returns (λ c. search rules) (λ c. search rules)
     returns-2 (λ c. search rules) (λ c. search rules) (λ c. search rules) (λ c. search rules) (λ c κs. search rules) returns-3 (λ c. search rules)

@@ -12,33 +12,33 @@ use borrow.Author.Rules.{rules}
 use Rattle.parsing.proofs.scan.scan.Statement.{statement}
 use Rattle.parsing.proofs.scan.scan.Tie as tie
 
-returns : tie.Need-returns
+returns : tie.Need-returns-then-text-at-lt19
 unfolding scanned_outcome
 returns c = outside c.before.before.before.args.utc c.before.before.before.args.text.now
-    (drop c.before.blanks-end.result c.before.before.before.args.text.now) c.before.blanks-end.ensures.1
-    (too_short c.before.before.before.args.utc (drop c.before.blanks-end.result c.before.before.before.args.text.now)
+    (drop c.before.blanks_end-at.result c.before.before.before.args.text.now) c.before.blanks_end-at.ensures.1
+    (too_short c.before.before.before.args.utc (drop c.before.blanks_end-at.result c.before.before.before.args.text.now)
     (simp length-drop (omega arith)))
 
-returns-2 : tie.Need-returns-2
+returns-2 : tie.Need-returns-then-not-date_right
 unfolding scanned_outcome
 returns-2 c = outside c.before.before.before.before.before.args.utc c.before.before.before.before.before.args.text.now
-    (drop c.before.before.before.blanks-end.result c.before.before.before.before.before.args.text.now)
-    c.before.before.before.blanks-end.ensures.1
+    (drop c.before.before.before.blanks_end-at.result c.before.before.before.before.before.args.text.now)
+    c.before.before.before.blanks_end-at.ensures.1
     (not_date c.before.before.before.before.before.args.utc
-    (drop c.before.before.before.blanks-end.result c.before.before.before.before.before.args.text.now)
-    (sym c.before.date-right.ensures ∙ not-true _ c.if2.true))
+    (drop c.before.before.before.blanks_end-at.result c.before.before.before.before.before.args.text.now)
+    (sym c.before.date_right.ensures ∙ c.if-not-date_right.true))
 
-returns-3 : tie.Need-returns-3
+returns-3 : tie.Need-returns-then-not-time_right
 unfolding scanned_outcome
 returns-3 c = outside c.before.before.before.before.before.before.before.args.utc
     c.before.before.before.before.before.before.before.args.text.now
-    (drop c.before.before.before.before.before.blanks-end.result c.before.before.before.before.before.before.before.args.text.now)
-    c.before.before.before.before.before.blanks-end.ensures.1
+    (drop c.before.before.before.before.before.blanks_end-at.result c.before.before.before.before.before.before.before.args.text.now)
+    c.before.before.before.before.before.blanks_end-at.ensures.1
     (not_time c.before.before.before.before.before.before.before.args.utc
-    (drop c.before.before.before.before.before.blanks-end.result c.before.before.before.before.before.before.before.args.text.now)
-    (sym c.before.time-right.ensures ∙ not-true _ c.if3.true))
+    (drop c.before.before.before.before.before.blanks_end-at.result c.before.before.before.before.before.before.before.args.text.now)
+    (sym c.before.time_right.ensures ∙ c.if-not-time_right.true))
 
-returns-4 : tie.Need-returns-4
+returns-4 : tie.Need-returns-then-not-end_right
 unfolding scanned_outcome
 returns-4 c =
     let at-end-right = c.before in
@@ -47,18 +47,18 @@ returns-4 c =
     let start = at-blanks-end.before.before in
     outside start.args.utc
     start.args.text.now
-    (drop at-blanks-end.blanks-end.result
+    (drop at-blanks-end.blanks_end-at.result
     start.args.text.now)
-    at-blanks-end.blanks-end.ensures.1
+    at-blanks-end.blanks_end-at.ensures.1
     (not_end start.args.utc
-    (drop at-blanks-end.blanks-end.result
+    (drop at-blanks-end.blanks_end-at.result
     start.args.text.now)
     (ap (end_right start.args.utc)
-    (ap after_fraction (drop-drop 19 at-blanks-end.blanks-end.result
+    (ap after_fraction (drop-drop 19 at-blanks-end.blanks_end-at.result
     start.args.text.now)
-    ∙ sym at-fraction.fraction.ensures.behind) ∙ sym at-end-right.end-right.ensures ∙ not-true _ c.if4.true))
+    ∙ sym at-fraction.fraction-run.ensures.behind) ∙ sym at-end-right.end_right.ensures ∙ c.if-not-end_right.true))
 
-returns-5 : tie.Need-returns-5
+returns-5 : tie.Need-returns
 unfolding scanned_outcome
 returns-5 c =
     let at-if4 = c.before in
@@ -73,28 +73,28 @@ returns-5 c =
     let start = at-blanks-end.before.before in
     within start.args.utc
     start.args.text.now
-    (drop at-blanks-end.blanks-end.result
+    (drop at-blanks-end.blanks_end-at.result
     start.args.text.now)
-    c.form-at.result at-blanks-end.blanks-end.ensures.1
+    c.form_at.result at-blanks-end.blanks_end-at.ensures.1
     (whole-form start.args.utc
-    (drop at-blanks-end.blanks-end.result
+    (drop at-blanks-end.blanks_end-at.result
     start.args.text.now)
-    (sym at-date-right.date-right.ensures
-    ∙ not-false _ at-if2.if2.false)
-    (sym at-time-right.time-right.ensures
-    ∙ not-false _ at-if3.if3.false)
+    (sym at-date-right.date_right.ensures
+    ∙ at-if2.if-not-date_right.false)
+    (sym at-time-right.time_right.ensures
+    ∙ at-if3.if-not-time_right.false)
     (ap (end_right start.args.utc)
     (ap after_fraction (drop-drop 19
-    at-blanks-end.blanks-end.result
+    at-blanks-end.blanks_end-at.result
     start.args.text.now)
-    ∙ sym at-fraction.fraction.ensures.behind) ∙ sym at-end-right.end-right.ensures ∙ not-false _ at-if4.if4.false))
+    ∙ sym at-fraction.fraction-run.ensures.behind) ∙ sym at-end-right.end_right.ensures ∙ at-if4.if-not-end_right.false))
     (form-is start.args.text.now
-    at-blanks-end.blanks-end.result
-    at-two.two.result at-fraction.fraction.result c.form-at.result
-    at-two.two.ensures.0 at-fraction.fraction.ensures c.form-at.ensures)
+    at-blanks-end.blanks_end-at.result
+    at-two.two.result at-fraction.fraction-run.result c.form_at.result
+    at-two.two.ensures.0 at-fraction.fraction-run.ensures c.form_at.ensures)
 
-pub scan-spec : {M : Type 1} → statement M
-scan-spec =
+pub scan_spec : {M : Type 1} → statement M
+scan_spec =
     tie.close
     (tie.spec (λ c κs. search rules) (λ c. search rules) returns (λ c κs. search rules) returns-2 (λ c κs. search rules) returns-3 (λ c. search rules)
     (λ c. search rules) (λ c. search rules) (λ c. search rules) (λ c. search rules) (λ c κs. search rules) (λ c κs. search rules)

@@ -6,18 +6,18 @@ use borrow.Author.Rules.{rules}
 use Rattle.parsing.proofs.scan.time_right.Statement.{statement}
 use Rattle.parsing.proofs.scan.time_right.Tie as tie
 
-returns : tie.Need-returns
+returns : tie.Need-returns-then-not-separator
 returns c =
     let a = c.before.before.before.before.args in
-    rw (time-at a.text.now a.at, sym c.before.separator.ensures ∙ not-true _ c.if1.true)
+    rw (time-at a.text.now a.at, sym c.before.separator.ensures ∙ c.if-not-separator.true)
 
-returns-2 : tie.Need-returns-2
+returns-2 : tie.Need-returns
 returns-2 c =
     let i = c.before in
     let a = i.before.before.before.before.args in
-    rw (time-at a.text.now a.at, sym i.before.separator.ensures ∙ not-false _ i.if1.false) c.pairs-right.ensures
+    rw (time-at a.text.now a.at, sym i.before.separator.ensures ∙ i.if-not-separator.false) c.pairs_right.ensures
 
-pub time-right-spec : {M : Type 1} → statement M
-time-right-spec =
+pub time_right_spec : {M : Type 1} → statement M
+time_right_spec =
     tie.close
     (tie.spec (λ c. search rules) (λ c. search rules) (λ c κs. search rules) returns (λ c. search rules) (λ c κs. search rules) returns-2)

@@ -6,13 +6,13 @@ use borrow.Author.Rules.{rules}
 use Rattle.parsing.proofs.scan.two_digits.Statement.{statement}
 use Rattle.parsing.proofs.scan.two_digits.Tie as tie
 
-returns : tie.Need-returns
+returns : tie.Need-returns-then-not-digit
 unfolding two_digits
-returns c = rw (sym c.before.digit.ensures ∙ not-true _ c.if1.true)
+returns c = rw (sym c.before.digit.ensures ∙ c.if-not-digit.true)
 
-returns-2 : tie.Need-returns-2
+returns-2 : tie.Need-returns
 unfolding two_digits
-returns-2 c = rw (sym c.before.before.digit.ensures ∙ not-false _ c.before.if1.false) c.digit2.ensures
+returns-2 c = rw (sym c.before.before.digit.ensures ∙ c.before.if-not-digit.false) c.digit-2.ensures
 
-pub two-digits-spec : {M : Type 1} → statement M
-two-digits-spec = tie.close (tie.spec (λ c κs. search rules) returns (λ c κs. search rules) returns-2)
+pub two_digits_spec : {M : Type 1} → statement M
+two_digits_spec = tie.close (tie.spec (λ c κs. search rules) returns (λ c κs. search rules) returns-2)

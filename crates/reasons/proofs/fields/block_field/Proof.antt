@@ -4,15 +4,16 @@ use borrow.Author.Rules.{rules}
 use Rattle.reasons.proofs.fields.block_field.Statement.{statement}
 use Rattle.reasons.proofs.fields.block_field.Tie as tie
 
-returns : tie.Need-returns
-returns c = second-size-wrong _ _ _ _ c.before.if1.true c.if2.true
+returns : tie.Need-returns-then-size-second
+returns c = second-size-wrong _ _ _ _ c.if-number-eq12.true c.if-size-second.true
 
-returns-7 : tie.Need-returns-7
-returns-7 c = block_none _ _ _ _ c.before.before.if1.false c.before.if3.false c.if5.false
+returns-7 : tie.Need-returns-else-number-eq14
+returns-7 c = block_none _ _ _ _ c.if-number-eq12.false c.if-number-eq13.false c.if-number-eq14.false
 
-pub block-field-spec : {M : Type 1} → statement M
-block-field-spec =
+pub block_field_spec : {M : Type 1} → statement M
+block_field_spec =
     tie.close
-    (tie.spec returns (λ c. sizes-pass _ _ _ _ c.before.if1.true c.if2.false) (λ c. size-wrong _ _ _ _ c.before.if3.true c.if4.true)
-    (λ c. size-passes _ _ _ _ c.before.if3.true c.if4.false) (λ c. search rules) (λ c. search rules)
-    (λ c. length-wrong _ _ _ _ c.before.if5.true c.if6.true) (λ c. length-passes _ _ _ _ c.before.if5.true c.if6.false) returns-7)
+    (tie.spec returns (λ c. sizes-pass _ _ _ _ c.if-number-eq12.true c.if-size-second.false)
+    (λ c. size-wrong _ _ _ _ c.if-number-eq13.true c.if-size-gt4000.true)
+    (λ c. size-passes _ _ _ _ c.if-number-eq13.true c.if-size-gt4000.false) (λ c. search rules) (λ c. search rules)
+    (λ c. length-wrong _ _ _ _ c.if-number-eq14.true c.if-length-size.true) (λ c. length-passes _ _ _ _ c.if-number-eq14.true c.if-length-size.false) returns-7)

@@ -14,38 +14,32 @@ use borrow.Author.Rules.{rules}
 use Rattle.reasons.proofs.fields.day_field.Statement.{statement}
 use Rattle.reasons.proofs.fields.day_field.Tie as tie
 
-day-from-one : (c : tie.Else1) → lt_z c.before.args.day (pos 1) ≡ false
-day-from-one c = lt_left _ _ false c.before.ranges.day c.if1.false
+day-from-one : (c : tie.Else-day-lt1) → lt_z c.args.day (pos 1) ≡ false
+day-from-one c = lt_left _ _ false c.ranges.day c.if-day-lt1.false
 
-last_is : (c : tie.After-days-in-month) → c.days-in-month.result ≡ days_in_month c.before.before.args.year c.before.before.args.month
+last_is : (c : tie.After-days_in_month) → c.days_in_month.result ≡ days_in_month c.args.year c.args.month
 last_is c =
-    let s = c.before.before in
-    c.days-in-month.ensures ∙ read-two s.args.year s.args.month s.ranges.year s.ranges.month
+    c.days_in_month.ensures ∙ read-two c.args.year c.args.month c.ranges.year c.ranges.month
 
-returns : tie.Need-returns
+returns : tie.Need-returns-then-day-lt1
 returns c =
-    let s = c.before in
-    ap Day (to_z-of_z s.ranges.day)
-    ∙ day-low s.args.year s.args.month s.args.day (lt_left s.args.day (pos 1) true s.ranges.day c.if1.true)
+    ap Day (to_z-of_z c.ranges.day)
+    ∙ day-low c.args.year c.args.month c.args.day (lt_left c.args.day (pos 1) true c.ranges.day c.if-day-lt1.true)
 
-cast-if2 : tie.Need-overflow-cast-if2
-cast-if2 c = to-unsigned _ c.before.before.ranges.day (day-from-one c.before)
+cast-if2 : tie.Need-overflow_cast-day
+cast-if2 c = to-unsigned _ c.ranges.day (day-from-one c.before)
 
-returns-2 : tie.Need-returns-2
+returns-2 : tie.Need-returns-then-days_in_month-day
 returns-2 c =
-    let g = c.before in
-    let s = g.before.before in
-    ap Day (to_z-of_z s.ranges.day) ∙ day-high s.args.year s.args.month s.args.day (day-from-one g.before)
-    (past-last _ g.days-in-month.result s.args.day (day-from-one g.before) (last_is g)
-    (subst (λ (n : ℕ). g.days-in-month.result < n) (read_back s.args.day s.ranges.day) c.if2.true))
+    ap Day (to_z-of_z c.ranges.day) ∙ day-high c.args.year c.args.month c.args.day (day-from-one c.before.before)
+    (past-last _ c.days_in_month.result c.args.day (day-from-one c.before.before) (last_is c.before)
+    (subst (λ (n : ℕ). c.days_in_month.result < n) (read_back c.args.day c.ranges.day) c.if-days_in_month-day.true))
 
-returns-3 : tie.Need-returns-3
+returns-3 : tie.Need-returns
 returns-3 c =
-    let g = c.before in
-    let s = g.before.before in
-    day-passes s.args.year s.args.month s.args.day (day-from-one g.before)
-    (up_to_last _ g.days-in-month.result s.args.day (day-from-one g.before) (last_is g)
-    (subst (λ (n : ℕ). n ≤ g.days-in-month.result) (read_back s.args.day s.ranges.day) c.if2.false))
+    day-passes c.args.year c.args.month c.args.day (day-from-one c.before.before)
+    (up_to_last _ c.days_in_month.result c.args.day (day-from-one c.before.before) (last_is c.before)
+    (subst (λ (n : ℕ). n ≤ c.days_in_month.result) (read_back c.args.day c.ranges.day) c.if-days_in_month-day.false))
 
-pub day-field-spec : {M : Type 1} → statement M
-day-field-spec = tie.close (tie.spec returns (λ c κs. search rules) cast-if2 returns-2 returns-3)
+pub day_field_spec : {M : Type 1} → statement M
+day_field_spec = tie.close (tie.spec returns (λ c κs. search rules) cast-if2 returns-2 returns-3)

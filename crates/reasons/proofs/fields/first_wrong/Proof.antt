@@ -4,16 +4,16 @@ use borrow.Author.Rules.{rules}
 use Rattle.reasons.proofs.fields.first_wrong.Statement.{statement}
 use Rattle.reasons.proofs.fields.first_wrong.Tie as tie
 
-returns-3 : tie.Need-returns-3
-returns-3 c = let d = c.before.before in second-wrong _ _ _ _ d.before.before.if1.false d.before.if2.false _ d.day-fraction.ensures _
-    c.enum_told.given.1
+returns-3 : tie.Need-returns-in-Refused
+returns-3 c = second-wrong _ _ _ _ c.if-hour-gt23.false c.if-minute-gt59.false _ c.day_fraction.ensures _
+    c.in-Refused.is
 
-returns-4 : tie.Need-returns-4
-returns-4 c = let d = c.before.before in time-passes _ _ _ _ d.before.before.if1.false d.before.if2.false _ d.day-fraction.ensures _
-    c.enum-told2.given.1
+returns-4 : tie.Need-returns-in-Fraction
+returns-4 c = time-passes _ _ _ _ c.if-hour-gt23.false c.if-minute-gt59.false _ c.day_fraction.ensures _
+    c.in-Fraction.is
 
-pub first-wrong-spec : {M : Type 1} → statement M
-first-wrong-spec =
+pub first_wrong_spec : {M : Type 1} → statement M
+first_wrong_spec =
     tie.close
-    (tie.spec (λ c. hour-wrong _ _ _ _ c.if1.true) (λ c. minute-wrong _ _ _ _ c.before.if1.false c.if2.true) (λ c κs. search rules)
+    (tie.spec (λ c. hour-wrong _ _ _ _ c.if-hour-gt23.true) (λ c. minute-wrong _ _ _ _ c.if-hour-gt23.false c.if-minute-gt59.true) (λ c κs. search rules)
     (λ c. search rules) (λ c. search rules) returns-3 returns-4)

@@ -5,7 +5,7 @@ use borrow.Author.Rules.{rules}
 use Rattle.reasons.proofs.fields.parts_field.Statement.{statement}
 use Rattle.reasons.proofs.fields.parts_field.Tie as tie
 
-pub parts-field-spec : {M : Type 1} → statement M
-parts-field-spec =
-    tie.close (tie.spec (λ c κs. search rules) (λ c. c.sum-field.ensures ∙ parts-6 _ _ _ c.before.if1.true) (λ c κs. search rules)
-    (λ c. c.part_field.ensures ∙ parts-9 _ _ _ c.before.if2.true) (λ c. parts_none _ _ _ c.before.if1.false c.if2.false))
+pub parts_field_spec : {M : Type 1} → statement M
+parts_field_spec =
+    tie.close (tie.spec (λ c κs. search rules) (λ c. c.sum_field.ensures ∙ parts-6 _ _ _ c.if-number-eq6.true) (λ c κs. search rules)
+    (λ c. c.part_field.ensures ∙ parts-9 _ _ _ c.if-number-eq9.true) (λ c. parts_none _ _ _ c.if-number-eq6.false c.if-number-eq9.false))

@@ -9,12 +9,12 @@ use Rattle.reasons.proofs.FieldTests.{year-named, year-passes}
 use Rattle.reasons.proofs.fields.year_field.Statement.{statement}
 use Rattle.reasons.proofs.fields.year_field.Tie as tie
 
-returns : tie.Need-returns
-returns c = let s = c.before in ap Year (to_z-of_z s.ranges.year)
-    ∙ year-named s.args.year (lt_left s.args.year (negsuc 4798) true s.ranges.year c.if1.true)
+returns : tie.Need-returns-then-year-ltminus4799
+returns c = ap Year (to_z-of_z c.ranges.year)
+    ∙ year-named c.args.year (lt_left c.args.year (negsuc 4798) true c.ranges.year c.if-year-ltminus4799.true)
 
-returns-2 : tie.Need-returns-2
-returns-2 c = year-passes c.before.args.year (lt_left c.before.args.year (negsuc 4798) false c.before.ranges.year c.if1.false)
+returns-2 : tie.Need-returns
+returns-2 c = year-passes c.args.year (lt_left c.args.year (negsuc 4798) false c.ranges.year c.if-year-ltminus4799.false)
 
-pub year-field-spec : {M : Type 1} → statement M
-year-field-spec = tie.close (tie.spec returns returns-2)
+pub year_field_spec : {M : Type 1} → statement M
+year_field_spec = tie.close (tie.spec returns returns-2)

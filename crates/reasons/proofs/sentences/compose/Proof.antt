@@ -10,22 +10,17 @@ use Rattle.reasons.proofs.sentences.compose.Tie as tie
 
 named-requires : tie.Need-named-requires
 named-requires c κs =
-    let t = c.before.before.before in
-    let st = t.before.before.before in
-    let short = text-short st.args.reason.number in
-    let p = t.text.ensures.written (omega (arith, short, st.requires)) in
-    omega (arith, p.ends, short, placed-length p (omega (arith, short, st.requires)), st.requires)
+    let short = text-short c.args.reason.number in
+    let p = c.text-at.ensures.written (omega (arith, short, c.requires)) in
+    omega (arith, p.ends, short, placed-length p (omega (arith, short, c.requires)), c.requires)
 
 returns : tie.Need-returns
 unfolding render
 returns c =
-    let w = c.before.before in
-    let t = w.before.before.before.before in
-    let st = t.before.before.before in
-    let short = text-short st.args.reason.number in
-    let p = t.text.ensures.written (omega (arith, short, st.requires)) in
-    let end = w.named.ensures.1 in
-    (then p w.named.ensures.0 (omega (arith, end, p.ends, short, st.requires)), omega (arith, end, p.ends, short))
+    let short = text-short c.args.reason.number in
+    let p = c.text-at.ensures.written (omega (arith, short, c.requires)) in
+    let end = c.named.ensures.1 in
+    (then p c.named.ensures.0 (omega (arith, end, p.ends, short, c.requires)), omega (arith, end, p.ends, short))
 
-pub compose-spec : {M : Type 1} → statement M
-compose-spec = tie.close (tie.spec (λ c κs. search rules) named-requires (λ c. search rules) returns)
+pub compose_spec : {M : Type 1} → statement M
+compose_spec = tie.close (tie.spec (λ c κs. search rules) named-requires (λ c. search rules) returns)

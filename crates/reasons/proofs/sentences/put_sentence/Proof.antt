@@ -9,31 +9,26 @@ use borrow.Author.Rules.{rules}
 use Rattle.reasons.proofs.sentences.put_sentence.Statement.{statement}
 use Rattle.reasons.proofs.sentences.put_sentence.Tie as tie
 
-returns : tie.Need-returns
+returns : tie.Need-returns-then-out-n
 returns c =
-    let m = c.before.before in
-    let st = m.before.before.before in
-    short (render st.args.reason) st.args.out.now (omega (arith, c.if1.true, m.compose.ensures.0.ends))
+    short (render c.args.reason) c.args.out.now (omega (arith, c.if-out-n.true, c.compose-n.ensures.0.ends))
 
-slice-aggregate-copy : tie.Need-slice-aggregate-copy
+slice-aggregate-copy : tie.Need-slice_bounds-copy-end
 slice-aggregate-copy c =
-    let p = c.before.before.before.compose.ensures.0 in
+    let p = c.compose-n.ensures.0 in
     omega (arith, ap length (placed_first p), p.ends)
 
 copy-requires : tie.Need-copy-requires
 copy-requires c κs =
-    let p = c.before.before.before.before.compose.ensures.0 in
-    omega (arith, ap length (placed_first p), p.ends, c.before.before.if1.false)
+    let p = c.compose-n.ensures.0 in
+    omega (arith, ap length (placed_first p), p.ends, c.if-out-n.false)
 
-returns-2 : tie.Need-returns-2
+returns-2 : tie.Need-returns
 returns-2 c =
-    let i = c.before.before.before.before.before in
-    let m = i.before.before in
-    let st = m.before.before.before in
-    put-done _ (render st.args.reason) st.args.out.now _ _ (placed_first m.compose.ensures.0) c.before.before.copy.ensures.0
-    c.before.before.copy.ensures.1 (omega (arith, i.if1.false, m.compose.ensures.0.ends))
+    put-done _ (render c.args.reason) c.args.out.now _ _ (placed_first c.compose-n.ensures.0) c.copy.ensures.0
+    c.copy.ensures.1 (omega (arith, c.if-out-n.false, c.compose-n.ensures.0.ends))
 
-pub put-sentence-spec : {M : Type 1} → statement M
-put-sentence-spec =
+pub put_sentence_spec : {M : Type 1} → statement M
+put_sentence_spec =
     tie.close
     (tie.spec (λ c. search rules) (λ c κs. search rules) returns (λ c. search rules) slice-aggregate-copy copy-requires (λ c. search rules) returns-2)

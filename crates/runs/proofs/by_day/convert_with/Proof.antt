@@ -1,26 +1,30 @@
 -- `runs::by_day::convert_with` meets its contract. Assumes nothing.
-use mathlib.Core.Path.{sym, subst}
-use mathlib.Core.List.{List}
-use Rattle.julian.specs.JulianDate.{julian_outcome}
-use Rattle.leap_table.specs.rows.Table.{Row}
+use mathlib.Core.Path.{◌∙◌}
 use Rattle.leap_table.specs.rows.Announced.{rows_in}
-use Rattle.runs.specs.by_day.Hand.{FindsWay, RightWay}
-use borrow.Author.Rules.{rules}
+use borrow.Author.Tests.{ne_eqb}
+use Rattle.runs.proofs.ways.Steps.{other_to, way_out_of_utc, way_into_utc}
 use Rattle.runs.proofs.by_day.convert_with.Statement.{statement}
 use Rattle.runs.proofs.by_day.convert_with.Tie as tie
 
--- the rows that are read
-abbrev rows : tie.Start → List Row
-rows s = rows_in s.args.size s.args.months.now s.args.seconds.now
+out-of-utc-requires : tie.Need-out_of_utc-requires
+out-of-utc-requires c κs =
+    (c.requires.0, other_to c.args.from c.args.to c.if-from-eq-UTC.true c.requires.1)
 
-returns : tie.Need-returns
-unfolding FindsWay RightWay julian_outcome
+returns : tie.Need-returns-then-from-eq-UTC
 returns c =
-    let q = c.before.before.before in
-    let s = q.before in
-    sym (subst (RightWay (rows s) s.args.from s.args.to s.args.jd) c.before.d.given.1 (q.quick-way.ensures (rows s) s.requires))
+    let a = c.args in
+    c.out_of_utc.ensures
+    ∙ way_out_of_utc a.from a.to (rows_in a.size a.months.now a.seconds.now) a.jd c.if-from-eq-UTC.true c.requires.1
 
-pub convert-with-spec : {M : Type 1} → statement M
-convert-with-spec =
-    tie.close
-    (tie.spec (λ c κs. search rules) (λ c. search rules) (λ c. search rules) (λ c κs. search rules) returns (λ c. search rules))
+into-utc-requires : tie.Need-into_utc-requires
+into-utc-requires c κs =
+    (c.requires.0, ne_eqb c.args.from 0 c.if-from-eq-UTC.false)
+
+returns-2 : tie.Need-returns
+returns-2 c =
+    let a = c.args in
+    c.into_utc.ensures
+    ∙ way_into_utc a.from a.to (rows_in a.size a.months.now a.seconds.now) a.jd c.if-from-eq-UTC.false c.requires.1
+
+pub convert_with_spec : {M : Type 1} → statement M
+convert_with_spec = tie.close (tie.spec out-of-utc-requires returns into-utc-requires returns-2)

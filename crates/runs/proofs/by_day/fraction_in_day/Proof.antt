@@ -13,7 +13,7 @@ use borrow.Author.Rules.{rules}
 use Rattle.runs.proofs.by_day.fraction_in_day.Statement.{statement}
 use Rattle.runs.proofs.by_day.fraction_in_day.Tie as tie
 
-returns : tie.Need-returns
+returns : tie.Need-returns-then-w-eq0
 unfolding FindsFraction InDayOf of_bits
 returns c x fx m acc =
     let j = c.before.before.before in
@@ -21,11 +21,11 @@ returns c x fx m acc =
     let w = i.before.before in
     let s = w.before in
     let y = s.args.small in
-    let q = quick (sub binary64 x (nearest_int x)) (sub binary64 y w.nearest-whole.result.value) (sub-fits binary64 x _) (sub-fits binary64 y _)
-    m.before_noon i.if1.true j.if2.true in
-    same_number x y fx (yes s.well_formed.0.1) m acc w.nearest-whole.result w.nearest-whole.ensures _ q (ap (to_z w64) c.if3.true)
+    let q = quick (sub binary64 x (nearest_int x)) (sub binary64 y w.nearest_whole-w.result.value) (sub-fits binary64 x _) (sub-fits binary64 y _)
+    m.before_noon i.if-fraction.true j.if-fraction-2.true in
+    same_number x y fx (yes s.well_formed.0.1) m acc w.nearest_whole-w.result w.nearest_whole-w.ensures _ q (ap (to_z w64) c.if-w-eq0.true)
 
-returns-2 : tie.Need-returns-2
+returns-2 : tie.Need-returns-then-w-eq1
 unfolding FindsFraction InDayOf of_bits neg
 returns-2 c x fx m acc =
     let k = c.before.before.before in
@@ -34,29 +34,29 @@ returns-2 c x fx m acc =
     let w = i.before.before in
     let s = w.before in
     let y = s.args.small in
-    let q = quick_borrowed (sub binary64 x (nearest_int x)) (sub binary64 y w.nearest-whole.result.value) (sub-fits binary64 x _) (sub-fits binary64 y _)
-    m.before_noon i.if1.false j.if4.true k.if5.true in
-    next-number x y fx (yes s.well_formed.0.1) m acc w.nearest-whole.result w.nearest-whole.ensures _ q (ap (to_z w64) c.if6.true)
+    let q = quick_borrowed (sub binary64 x (nearest_int x)) (sub binary64 y w.nearest_whole-w.result.value) (sub-fits binary64 x _) (sub-fits binary64 y _)
+    m.before_noon i.if-fraction.false j.if-fraction-3.true k.if-more.true in
+    next-number x y fx (yes s.well_formed.0.1) m acc w.nearest_whole-w.result w.nearest_whole-w.ensures _ q (ap (to_z w64) c.if-w-eq1.true)
 
-returns-3 : tie.Need-returns-3
+returns-3 : tie.Need-returns-else-w-eq0
 unfolding FindsFraction InDayOf
 returns-3 c x fx m acc = tt
 
-returns-4 : tie.Need-returns-4
+returns-4 : tie.Need-returns-else-fraction-2
 unfolding FindsFraction InDayOf
 returns-4 c x fx m acc = tt
 
-returns-5 : tie.Need-returns-5
+returns-5 : tie.Need-returns-else-w-eq1
 unfolding FindsFraction InDayOf
 returns-5 c x fx m acc = tt
 
-returns-6 : tie.Need-returns-6
+returns-6 : tie.Need-returns-else-more
 unfolding FindsFraction InDayOf
 returns-6 c x fx m acc = tt
 
-returns-7 : tie.Need-returns-7
+returns-7 : tie.Need-returns-else-fraction-3
 unfolding FindsFraction InDayOf
 returns-7 c x fx m acc = tt
 
-pub fraction-in-day-spec : {M : Type 1} → statement M
-fraction-in-day-spec = tie.close (tie.spec (λ c κs. search rules) returns returns-2 returns-3 returns-4 returns-5 returns-6 returns-7)
+pub fraction_in_day_spec : {M : Type 1} → statement M
+fraction_in_day_spec = tie.close (tie.spec (λ c κs. search rules) returns returns-2 returns-3 returns-4 returns-5 returns-6 returns-7)

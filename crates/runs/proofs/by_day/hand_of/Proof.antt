@@ -11,5 +11,5 @@ returns : tie.Need-returns
 unfolding hand_of drift_rate leap_amount seconds_per_day mjd_zero_point round of_bits
 returns c = refl
 
-pub hand-of-spec : {M : Type 1} → statement M
-hand-of-spec = tie.close (tie.spec returns)
+pub hand_of_spec : {M : Type 1} → statement M
+hand_of_spec = tie.close (tie.spec returns)

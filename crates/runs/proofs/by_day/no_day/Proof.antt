@@ -6,7 +6,7 @@ use Rattle.runs.proofs.by_day.no_day.Tie as tie
 
 returns : tie.Need-returns
 unfolding of_bits neg
-returns c = c.serves-none.ensures
+returns c = c.serves_none.ensures
 
-pub no-day-spec : {M : Type 1} → statement M
-no-day-spec = tie.close (tie.spec (λ c κs. search rules) returns)
+pub no_day_spec : {M : Type 1} → statement M
+no_day_spec = tie.close (tie.spec (λ c κs. search rules) returns)

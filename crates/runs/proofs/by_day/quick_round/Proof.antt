@@ -8,18 +8,15 @@ use borrow.Author.Rules.{rules}
 use Rattle.runs.proofs.by_day.quick_round.Statement.{statement}
 use Rattle.runs.proofs.by_day.quick_round.Tie as tie
 
-returns : tie.Need-returns
+returns : tie.Need-returns-in-Elsewhere
 unfolding FindsRound RightRound
 returns c rows right = tt
 
-returns-2 : tie.Need-returns-2
+returns-2 : tie.Need-returns-in-Date
 unfolding FindsRound RightRound FindsTai RightTaiByHand refined moved
 returns-2 c rows right =
-    let t = c.before.before.before in
-    let q = t.before.before in
-    let s = q.before in
-    let e = subst (RightTaiByHand rows (julian s.args.big s.args.guess)) t.tai.given.1 (q.quick-tai.ensures rows right) in
+    let e = subst (RightTaiByHand rows (julian c.args.big c.args.guess)) c.in-Date.is (c.quick_tai.ensures rows right) in
     (went _ e.0, e.1)
 
-pub quick-round-spec : {M : Type 1} → statement M
-quick-round-spec = tie.close (tie.spec (λ c κs. search rules) (λ c. search rules) (λ c. search rules) returns returns-2)
+pub quick_round_spec : {M : Type 1} → statement M
+quick_round_spec = tie.close (tie.spec (λ c κs. search rules) (λ c. search rules) (λ c. search rules) returns returns-2)

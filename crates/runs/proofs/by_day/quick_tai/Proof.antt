@@ -1,5 +1,5 @@
 -- `runs::by_day::quick_tai` meets its contract. Assumes nothing.
-use mathlib.Core.Path.{◌≡◌, sym, ap, subst, ◌∙◌}
+use mathlib.Core.Path.{◌≡◌, ap, subst}
 use mathlib.Core.Bool.{true}
 use lib.Ieee.{Float, of_bits, lt}
 use Rattle.floats.proofs.Laws.{yes}
@@ -10,35 +10,30 @@ use borrow.Author.Rules.{rules}
 use Rattle.runs.proofs.by_day.quick_tai.Statement.{statement}
 use Rattle.runs.proofs.by_day.quick_tai.Tie as tie
 
-returns : tie.Need-returns
+returns : tie.Need-returns-then-small-hand
 unfolding FindsTai FindsTaiOf RightHand hand_of of_bits
 returns c rows right =
-    let j4 = c.before in
-    let j3 = j4.before.before in
-    let j2 = j3.before in
-    let j1 = j2.before.before in
-    let s = j1.before.before in
-    let k = right j1.if1.true in
-    c.tai-in-range.ensures rows k
-    (same_float s.args.big s.args.hand.midnight (yes s.well_formed.0.1) k.begins.held j2.if2.true k.begins.late)
-    j3.if3.true
-    (subst (λ (z : Float). lt s.args.small z ≡ true) (ap (λ (z : DayInHand). z.top) k.same) j4.if4.true)
+    let k = right c.if-hand.true in
+    c.tai_in_range.ensures rows k
+    (same_float c.args.big c.args.hand.midnight (yes c.well_formed.0.1) k.begins.held c.if-big-hand.true k.begins.late)
+    c.if-small.true
+    (subst (λ (z : Float). lt c.args.small z ≡ true) (ap (λ (z : DayInHand). z.top) k.same) c.if-small-hand.true)
 
-returns-2 : tie.Need-returns-2
+returns-2 : tie.Need-returns-else-small-hand
 unfolding FindsTai RightTaiByHand
 returns-2 c rows right = tt
 
-returns-3 : tie.Need-returns-3
+returns-3 : tie.Need-returns-else-small
 unfolding FindsTai RightTaiByHand
 returns-3 c rows right = tt
 
-returns-4 : tie.Need-returns-4
+returns-4 : tie.Need-returns-else-big-hand
 unfolding FindsTai RightTaiByHand
 returns-4 c rows right = tt
 
-returns-5 : tie.Need-returns-5
+returns-5 : tie.Need-returns-else-hand
 unfolding FindsTai RightTaiByHand
 returns-5 c rows right = tt
 
-pub quick-tai-spec : {M : Type 1} → statement M
-quick-tai-spec = tie.close (tie.spec (λ c κs. search rules) returns returns-2 returns-3 returns-4 returns-5)
+pub quick_tai_spec : {M : Type 1} → statement M
+quick_tai_spec = tie.close (tie.spec (λ c κs. search rules) returns returns-2 returns-3 returns-4 returns-5)

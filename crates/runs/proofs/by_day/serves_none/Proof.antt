@@ -9,5 +9,5 @@ returns : tie.Need-returns
 unfolding serves_none of_bits
 returns c = refl
 
-pub serves-none-spec : {M : Type 1} → statement M
-serves-none-spec = tie.close (tie.spec returns)
+pub serves_none_spec : {M : Type 1} → statement M
+serves_none_spec = tie.close (tie.spec returns)

@@ -6,7 +6,6 @@ use Rattle.floats.proofs.Laws.{yes}
 use Rattle.julian.specs.JulianDate.{julian}
 use Rattle.julian.specs.day_number.DayNumber.{accepted}
 use Rattle.julian.proofs.day_number.Steps.{from-min}
-use Rattle.runs.specs.declared.by_day.InDay.{InDay}
 use Rattle.julian.specs.day_number.Midnights.{Midnight}
 use Rattle.runs.specs.by_day.Hand.{InDayOf, FindsFraction, RightTaiByHand, FindsTaiOf}
 use Rattle.runs.proofs.by_day.Days.{tai-by-hand, kept}
@@ -14,37 +13,32 @@ use borrow.Author.Rules.{rules}
 use Rattle.runs.proofs.by_day.tai_in_range.Statement.{statement}
 use Rattle.runs.proofs.by_day.tai_in_range.Tie as tie
 
-returns : tie.Need-returns
+returns : tie.Need-returns-in-Elsewhere
 unfolding FindsTaiOf RightTaiByHand
 returns c rows k e l t = tt
 
-returns-2 : tie.Need-returns-2
+returns-2 : tie.Need-returns-in-Fraction
 unfolding FindsTaiOf RightTaiByHand FindsFraction InDayOf accepted of_bits neg
 returns-2 c rows k e l t =
-    let f = c.before.before in
-    let g = f.before.before in
-    let b = g.before in
-    let a = b.before in
-    let s = a.before in
-    let x = s.args.big in
-    let y = s.args.small in
-    let fx = yes s.well_formed.0.1 in
-    let inside = sym (from-min (add binary64 x y) a.if1.true) ∙ b.if2.true in
-    let d = subst (InDayOf x y) f.f.given.1 (g.fraction-in-day.ensures x fx (subst Midnight (sym e) k.begins) inside) in
-    let fy = yes s.well_formed.1.0.1 in (
-      tai-by-hand rows x y s.args.hand fx fy k e l t f.f.given.0.0 d ∙ ap (λ (z : Float). answer (julian x z)) (sym c.tai-part.ensures),
-      kept rows x y s.args.hand fx fy k e l t f.f.given.0.0 d,
+    let x = c.args.big in
+    let y = c.args.small in
+    let fx = yes c.well_formed.0.1 in
+    let inside = sym (from-min (add binary64 x y) c.if-sum.true) ∙ c.if-sum-2.true in
+    let d = subst (InDayOf x y) c.in-Fraction.is (c.fraction_in_day.ensures x fx (subst Midnight (sym e) k.begins) inside) in
+    let fy = yes c.well_formed.1.0.1 in (
+      tai-by-hand rows x y c.args.hand fx fy k e l t c.in-Fraction.f d ∙ ap (λ (z : Float). answer (julian x z)) (sym c.tai_part-part.ensures),
+      kept rows x y c.args.hand fx fy k e l t c.in-Fraction.f d,
     )
 
-returns-3 : tie.Need-returns-3
+returns-3 : tie.Need-returns-else-sum-2
 unfolding FindsTaiOf RightTaiByHand
 returns-3 c rows k e l t = tt
 
-returns-4 : tie.Need-returns-4
+returns-4 : tie.Need-returns-else-sum
 unfolding FindsTaiOf RightTaiByHand
 returns-4 c rows k e l t = tt
 
-pub tai-in-range-spec : {M : Type 1} → statement M
-tai-in-range-spec =
+pub tai_in_range_spec : {M : Type 1} → statement M
+tai_in_range_spec =
     tie.close
     (tie.spec (λ c κs. search rules) (λ c. search rules) (λ c. search rules) (λ c κs. search rules) returns returns-2 returns-3 returns-4)

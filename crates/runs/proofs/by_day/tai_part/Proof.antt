@@ -8,5 +8,5 @@ returns : tie.Need-returns
 unfolding tai_part
 returns c = refl
 
-pub tai-part-spec : {M : Type 1} → statement M
-tai-part-spec = tie.close (tie.spec returns)
+pub tai_part_spec : {M : Type 1} → statement M
+tai_part_spec = tie.close (tie.spec returns)

@@ -6,5 +6,5 @@ use Rattle.runs.proofs.by_formula.is_number.Tie as tie
 returns : tie.Need-returns
 returns c = number-pattern c.args.n
 
-pub is-number-spec : {M : Type 1} → statement M
-is-number-spec = tie.close (tie.spec returns)
+pub is_number_spec : {M : Type 1} → statement M
+is_number_spec = tie.close (tie.spec returns)

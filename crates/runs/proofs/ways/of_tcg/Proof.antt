@@ -6,13 +6,13 @@ use borrow.Author.Rules.{rules}
 use Rattle.runs.proofs.ways.of_tcg.Statement.{statement}
 use Rattle.runs.proofs.ways.of_tcg.Tie as tie
 
-returns : tie.Need-returns
+returns : tie.Need-returns-in-Date
 unfolding tcg_outcome julian_outcome
-returns c = sym (ap tcg_outcome c.before.before.a.given.1)
+returns c = sym (ap tcg_outcome c.in-Date.is)
 
-returns-2 : tie.Need-returns-2
+returns-2 : tie.Need-returns-in-Refused
 unfolding tcg_outcome julian_outcome
-returns-2 c = sym (ap tcg_outcome c.before.a2.given.1)
+returns-2 c = sym (ap tcg_outcome c.in-Refused.is)
 
-pub of-tcg-spec : {M : Type 1} → statement M
-of-tcg-spec = tie.close (tie.spec (λ c. search rules) (λ c. search rules) returns returns-2)
+pub of_tcg_spec : {M : Type 1} → statement M
+of_tcg_spec = tie.close (tie.spec (λ c. search rules) (λ c. search rules) returns returns-2)

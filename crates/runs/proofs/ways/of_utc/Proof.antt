@@ -6,13 +6,13 @@ use borrow.Author.Rules.{rules}
 use Rattle.runs.proofs.ways.of_utc.Statement.{statement}
 use Rattle.runs.proofs.ways.of_utc.Tie as tie
 
-returns : tie.Need-returns
+returns : tie.Need-returns-in-Date
 unfolding utc_outcome julian_outcome
-returns c = sym (ap utc_outcome c.before.before.a.given.1)
+returns c = sym (ap utc_outcome c.in-Date.is)
 
-returns-2 : tie.Need-returns-2
+returns-2 : tie.Need-returns-in-Refused
 unfolding utc_outcome julian_outcome
-returns-2 c = sym (ap utc_outcome c.before.a2.given.1)
+returns-2 c = sym (ap utc_outcome c.in-Refused.is)
 
-pub of-utc-spec : {M : Type 1} → statement M
-of-utc-spec = tie.close (tie.spec (λ c. search rules) (λ c. search rules) returns returns-2)
+pub of_utc_spec : {M : Type 1} → statement M
+of_utc_spec = tie.close (tie.spec (λ c. search rules) (λ c. search rules) returns returns-2)

@@ -9,5 +9,5 @@ returns : tie.Need-returns
 unfolding gps_days days_of
 returns c = cc (seconds-per-day, gps-to-tai-offset-seconds)
 
-pub gps-days-spec : {M : Type 1} → statement M
-gps-days-spec = tie.close (tie.spec returns)
+pub gps_days_spec : {M : Type 1} → statement M
+gps_days_spec = tie.close (tie.spec returns)

@@ -8,10 +8,10 @@ use Rattle.julian.specs.shifts.Shifts.{plus, converted}
 
 returns : tie.Need-returns
 unfolding answer_of converted
-returns c = c.tai-answer.ensures ∙ c.before.later.ensures
-    ∙ moved-alike plus c.before.before.before.finite-jd.ensures c.before.before.gps-days.ensures
+returns c = c.tai_answer.ensures ∙ c.later.ensures
+    ∙ moved-alike plus c.finite_jd.ensures c.gps_days.ensures
 
-pub gps-to-tai-spec : {M : Type 1} → statement M
-gps-to-tai-spec =
+pub gps_to_tai_spec : {M : Type 1} → statement M
+gps_to_tai_spec =
     tie.close
     (tie.spec (λ c κs. search rules) (λ c κs. search rules) (λ c κs. search rules) (λ c κs. search rules) returns)

@@ -8,10 +8,10 @@ use Rattle.julian.specs.shifts.Shifts.{minus, converted}
 
 returns : tie.Need-returns
 unfolding answer_of converted
-returns c = c.gps-answer.ensures ∙ c.before.earlier.ensures
-    ∙ moved-alike minus c.before.before.before.finite-jd.ensures c.before.before.gps-days.ensures
+returns c = c.gps_answer.ensures ∙ c.earlier.ensures
+    ∙ moved-alike minus c.finite_jd.ensures c.gps_days.ensures
 
-pub tai-to-gps-spec : {M : Type 1} → statement M
-tai-to-gps-spec =
+pub tai_to_gps_spec : {M : Type 1} → statement M
+tai_to_gps_spec =
     tie.close
     (tie.spec (λ c κs. search rules) (λ c κs. search rules) (λ c κs. search rules) (λ c κs. search rules) returns)

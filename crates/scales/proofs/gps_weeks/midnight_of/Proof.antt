@@ -7,7 +7,7 @@ use Rattle.scales.proofs.gps_weeks.midnight_of.Tie as tie
 
 returns : tie.Need-returns
 unfolding of_bits
-returns c = midnight-is c.before.args.day (search rules) (omega arith)
+returns c = midnight-is c.args.day (search rules) (omega arith)
 
-pub midnight-of-spec : {M : Type 1} → statement M
-midnight-of-spec = tie.close (tie.spec (λ c. search rules) returns)
+pub midnight_of_spec : {M : Type 1} → statement M
+midnight_of_spec = tie.close (tie.spec (λ c. search rules) returns)

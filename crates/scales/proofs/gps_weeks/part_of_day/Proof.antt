@@ -6,7 +6,7 @@ use Rattle.scales.proofs.gps_weeks.part_of_day.Statement.{statement}
 use Rattle.scales.proofs.gps_weeks.part_of_day.Tie as tie
 
 returns : tie.Need-returns
-returns c = ap (λ (x : Float). div binary64 (of_int binary64 (pos c.before.args.millis)) x) day-millis ∙ part-is c.before.args.millis (omega arith)
+returns c = ap (λ (x : Float). div binary64 (of_int binary64 (pos c.args.millis)) x) day-millis ∙ part-is c.args.millis (omega arith)
 
-pub part-of-day-spec : {M : Type 1} → statement M
-part-of-day-spec = tie.close (tie.spec (λ c. search rules) returns)
+pub part_of_day_spec : {M : Type 1} → statement M
+part_of_day_spec = tie.close (tie.spec (λ c. search rules) returns)

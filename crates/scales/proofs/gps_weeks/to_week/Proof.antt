@@ -7,23 +7,21 @@ use Rattle.scales.specs.gps_weeks.WeekOf.{week_outcome, week_of}
 use Rattle.scales.proofs.gps_weeks.to_week.Statement.{statement}
 use Rattle.scales.proofs.gps_weeks.to_week.Tie as tie
 
-returns : tie.Need-returns
+returns : tie.Need-returns-in-Refused
 unfolding week_outcome week_of julian_outcome onward
 returns c =
-    let a = c.before.before.before in
-    let e : finite_jd a.before.args.gps.0 ≡ refusal c.before.number.given.0.0 = sym a.finite-jd.ensures
-    ∙ ap julian_outcome c.before.number.given.1 in
+    let e : finite_jd c.args.gps.0 ≡ refusal c.in-Refused.number = sym c.finite_jd.ensures
+    ∙ ap julian_outcome c.in-Refused.is in
     rw e
 
-returns-2 : tie.Need-returns-2
+returns-2 : tie.Need-returns-in-Date
 unfolding week_of julian_outcome onward
 returns-2 c =
-    let a = c.before.before.before.before in
-    let e : finite_jd a.before.args.gps.0 ≡ answer c.before.before.jd.given.0.0 = sym a.finite-jd.ensures
-    ∙ ap julian_outcome c.before.before.jd.given.1 in
-    rw (e, c.week-of-parts.ensures)
+    let e : finite_jd c.args.gps.0 ≡ answer c.in-Date.jd = sym c.finite_jd.ensures
+    ∙ ap julian_outcome c.in-Date.is in
+    rw (e, c.week_of_parts.ensures)
 
-pub to-week-spec : {M : Type 1} → statement M
-to-week-spec =
+pub to_week_spec : {M : Type 1} → statement M
+to_week_spec =
     tie.close
     (tie.spec (λ c κs. search rules) (λ c. search rules) (λ c. search rules) (λ c κs. search rules) returns returns-2)

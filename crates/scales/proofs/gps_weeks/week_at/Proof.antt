@@ -5,20 +5,20 @@ use Rattle.scales.specs.gps_weeks.WeekOf.{week_outcome, week_at}
 use Rattle.scales.proofs.gps_weeks.week_at.Statement.{statement}
 use Rattle.scales.proofs.gps_weeks.week_at.Tie as tie
 
-returns : tie.Need-returns
+returns : tie.Need-returns-then-count-lt-FIRST_MILLI
 unfolding week_outcome week_at
-returns c = rw (lt-ltb _ _ c.if1.true)
+returns c = rw (lt-ltb _ _ c.if-count-lt-FIRST_MILLI.true)
 
-returns-2 : tie.Need-returns-2
+returns-2 : tie.Need-returns-then-week
 unfolding week_outcome week_at
-returns-2 c = rw (le-ltb _ _ c.before.if1.false, lt-leb _ _ c.if2.true)
+returns-2 c = rw (le-ltb _ _ c.if-count-lt-FIRST_MILLI.false, lt-leb _ _ c.if-week.true)
 
-returns-3 : tie.Need-returns-3
+returns-3 : tie.Need-returns
 unfolding week_outcome week_at
-returns-3 c = rw (le-ltb _ _ c.before.if1.false, le-leb _ _ c.if2.false)
+returns-3 c = rw (le-ltb _ _ c.if-count-lt-FIRST_MILLI.false, le-leb _ _ c.if-week.false)
 
-pub week-at-spec : {M : Type 1} → statement M
-week-at-spec =
+pub week_at_spec : {M : Type 1} → statement M
+week_at_spec =
     tie.close
     (tie.spec returns (λ c. search rules) (λ c. search rules) (λ c. search rules) returns-2 (λ c. search rules) (λ c. search rules)
     (λ c. search rules) (λ c. search rules) returns-3)

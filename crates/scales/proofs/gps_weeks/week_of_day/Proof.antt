@@ -1,5 +1,6 @@
 -- `scales::gps_weeks::week_of_day` meets its contract. Assumes nothing.
-use Rattle.std.proofs.Common.{◌≡◌, ℕ, ◌+◌, ◌-◌, ◌*◌, ◌/◌, ◌<◌, ◌≤◌, true, false, ℤ, pos, negsuc, refl, ap, ◌∙◌, subst, arith, to_z-of_z, w64, rules, ltb-true, le-ltb}
+use Rattle.std.proofs.Common.{◌≡◌, ℕ, ◌+◌, ◌-◌, ◌*◌, ◌/◌, ◌<◌, ◌≤◌, true, false, ℤ, pos, negsuc, refl, ap, ◌∙◌, subst, arith, to_z-of_z, w64, rules, ltb-true}
+use Rattle.std.proofs.Common.{le-ltb}
 use lib.Signed.{lt_z}
 use borrow.Author.Tests.{lt-leb}
 use Rattle.refusals.specs.Outcome.{refusal}
@@ -29,24 +30,23 @@ module _ (day z : ℤ) (n ms k : ℕ) (same : z ≡ day) (left : lt_z z (pos 0) 
   past_all : 4000000 ≤ n → refusal 18 ≡ week_of_day day ms
   past_all h = past (n * 86400000 + k) (omega arith) ∙ in-days
 
-returns : tie.Need-returns
+returns : tie.Need-returns-then-day-lt0
 unfolding week_outcome
-returns c = before_day_0 _ _ (subst (λ (x : ℤ). lt_z x (pos 0) ≡ true) (to_z-of_z {w = w64} c.before.ranges.day) c.if1.true)
+returns c = before_day_0 _ _ (subst (λ (x : ℤ). lt_z x (pos 0) ≡ true) (to_z-of_z {w = w64} c.ranges.day) c.if-day-lt0.true)
 
-returns-2 : tie.Need-returns-2
+returns-2 : tie.Need-returns-then-days-ge-PAST_ALL_WEEKS
 unfolding week_outcome
-returns-2 c = past_all _ _ c.before.from_zero.result _ _ (to_z-of_z {w = w64} c.before.before.before.ranges.day) c.before.before.if1.false
-    c.before.from_zero.ensures refl c.if2.true
+returns-2 c = past_all _ _ c.from_zero-days.result _ _ (to_z-of_z {w = w64} c.ranges.day) c.if-day-lt0.false
+    c.from_zero-days.ensures refl c.if-days-ge-PAST_ALL_WEEKS.true
 
-returns-3 : tie.Need-returns-3
+returns-3 : tie.Need-returns
 returns-3 c =
-    let f = c.before.before.before in
-    c.week-at.ensures
-    ∙ in-days _ _ f.from_zero.result _ c.before.millis-of.result (to_z-of_z {w = w64} f.before.before.ranges.day) f.before.if1.false
-    f.from_zero.ensures c.before.millis-of.ensures.0
+    c.week_at.ensures
+    ∙ in-days _ _ c.from_zero-days.result _ c.millis_of.result (to_z-of_z {w = w64} c.ranges.day) c.if-day-lt0.false
+    c.from_zero-days.ensures c.millis_of.ensures.0
 
-pub week-of-day-spec : {M : Type 1} → statement M
-week-of-day-spec =
+pub week_of_day_spec : {M : Type 1} → statement M
+week_of_day_spec =
     tie.close
     (tie.spec returns (λ c κs. search rules) returns-2 (λ c. search rules) (λ c. search rules) (λ c κs. search rules) (λ c. search rules)
     (λ c κs. search rules) returns-3)

@@ -6,25 +6,23 @@ use Rattle.scales.specs.gps_weeks.WeekOf.{week_outcome}
 use Rattle.scales.proofs.gps_weeks.week_of_parts.Statement.{statement}
 use Rattle.scales.proofs.gps_weeks.week_of_parts.Tie as tie
 
-returns : tie.Need-returns
+returns : tie.Need-returns-in-Refused
 unfolding week_outcome day_outcome onward
 returns c =
-    let a = c.before.before.before in
-    let e : day_number_and_fraction a.before.args.jd1 a.before.args.jd2 ≡ refusal c.before.number.given.0.0 =
-    sym a.day-number-and-fraction.ensures ∙ ap day_outcome c.before.number.given.1 in
+    let e : day_number_and_fraction c.args.jd1 c.args.jd2 ≡ refusal c.in-Refused.number =
+    sym c.day_number_and_fraction.ensures ∙ ap day_outcome c.in-Refused.is in
     rw e
 
-returns-2 : tie.Need-returns-2
+returns-2 : tie.Need-returns-in-Day
 unfolding day_outcome onward
 returns-2 c =
-    let a = c.before.before.before.before.before in
-    let found = c.before.before.before.found.given.0.0 in
-    let e : day_number_and_fraction a.before.args.jd1 a.before.args.jd2 ≡ answer found =
-    sym a.day-number-and-fraction.ensures ∙ ap day_outcome c.before.before.before.found.given.1 in
-    let f : SFits w64 found.day = record { sfits = c.before.struct_told.given.0.1 } in
-    rw (e, c.week-of-day.ensures, to_z-of_z f)
+    let found = c.in-Day.found in
+    let e : day_number_and_fraction c.args.jd1 c.args.jd2 ≡ answer found =
+    sym c.day_number_and_fraction.ensures ∙ ap day_outcome c.in-Day.is in
+    let f : SFits w64 found.day = record { sfits = c.struct_told-1.given.0.1 } in
+    rw (e, c.week_of_day.ensures, to_z-of_z f)
 
-pub week-of-parts-spec : {M : Type 1} → statement M
-week-of-parts-spec =
+pub week_of_parts_spec : {M : Type 1} → statement M
+week_of_parts_spec =
     tie.close
     (tie.spec (λ c κs. search rules) (λ c. search rules) (λ c. search rules) (λ c κs. search rules) returns returns-2)

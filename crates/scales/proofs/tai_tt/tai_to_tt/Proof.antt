@@ -8,10 +8,10 @@ use Rattle.julian.specs.shifts.Shifts.{plus, converted}
 
 returns : tie.Need-returns
 unfolding answer_of converted
-returns c = c.tt-answer.ensures ∙ c.before.later.ensures
-    ∙ moved-alike plus c.before.before.before.finite-jd.ensures c.before.before.tt-days.ensures
+returns c = c.tt_answer.ensures ∙ c.later.ensures
+    ∙ moved-alike plus c.finite_jd.ensures c.tt_days.ensures
 
-pub tai-to-tt-spec : {M : Type 1} → statement M
-tai-to-tt-spec =
+pub tai_to_tt_spec : {M : Type 1} → statement M
+tai_to_tt_spec =
     tie.close
     (tie.spec (λ c κs. search rules) (λ c κs. search rules) (λ c κs. search rules) (λ c κs. search rules) returns)

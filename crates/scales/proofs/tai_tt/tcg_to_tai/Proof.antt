@@ -8,16 +8,16 @@ use Rattle.scales.proofs.tai_tt.tcg_to_tai.Statement.{statement}
 use Rattle.scales.proofs.tai_tt.tcg_to_tai.Tie as tie
 use Rattle.julian.specs.shifts.Shifts.{minus, converted}
 
-returns : tie.Need-returns
+returns : tie.Need-returns-in-Date
 unfolding answer_of tt_outcome
 returns c = c.tt_to_tai.ensures
-    ∙ sym (went (converted (minus tt_days)) (sym c.before.before.before.before.tcg-to-tt.ensures ∙ ap tt_outcome c.before.before.tt.given.1))
+    ∙ sym (went (converted (minus tt_days)) (sym c.tcg_to_tt.ensures ∙ ap tt_outcome c.in-Date.is))
 
-returns-2 : tie.Need-returns-2
+returns-2 : tie.Need-returns-in-Refused
 unfolding answer_of tt_outcome tai_outcome
-returns-2 c = sym (stopped (converted (minus tt_days)) (sym c.before.before.before.tcg-to-tt.ensures ∙ ap tt_outcome c.before.n.given.1))
+returns-2 c = sym (stopped (converted (minus tt_days)) (sym c.tcg_to_tt.ensures ∙ ap tt_outcome c.in-Refused.is))
 
-pub tcg-to-tai-spec : {M : Type 1} → statement M
-tcg-to-tai-spec =
+pub tcg_to_tai_spec : {M : Type 1} → statement M
+tcg_to_tai_spec =
     tie.close
     (tie.spec (λ c κs. search rules) (λ c. search rules) (λ c κs. search rules) (λ c. search rules) returns returns-2)

@@ -9,5 +9,5 @@ returns : tie.Need-returns
 unfolding tt_days days_of
 returns c = cc (seconds-per-day, tt-tai-offset)
 
-pub tt-days-spec : {M : Type 1} → statement M
-tt-days-spec = tie.close (tie.spec returns)
+pub tt_days_spec : {M : Type 1} → statement M
+tt_days_spec = tie.close (tie.spec returns)

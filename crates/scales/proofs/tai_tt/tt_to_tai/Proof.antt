@@ -8,10 +8,10 @@ use Rattle.julian.specs.shifts.Shifts.{minus, converted}
 
 returns : tie.Need-returns
 unfolding answer_of converted
-returns c = c.tai-answer.ensures ∙ c.before.earlier.ensures
-    ∙ moved-alike minus c.before.before.before.finite-jd.ensures c.before.before.tt-days.ensures
+returns c = c.tai_answer.ensures ∙ c.earlier.ensures
+    ∙ moved-alike minus c.finite_jd.ensures c.tt_days.ensures
 
-pub tt-to-tai-spec : {M : Type 1} → statement M
-tt-to-tai-spec =
+pub tt_to_tai_spec : {M : Type 1} → statement M
+tt_to_tai_spec =
     tie.close
     (tie.spec (λ c κs. search rules) (λ c κs. search rules) (λ c κs. search rules) (λ c κs. search rules) returns)

@@ -9,9 +9,9 @@ use Rattle.scales.proofs.tcb_tdb.as_tcb.Tie as tie
 returns : tie.Need-returns
 unfolding map_smaller_part
 returns c = c.put_back.ensures
-    ∙ ap (put_back c.before.before.before.args.jd)
-    (c.before.tdb-to-tcb-part.ensures ∙ ap (λ (p : Parts). tdb_to_tcb p.larger p.smaller) c.before.before.split.ensures)
+    ∙ ap (put_back c.args.jd)
+    (c.tdb_to_tcb_part.ensures ∙ ap (λ (p : Parts). tdb_to_tcb p.larger p.smaller) c.split-p.ensures)
 
-pub as-tcb-spec : {M : Type 1} → statement M
-as-tcb-spec =
+pub as_tcb_spec : {M : Type 1} → statement M
+as_tcb_spec =
     tie.close (tie.spec (λ c κs. search rules) (λ c κs. search rules) (λ c κs. search rules) returns)

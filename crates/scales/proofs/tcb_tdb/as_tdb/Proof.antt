@@ -9,9 +9,9 @@ use Rattle.scales.proofs.tcb_tdb.as_tdb.Tie as tie
 returns : tie.Need-returns
 unfolding map_smaller_part
 returns c = c.put_back.ensures
-    ∙ ap (put_back c.before.before.before.args.jd)
-    (c.before.tcb-to-tdb-part.ensures ∙ ap (λ (p : Parts). tcb_to_tdb p.larger p.smaller) c.before.before.split.ensures)
+    ∙ ap (put_back c.args.jd)
+    (c.tcb_to_tdb_part.ensures ∙ ap (λ (p : Parts). tcb_to_tdb p.larger p.smaller) c.split-p.ensures)
 
-pub as-tdb-spec : {M : Type 1} → statement M
-as-tdb-spec =
+pub as_tdb_spec : {M : Type 1} → statement M
+as_tdb_spec =
     tie.close (tie.spec (λ c κs. search rules) (λ c κs. search rules) (λ c κs. search rules) returns)

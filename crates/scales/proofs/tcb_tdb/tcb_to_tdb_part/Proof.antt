@@ -9,5 +9,5 @@ returns : tie.Need-returns
 unfolding tcb_to_tdb since
 returns c = cc (t77td, t77tf, tdb0-bits, tcb-rate-lb)
 
-pub tcb-to-tdb-part-spec : {M : Type 1} → statement M
-tcb-to-tdb-part-spec = tie.close (tie.spec returns)
+pub tcb_to_tdb_part_spec : {M : Type 1} → statement M
+tcb_to_tdb_part_spec = tie.close (tie.spec returns)

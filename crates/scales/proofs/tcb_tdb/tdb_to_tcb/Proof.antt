@@ -10,16 +10,16 @@ use Rattle.scales.proofs.tcb_tdb.tdb_to_tcb.Statement.{statement}
 use Rattle.scales.proofs.tcb_tdb.tdb_to_tcb.Tie as tie
 use Rattle.julian.specs.shifts.Shifts.{changed, converted}
 
-returns : tie.Need-returns
+returns : tie.Need-returns-in-Date
 unfolding answer_of converted changed tcb_outcome julian_outcome
-returns c = ap answer c.as-tcb.ensures
-    ∙ sym (went (changed tdb_to_tcb) (sym c.before.before.before.before.finite-jd.ensures ∙ ap julian_outcome c.before.before.jd.given.1))
+returns c = ap answer c.as_tcb.ensures
+    ∙ sym (went (changed tdb_to_tcb) (sym c.finite_jd.ensures ∙ ap julian_outcome c.in-Date.is))
 
-returns-2 : tie.Need-returns-2
+returns-2 : tie.Need-returns-in-Refused
 unfolding answer_of converted tcb_outcome julian_outcome
-returns-2 c = sym (stopped (changed tdb_to_tcb) (sym c.before.before.before.finite-jd.ensures ∙ ap julian_outcome c.before.n.given.1))
+returns-2 c = sym (stopped (changed tdb_to_tcb) (sym c.finite_jd.ensures ∙ ap julian_outcome c.in-Refused.is))
 
-pub tdb-to-tcb-spec : {M : Type 1} → statement M
-tdb-to-tcb-spec =
+pub tdb_to_tcb_spec : {M : Type 1} → statement M
+tdb_to_tcb_spec =
     tie.close
     (tie.spec (λ c κs. search rules) (λ c. search rules) (λ c κs. search rules) (λ c. search rules) returns returns-2)

@@ -9,5 +9,5 @@ returns : tie.Need-returns
 unfolding tdb_to_tcb
 returns c = cc (t77td, t77tf, tdb0-bits, tcb-rate-ratio)
 
-pub tdb-to-tcb-part-spec : {M : Type 1} → statement M
-tdb-to-tcb-part-spec = tie.close (tie.spec returns)
+pub tdb_to_tcb_part_spec : {M : Type 1} → statement M
+tdb_to_tcb_part_spec = tie.close (tie.spec returns)

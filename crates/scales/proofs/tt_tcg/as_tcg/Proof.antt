@@ -9,8 +9,8 @@ use Rattle.scales.proofs.tt_tcg.as_tcg.Tie as tie
 returns : tie.Need-returns
 unfolding map_smaller_part
 returns c = c.put_back.ensures
-    ∙ ap (put_back c.before.before.before.args.jd)
-    (c.before.tt-to-tcg-part.ensures ∙ ap (λ (p : Parts). tt_to_tcg p.larger p.smaller) c.before.before.split.ensures)
+    ∙ ap (put_back c.args.jd)
+    (c.tt_to_tcg_part.ensures ∙ ap (λ (p : Parts). tt_to_tcg p.larger p.smaller) c.split-p.ensures)
 
-pub as-tcg-spec : {M : Type 1} → statement M
-as-tcg-spec = tie.close (tie.spec (λ c κs. search rules) (λ c κs. search rules) (λ c κs. search rules) returns)
+pub as_tcg_spec : {M : Type 1} → statement M
+as_tcg_spec = tie.close (tie.spec (λ c κs. search rules) (λ c κs. search rules) (λ c κs. search rules) returns)

@@ -9,8 +9,8 @@ use Rattle.scales.proofs.tt_tcg.as_tt.Tie as tie
 returns : tie.Need-returns
 unfolding map_smaller_part
 returns c = c.put_back.ensures
-    ∙ ap (put_back c.before.before.before.args.jd)
-    (c.before.tcg-to-tt-part.ensures ∙ ap (λ (p : Parts). tcg_to_tt p.larger p.smaller) c.before.before.split.ensures)
+    ∙ ap (put_back c.args.jd)
+    (c.tcg_to_tt_part.ensures ∙ ap (λ (p : Parts). tcg_to_tt p.larger p.smaller) c.split-p.ensures)
 
-pub as-tt-spec : {M : Type 1} → statement M
-as-tt-spec = tie.close (tie.spec (λ c κs. search rules) (λ c κs. search rules) (λ c κs. search rules) returns)
+pub as_tt_spec : {M : Type 1} → statement M
+as_tt_spec = tie.close (tie.spec (λ c κs. search rules) (λ c κs. search rules) (λ c κs. search rules) returns)

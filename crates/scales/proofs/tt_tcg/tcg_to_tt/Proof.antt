@@ -10,16 +10,16 @@ use Rattle.scales.proofs.tt_tcg.tcg_to_tt.Statement.{statement}
 use Rattle.scales.proofs.tt_tcg.tcg_to_tt.Tie as tie
 use Rattle.julian.specs.shifts.Shifts.{changed, converted}
 
-returns : tie.Need-returns
+returns : tie.Need-returns-in-Date
 unfolding answer_of converted changed tt_outcome julian_outcome
-returns c = ap answer c.as-tt.ensures
-    ∙ sym (went (changed tcg_to_tt) (sym c.before.before.before.before.finite-jd.ensures ∙ ap julian_outcome c.before.before.jd.given.1))
+returns c = ap answer c.as_tt.ensures
+    ∙ sym (went (changed tcg_to_tt) (sym c.finite_jd.ensures ∙ ap julian_outcome c.in-Date.is))
 
-returns-2 : tie.Need-returns-2
+returns-2 : tie.Need-returns-in-Refused
 unfolding answer_of converted tt_outcome julian_outcome
-returns-2 c = sym (stopped (changed tcg_to_tt) (sym c.before.before.before.finite-jd.ensures ∙ ap julian_outcome c.before.n.given.1))
+returns-2 c = sym (stopped (changed tcg_to_tt) (sym c.finite_jd.ensures ∙ ap julian_outcome c.in-Refused.is))
 
-pub tcg-to-tt-spec : {M : Type 1} → statement M
-tcg-to-tt-spec =
+pub tcg_to_tt_spec : {M : Type 1} → statement M
+tcg_to_tt_spec =
     tie.close
     (tie.spec (λ c κs. search rules) (λ c. search rules) (λ c κs. search rules) (λ c. search rules) returns returns-2)

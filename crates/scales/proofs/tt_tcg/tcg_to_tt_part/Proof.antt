@@ -8,5 +8,5 @@ returns : tie.Need-returns
 unfolding tcg_to_tt since
 returns c = cc (mjd-zero-point, tcg-reference-epoch, tcg-rate-lg)
 
-pub tcg-to-tt-part-spec : {M : Type 1} → statement M
-tcg-to-tt-part-spec = tie.close (tie.spec returns)
+pub tcg_to_tt_part_spec : {M : Type 1} → statement M
+tcg_to_tt_part_spec = tie.close (tie.spec returns)

@@ -10,16 +10,16 @@ use Rattle.scales.proofs.tt_tcg.tt_to_tcg.Statement.{statement}
 use Rattle.scales.proofs.tt_tcg.tt_to_tcg.Tie as tie
 use Rattle.julian.specs.shifts.Shifts.{changed, converted}
 
-returns : tie.Need-returns
+returns : tie.Need-returns-in-Date
 unfolding answer_of converted changed tcg_outcome julian_outcome
-returns c = ap answer c.as-tcg.ensures
-    ∙ sym (went (changed tt_to_tcg) (sym c.before.before.before.before.finite-jd.ensures ∙ ap julian_outcome c.before.before.jd.given.1))
+returns c = ap answer c.as_tcg.ensures
+    ∙ sym (went (changed tt_to_tcg) (sym c.finite_jd.ensures ∙ ap julian_outcome c.in-Date.is))
 
-returns-2 : tie.Need-returns-2
+returns-2 : tie.Need-returns-in-Refused
 unfolding answer_of converted tcg_outcome julian_outcome
-returns-2 c = sym (stopped (changed tt_to_tcg) (sym c.before.before.before.finite-jd.ensures ∙ ap julian_outcome c.before.n.given.1))
+returns-2 c = sym (stopped (changed tt_to_tcg) (sym c.finite_jd.ensures ∙ ap julian_outcome c.in-Refused.is))
 
-pub tt-to-tcg-spec : {M : Type 1} → statement M
-tt-to-tcg-spec =
+pub tt_to_tcg_spec : {M : Type 1} → statement M
+tt_to_tcg_spec =
     tie.close
     (tie.spec (λ c κs. search rules) (λ c. search rules) (λ c κs. search rules) (λ c. search rules) returns returns-2)

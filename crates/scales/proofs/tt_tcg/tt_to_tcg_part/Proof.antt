@@ -8,5 +8,5 @@ returns : tie.Need-returns
 unfolding tt_to_tcg since
 returns c = cc (mjd-zero-point, tcg-reference-epoch, tcg-rate-ratio)
 
-pub tt-to-tcg-part-spec : {M : Type 1} → statement M
-tt-to-tcg-part-spec = tie.close (tie.spec returns)
+pub tt_to_tcg_part_spec : {M : Type 1} → statement M
+tt_to_tcg_part_spec = tie.close (tie.spec returns)

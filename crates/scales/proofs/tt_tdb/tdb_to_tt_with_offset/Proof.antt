@@ -6,7 +6,7 @@ use Rattle.scales.proofs.tt_tdb.tdb_to_tt_with_offset.Tie as tie
 
 returns : tie.Need-returns
 unfolding answer_of
-returns c = c.tt-answer.ensures ∙ c.before.earlier-by.ensures
+returns c = c.tt_answer.ensures ∙ c.earlier_by.ensures
 
-pub tdb-to-tt-with-offset-spec : {M : Type 1} → statement M
-tdb-to-tt-with-offset-spec = tie.close (tie.spec (λ c κs. search rules) (λ c κs. search rules) returns)
+pub tdb_to_tt_with_offset_spec : {M : Type 1} → statement M
+tdb_to_tt_with_offset_spec = tie.close (tie.spec (λ c κs. search rules) (λ c κs. search rules) returns)

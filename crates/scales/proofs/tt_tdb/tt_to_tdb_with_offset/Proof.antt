@@ -6,7 +6,7 @@ use Rattle.scales.proofs.tt_tdb.tt_to_tdb_with_offset.Tie as tie
 
 returns : tie.Need-returns
 unfolding answer_of
-returns c = c.tdb-answer.ensures ∙ c.before.later-by.ensures
+returns c = c.tdb_answer.ensures ∙ c.later_by.ensures
 
-pub tt-to-tdb-with-offset-spec : {M : Type 1} → statement M
-tt-to-tdb-with-offset-spec = tie.close (tie.spec (λ c κs. search rules) (λ c κs. search rules) returns)
+pub tt_to_tdb_with_offset_spec : {M : Type 1} → statement M
+tt_to_tdb_with_offset_spec = tie.close (tie.spec (λ c κs. search rules) (λ c κs. search rules) returns)

@@ -6,7 +6,7 @@ use Rattle.scales.proofs.ut1_tai.tai_to_ut1_with_offset.Tie as tie
 
 returns : tie.Need-returns
 unfolding answer_of
-returns c = c.ut1-answer.ensures ∙ c.before.later-by.ensures
+returns c = c.ut1_answer.ensures ∙ c.later_by.ensures
 
-pub tai-to-ut1-with-offset-spec : {M : Type 1} → statement M
-tai-to-ut1-with-offset-spec = tie.close (tie.spec (λ c κs. search rules) (λ c κs. search rules) returns)
+pub tai_to_ut1_with_offset_spec : {M : Type 1} → statement M
+tai_to_ut1_with_offset_spec = tie.close (tie.spec (λ c κs. search rules) (λ c κs. search rules) returns)

@@ -6,7 +6,7 @@ use Rattle.scales.proofs.ut1_tai.tt_to_ut1_with_delta_t.Tie as tie
 
 returns : tie.Need-returns
 unfolding answer_of
-returns c = c.ut1-answer.ensures ∙ c.before.earlier-by.ensures
+returns c = c.ut1_answer.ensures ∙ c.earlier_by.ensures
 
-pub tt-to-ut1-with-delta-t-spec : {M : Type 1} → statement M
-tt-to-ut1-with-delta-t-spec = tie.close (tie.spec (λ c κs. search rules) (λ c κs. search rules) returns)
+pub tt_to_ut1_with_delta_t_spec : {M : Type 1} → statement M
+tt_to_ut1_with_delta_t_spec = tie.close (tie.spec (λ c κs. search rules) (λ c κs. search rules) returns)

@@ -6,7 +6,7 @@ use Rattle.scales.proofs.ut1_tai.ut1_to_tai_with_offset.Tie as tie
 
 returns : tie.Need-returns
 unfolding answer_of
-returns c = c.tai-answer.ensures ∙ c.before.earlier-by.ensures
+returns c = c.tai_answer.ensures ∙ c.earlier_by.ensures
 
-pub ut1-to-tai-with-offset-spec : {M : Type 1} → statement M
-ut1-to-tai-with-offset-spec = tie.close (tie.spec (λ c κs. search rules) (λ c κs. search rules) returns)
+pub ut1_to_tai_with_offset_spec : {M : Type 1} → statement M
+ut1_to_tai_with_offset_spec = tie.close (tie.spec (λ c κs. search rules) (λ c κs. search rules) returns)

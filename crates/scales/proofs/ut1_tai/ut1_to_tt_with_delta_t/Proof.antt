@@ -6,7 +6,7 @@ use Rattle.scales.proofs.ut1_tai.ut1_to_tt_with_delta_t.Tie as tie
 
 returns : tie.Need-returns
 unfolding answer_of
-returns c = c.tt-answer.ensures ∙ c.before.later-by.ensures
+returns c = c.tt_answer.ensures ∙ c.later_by.ensures
 
-pub ut1-to-tt-with-delta-t-spec : {M : Type 1} → statement M
-ut1-to-tt-with-delta-t-spec = tie.close (tie.spec (λ c κs. search rules) (λ c κs. search rules) returns)
+pub ut1_to_tt_with_delta_t_spec : {M : Type 1} → statement M
+ut1_to_tt_with_delta_t_spec = tie.close (tie.spec (λ c κs. search rules) (λ c κs. search rules) returns)

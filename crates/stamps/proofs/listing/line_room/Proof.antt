@@ -5,13 +5,13 @@ use borrow.Author.Rules.{rules}
 use Rattle.stamps.proofs.listing.line_room.Statement.{statement}
 use Rattle.stamps.proofs.listing.line_room.Tie as tie
 
-returns : tie.Need-returns
+returns : tie.Need-returns-in-Numbers
 unfolding line_room
-returns c = sym (ap line_room c.enum_told.given.1)
+returns c = sym (ap line_room c.in-Numbers.is)
 
-returns-2 : tie.Need-returns-2
+returns-2 : tie.Need-returns-in-Sentences
 unfolding line_room
-returns-2 c = sym (ap line_room c.enum-told2.given.1)
+returns-2 c = sym (ap line_room c.in-Sentences.is)
 
-pub line-room-spec : {M : Type 1} → statement M
-line-room-spec = tie.close (tie.spec (λ c. search rules) (λ c. search rules) returns returns-2)
+pub line_room_spec : {M : Type 1} → statement M
+line_room_spec = tie.close (tie.spec (λ c. search rules) (λ c. search rules) returns returns-2)

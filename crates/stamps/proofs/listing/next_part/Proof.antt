@@ -4,21 +4,17 @@ use borrow.Author.Rules.{rules}
 use Rattle.stamps.proofs.listing.next_part.Statement.{statement}
 use Rattle.stamps.proofs.listing.next_part.Tie as tie
 
-returns : tie.Need-returns
+returns : tie.Need-returns-then-number-ne0
 returns c =
-    let r = c.before in
-    let a = r.before.before.before.args in
-    part-refused a.reporting a.table r.table-refusal.result r.table-refusal.ensures _ _ _ c.if1.true
+    let a = c.args in
+    part-refused a.reporting a.table c.table_refusal-number.result c.table_refusal-number.ensures _ _ _ c.if-number-ne0.true
 
-returns-2 : tie.Need-returns-2
+returns-2 : tie.Need-returns
 returns-2 c =
-    let p = c.before.before in
-    let i = p.before.before in
-    let r = i.before in
-    part-taken _ r.before.before.before.args.table r.table-refusal.result r.table-refusal.ensures _ _ _ i.if1.false _ _
-    p.next-part-by-rows.ensures
+    part-taken _ c.args.table c.table_refusal-number.result c.table_refusal-number.ensures _ _ _ c.if-number-ne0.false _ _
+    c.next_part_by_rows.ensures
 
-pub next-part-spec : {M : Type 1} → statement M
-next-part-spec =
+pub next_part_spec : {M : Type 1} → statement M
+next_part_spec =
     tie.close
     (tie.spec (λ c κs. search rules) returns (λ c κs. search rules) (λ c. search rules) returns-2)

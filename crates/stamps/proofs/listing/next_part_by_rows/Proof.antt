@@ -15,7 +15,7 @@ use Rattle.stamps.proofs.Parts.{start, ends-full, ends-all, goes_on, stops_full,
 use Rattle.stamps.proofs.listing.next_part_by_rows.Statement.{statement}
 use Rattle.stamps.proofs.listing.next_part_by_rows.Tie as tie
 
-abbrev invariant-loop : tie.invariant-loop
+abbrev invariant-loop : tie.invariant-loop-count
 invariant-loop how block line table scratch₀ answer left room at₀ count₀ scratch at count =
     (count ≤ left)
     × Placed scratch₀ 0 (lines_from how (rows_of table) block line count) at scratch
@@ -24,102 +24,96 @@ invariant-loop how block line table scratch₀ answer left room at₀ count₀ s
     × (held_lines how (rows_of table) block line (length scratch₀) left ≡ count + held_lines how (rows_of table) block (line + count) (length scratch₀ - at)
     (left - count))
 
-abbrev decreases-loop : tie.decreases-loop
+abbrev decreases-loop : tie.decreases-loop-count
 decreases-loop how block line table scratch₀ answer left room at₀ count₀ scratch at count = left - count
 
-block-stamps-requires : tie.Need-block-stamps-requires invariant-loop decreases-loop
+block-stamps-requires : tie.Need-block_stamps-answer-requires invariant-loop decreases-loop
 block-stamps-requires c κs = search rules
 
-lines-in-requires : tie.Need-lines-in-requires invariant-loop decreases-loop
+lines-in-requires : tie.Need-lines_in-requires invariant-loop decreases-loop
 lines-in-requires c κs =
-    let st = c.before.before.before in
-    subst (λ o. lines_in o ≤ 4001) (sym c.block_stamps.ensures) (few-lines st.args.block.now)
+    subst (λ o. lines_in o ≤ 4001) (sym c.block_stamps-answer.ensures) (few-lines c.args.block.now)
 
-less-requires : tie.Need-less-requires invariant-loop decreases-loop
+less-requires : tie.Need-less-left-requires invariant-loop decreases-loop
 less-requires c κs = search rules
 
-line-room-requires : tie.Need-line-room-requires invariant-loop decreases-loop
+line-room-requires : tie.Need-line_room-room-requires invariant-loop decreases-loop
 line-room-requires c κs = search rules
 
-loop-holds : tie.Need-loop-init invariant-loop decreases-loop
+loop-holds : tie.Need-loop-count-init invariant-loop decreases-loop
 unfolding lines_from
 loop-holds c = (zero-le, nothing _, zero-le, refl, start _ _ _ _ _ _)
 
-sub-if1 : tie.Need-overflow-sub-if1 invariant-loop decreases-loop
+sub-if1 : tie.Need-overflow_sub-scratch invariant-loop decreases-loop
 sub-if1 c = search rules
 
-add-t15 : tie.Need-overflow-add-t15 invariant-loop decreases-loop
+add-t15 : tie.Need-overflow_add-result invariant-loop decreases-loop
 add-t15 c = search rules
 
-same_length : tie.Need-same-length invariant-loop decreases-loop
+same_length : tie.Need-shape_of-scratch-then-scratch-at invariant-loop decreases-loop
 same_length c = search rules
 
-returns : tie.Need-returns invariant-loop decreases-loop
+returns : tie.Need-returns-then-scratch-at invariant-loop decreases-loop
 returns c =
-    let st = c.before.before.before.before.before.before.before.before.before in
-    let l = c.before.before.loop in
-    let e = c.before.before.before.before.less.ensures
-    ∙ ap (λ (n : ℕ). n - st.args.line)
-    (c.before.before.before.before.before.lines-in.ensures
-    ∙ ap lines_in c.before.before.before.before.before.before.block_stamps.ensures) in
-    stops_full _ _ st.args.block.now st.args.line _ _ _ _ _ e
-    (ends-full _ _ st.args.block.now st.args.line _ _ _ _ l.invariant.4 (omega (arith, c.before.before.before.line-room.ensures)))
+    let l = c.loop-count in
+    let e = c.less-left.ensures
+    ∙ ap (λ (n : ℕ). n - c.args.line)
+    (c.lines_in.ensures
+    ∙ ap lines_in c.block_stamps-answer.ensures) in
+    stops_full _ _ c.args.block.now c.args.line _ _ _ _ _ e
+    (ends-full _ _ c.args.block.now c.args.line _ _ _ _ l.invariant.4 (omega (arith, c.line_room-room.ensures)))
     l.invariant.1 (omega arith)
 
-add-place-line : tie.Need-overflow-add-place-line invariant-loop decreases-loop
+add-place-line : tie.Need-overflow_add-line invariant-loop decreases-loop
 add-place-line c = search rules
 
-place-line-requires : tie.Need-place-line-requires invariant-loop decreases-loop
+place-line-requires : tie.Need-place_line-at-requires invariant-loop decreases-loop
 place-line-requires c κs =
-    let back = c.before.before.before.before.before.before.before.before in
-    let st = back.before.before in
-    let e = c.before.before.before.before.before.less.ensures
-    ∙ ap (λ (n : ℕ). n - st.args.line)
-    (c.before.before.before.before.before.before.lines-in.ensures
-    ∙ ap lines_in c.before.before.before.before.before.before.before.block_stamps.ensures) in (
-      c.before.before.before.before.before.before.before.block_stamps.ensures,
+    let e = c.less-left.ensures
+    ∙ ap (λ (n : ℕ). n - c.args.line)
+    (c.lines_in.ensures
+    ∙ ap lines_in c.block_stamps-answer.ensures) in (
+      c.block_stamps-answer.ensures,
       omega (arith, e),
-      omega (arith, c.before.before.before.before.line-room.ensures),
+      omega (arith, c.line_room-room.ensures),
     )
 
-add-count : tie.Need-overflow-add-count invariant-loop decreases-loop
+add-count : tie.Need-overflow_add-count invariant-loop decreases-loop
 add-count c = search rules
 
-loop-less : tie.Need-loop-smaller invariant-loop decreases-loop
+loop-less : tie.Need-loop-count-smaller invariant-loop decreases-loop
 loop-less c = omega arith
 
-loop-again : tie.Need-loop-preserved invariant-loop decreases-loop
+loop-again : tie.Need-loop-count-preserved invariant-loop decreases-loop
 loop-again c =
-    let back = c.before.before.before.before.before.before.before.before in
-    let st = back.before.before.before.before.before in
-    let l = c.before.before.before.before.before.before.loop in
-    let room = c.before.before.before.before.before.before.before.line-room.ensures in
-    let p = c.before.before.place-line in (
+    let l = c.loop-count in
+    let room = c.line_room-room.ensures in
+    let p = c.place_line-at in (
       omega arith,
-      lines_more _ _ st.args.block.now st.args.line l.count l.invariant.1 p.ensures.0 (omega (arith, p.ensures.1, l.invariant.2, room)),
+      lines_more _ _ c.args.block.now c.args.line l.count l.invariant.1 p.ensures.0 (omega (arith, p.ensures.1, l.invariant.2, room)),
       omega (arith, p.ensures.1, l.invariant.2, room),
-      p.auto.1.1.1.1.1.0 ∙ l.invariant.3,
-      goes_on _ _ st.args.block.now st.args.line _ _ _ _ l.invariant.4 _ (omega arith) (omega (arith, room)) p.ensures.0.ends,
+      p.auto.dst ∙ l.invariant.3,
+      goes_on _ _ c.args.block.now c.args.line _ _ _ _ l.invariant.4 _ (omega arith) (omega (arith, room)) p.ensures.0.ends,
     )
 
-add-t11 : tie.Need-overflow-add-t11 invariant-loop decreases-loop
+add-t11 : tie.Need-overflow_add-result-2 invariant-loop decreases-loop
 add-t11 c = search rules
 
-same-length-2 : tie.Need-same-length-2 invariant-loop decreases-loop
+same-length-2 : tie.Need-shape_of-scratch invariant-loop decreases-loop
 same-length-2 c = search rules
 
-returns-2 : tie.Need-returns-2 invariant-loop decreases-loop
+returns-2 : tie.Need-returns invariant-loop decreases-loop
 returns-2 c =
-    let st = c.before.before.before.before.before.before.before.before in
-    let l = c.before.loop in
-    let e = c.before.before.before.less.ensures
-    ∙ ap (λ (n : ℕ). n - st.args.line)
-    (c.before.before.before.before.lines-in.ensures ∙ ap lines_in c.before.before.before.before.before.block_stamps.ensures) in
-    stops_done _ _ st.args.block.now st.args.line _ _ _ _ _ e
-    (ends-all _ _ st.args.block.now st.args.line _ _ _ _ l.invariant.4 (omega arith)) l.invariant.1 (omega arith)
+    let l = c.loop-count in
+    let e = c.less-left.ensures
+    ∙ ap (λ (n : ℕ). n - c.args.line)
+    (c.lines_in.ensures ∙ ap lines_in c.block_stamps-answer.ensures) in
+    stops_done _ _ c.args.block.now c.args.line _ _ _ _ _ e
+    (ends-all _ _ c.args.block.now c.args.line _ _ _ _ l.invariant.4 (omega arith)) l.invariant.1 (omega arith)
 
-pub next-part-by-rows-spec : {M : Type 1} → statement M
-next-part-by-rows-spec =
+pub next_part_by_rows_spec : {M : Type 1} → statement M
+next_part_by_rows_spec =
     tie.close
-    (tie.spec invariant-loop decreases-loop block-stamps-requires lines-in-requires less-requires line-room-requires loop-holds sub-if1 add-t15 same_length returns
+    (tie.spec invariant-loop decreases-loop block-stamps-requires lines-in-requires less-requires line-room-requires loop-holds sub-if1 add-t15 same_length
+    returns
     add-place-line place-line-requires add-count loop-less loop-again add-t11 same-length-2 returns-2)

@@ -7,29 +7,22 @@ use borrow.Author.Rules.{rules}
 use Rattle.stamps.proofs.listing.place_block_refused.Statement.{statement}
 use Rattle.stamps.proofs.listing.place_block_refused.Tie as tie
 
-place-block-reported-requires : tie.Need-place-block-reported-requires
+place-block-reported-requires : tie.Need-place_block_reported-b-requires
 place-block-reported-requires c κs =
-    let b = c.before.before.before in
-    let st = b.before.before.before.before.before in
-    let p1 = b.place-bytes.ensures.written (omega (arith, room-low st.args.reporting, st.requires.2)) in
-    (st.requires.0, st.requires.1, omega (arith, st.requires.2, p1.ends))
+    let p1 = c.place_bytes-a.ensures.written (omega (arith, room-low c.args.reporting, c.requires.2)) in
+    (c.requires.0, c.requires.1, omega (arith, c.requires.2, p1.ends))
 
 returns : tie.Need-returns
 unfolding block_refused
 returns c =
-    let e = c.before.before in
-    let r = e.before.before.before.before.before in
-    let b = r.before.before.before.before in
-    let st = b.before.before.before.before.before in
-    let p1 = b.place-bytes.ensures.written (omega (arith, room-low st.args.reporting, st.requires.2)) in
-    let p2 = r.place-block-reported.ensures in
-    let p3 = e.place-bytes2.ensures.written (omega (arith, p1.ends, p2.1, st.requires.2)) in (
-      then (then p1 p2.0 (omega (arith, p1.ends, p2.1, st.requires.2))) p3 (omega (arith, p1.ends, p2.1, p3.ends, st.requires.2)),
+    let p1 = c.place_bytes-a.ensures.written (omega (arith, room-low c.args.reporting, c.requires.2)) in
+    let p2 = c.place_block_reported-b.ensures in
+    let p3 = c.place_bytes.ensures.written (omega (arith, p1.ends, p2.1, c.requires.2)) in (
+      then (then p1 p2.0 (omega (arith, p1.ends, p2.1, c.requires.2))) p3 (omega (arith, p1.ends, p2.1, p3.ends, c.requires.2)),
       omega (arith, p1.ends, p2.1, p3.ends),
     )
 
-pub place-block-refused-spec : {M : Type 1} → statement M
-place-block-refused-spec =
+pub place_block_refused_spec : {M : Type 1} → statement M
+place_block_refused_spec =
     tie.close
-    (tie.spec (λ c. search rules) (λ c κs. search rules) place-block-reported-requires (λ c. search rules) (λ c κs. search rules) (λ c. search rules)
-    returns)
+    (tie.spec (λ c κs. search rules) place-block-reported-requires (λ c κs. search rules) (λ c. search rules) returns)

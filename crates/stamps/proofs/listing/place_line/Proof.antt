@@ -7,66 +7,56 @@ use Rattle.stamps.proofs.Lines.{refused-number, refused-line, stamps-few, within
 use Rattle.stamps.proofs.listing.place_line.Statement.{statement}
 use Rattle.stamps.proofs.listing.place_line.Tie as tie
 
-place-block-refused-requires : tie.Need-place-block-refused-requires
+place-block-refused-requires : tie.Need-place_block_refused-requires
 place-block-refused-requires c κs =
-    let st = c.before.before.before.before.before.before in
-    let k = refused-number st.args.block.now st.args.line _ st.requires.0 _ c.before.before.answer.given.1 in
-    (k.0, k.1, st.requires.2)
+    let k = refused-number c.args.block.now c.args.line _ c.requires.0 _ c.in-Refused.is in
+    (k.0, k.1, c.requires.2)
 
-cast-place-header : tie.Need-overflow-cast-place-header
+cast-place-header : tie.Need-overflow_cast-stamps
 cast-place-header c =
-    let st = c.before.before.before.before.before.before in
-    omega (arith, stamps-few st.args.block.now st.args.line _ st.requires.0 _ c.before.before.answer2.given.1)
+    omega (arith, stamps-few c.args.block.now c.args.line _ c.requires.0 _ c.in-Stamps.is)
 
-refused-stamps-requires : tie.Need-refused-stamps-requires
+refused-stamps-requires : tie.Need-refused_stamps-requires
 refused-stamps-requires c κs =
-    let st = c.before.before.before.before.before.before in
-    stamps-few st.args.block.now st.args.line _ st.requires.0 _ c.before.before.answer2.given.1
+    stamps-few c.args.block.now c.args.line _ c.requires.0 _ c.in-Stamps.is
 
-place-header-requires : tie.Need-place-header-requires
+place-header-requires : tie.Need-place_header-requires
 place-header-requires c κs =
-    let st = c.before.before.before.before.before.before.before.before in
-    omega (arith, room-low st.args.reporting, st.requires.2)
+    omega (arith, room-low c.args.reporting, c.requires.2)
 
-returns : tie.Need-returns
+returns : tie.Need-returns-then-line-eq0
 returns c =
-    let back = c.before.before.before.before.before.before.before.before in
-    let st = back.before.before.before in
-    let p = c.before.before.place-header.ensures in (
-      placed-as (header-line st.args.block.now st.args.line _ st.requires.0 _
-          c.before.before.before.before.before.before.before.answer2.given.1 _ _ _ c.before.before.before.before.before.if1.true
-          (c.before.before.before.before.refused-stamps.ensures _)) p.0,
-      omega (arith, p.1, room-low st.args.reporting),
+    let p = c.place_header.ensures in (
+      placed-as (header-line c.args.block.now c.args.line _ c.requires.0 _
+          c.in-Stamps.is _ _ _ c.if-line-eq0.true
+          (c.refused_stamps.ensures _)) p.0,
+      omega (arith, p.1, room-low c.args.reporting),
     )
 
-place-stamp-line-requires : tie.Need-place-stamp-line-requires
+place-stamp-line-requires : tie.Need-place_stamp_line-requires
 place-stamp-line-requires c κs =
-    let st = c.before.before.before.before.before.before.before in
-    let few = stamps-few st.args.block.now st.args.line _ st.requires.0 _ c.before.before.before.answer2.given.1 in
-    let low = within st.args.block.now st.args.line _ st.requires.0 _ c.before.before.before.answer2.given.1 st.requires.1 in
+    let few = stamps-few c.args.block.now c.args.line _ c.requires.0 _ c.in-Stamps.is in
+    let low = within c.args.block.now c.args.line _ c.requires.0 _ c.in-Stamps.is c.requires.1 in
     search rules
 
-returns-2 : tie.Need-returns-2
+returns-2 : tie.Need-returns-in-Refused
 returns-2 c =
-    let st = c.before.before.before.before.before.before.before.before.before in
-    let p = c.before.before.place-block-refused.ensures in (
-      placed-as (refused-line st.args.block.now st.args.line _ st.requires.0 _ c.before.before.before.before.before.answer.given.1 _ _)
+    let p = c.place_block_refused.ensures in (
+      placed-as (refused-line c.args.block.now c.args.line _ c.requires.0 _ c.in-Refused.is _ _)
           p.0,
       p.1,
     )
 
-returns-3 : tie.Need-returns-3
+returns-3 : tie.Need-returns-else-line-eq0
 returns-3 c =
-    let back = c.before.before.before.before.before.before.before.before in
-    let st = back.before.before in
-    let p = c.before.before.place-stamp-line.ensures in (
-      placed-as (stamp-line st.args.block.now st.args.line _ st.requires.0 _ c.before.before.before.before.before.before.answer2.given.1 _
-          _ c.before.before.before.before.if1.false) p.0,
+    let p = c.place_stamp_line.ensures in (
+      placed-as (stamp-line c.args.block.now c.args.line _ c.requires.0 _ c.in-Stamps.is _
+          _ c.if-line-eq0.false) p.0,
       p.1,
     )
 
-pub place-line-spec : {M : Type 1} → statement M
-place-line-spec =
+pub place_line_spec : {M : Type 1} → statement M
+place_line_spec =
     tie.close
     (tie.spec (λ c. search rules) place-block-refused-requires (λ c. search rules) cast-place-header refused-stamps-requires place-header-requires
     (λ c. search rules) returns (λ c. search rules) place-stamp-line-requires (λ c. search rules) returns-2 (λ c. search rules) returns-3)

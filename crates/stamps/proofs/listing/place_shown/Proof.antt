@@ -13,68 +13,60 @@ use borrow.Author.Rules.{rules}
 use Rattle.stamps.proofs.listing.place_shown.Statement.{statement}
 use Rattle.stamps.proofs.listing.place_shown.Tie as tie
 
-abbrev start : tie.After-to-iso8601-expanded-by-arrays → tie.Start
-start v = v.before.before.before.before.before.before.before
-
 -- the announced rows
-abbrev rows : tie.After-to-iso8601-expanded-by-arrays → List Row
-rows v = rows_of (start v).args.t3
+abbrev rows : tie.After-to_iso8601_expanded_by_arrays → List Row
+rows v = rows_of v.args.table
 
 -- they are read by parts
-abbrev same : (v : tie.After-to-iso8601-expanded-by-arrays)
-    → rows_in v.before.before.before.before.before.size_of.result (start v).args.t3.months (start v).args.t3.seconds ≡ rows v
-same v = let z = v.before.before.before.before.before in rows_in_lem (start v).args.t3 z.size_of.result z.size_of.ensures
+abbrev same : (v : tie.After-to_iso8601_expanded_by_arrays)
+    → rows_in v.size_of.result v.args.table.months v.args.table.seconds ≡ rows v
+same v = rows_in_lem v.args.table v.size_of.result v.size_of.ensures
 
-add-result : tie.Need-overflow-add-result
+add-result : tie.Need-overflow_add-result
 add-result c =
-    let v = c.before.before.before.before.before in
-    let st = start v in
-    let w = text-written (rows v) st.args.jd (same v) v.to-iso8601-expanded-by-arrays.ensures st.args.reporting _ _ c.before.n.given.1 in
-    let most = shown-most st.args.reporting st.args.jd _ (brief (rows v) st.args.jd) in
-    omega (arith, w.0, most, room-high st.args.reporting, st.pre, st.good)
+    let w = text-written (rows c.before.before.before) c.args.jd
+    (same c.before.before.before) c.to_iso8601_expanded_by_arrays.ensures c.args.reporting _ _ c.in-Written.is in
+    let most = shown-most c.args.reporting c.args.jd _ (brief (rows c.before.before.before) c.args.jd) in
+    omega (arith, w.0, most, room-high c.args.reporting, c.requires, c.well_formed)
 
-place-date-refused-requires : tie.Need-place-date-refused-requires
+place-date-refused-requires : tie.Need-place_date_refused-requires
 place-date-refused-requires c κs =
-    let v = c.before.before.before.before.before.before in
-    let st = start v in
-    let room = lent_length st.args.dst.now st.args.at (omega (arith, room-low st.args.reporting, st.pre)) in
-    let w = text_refused (rows v) st.args.jd (same v) v.to-iso8601-expanded-by-arrays.ensures _ c.before.before.number.given.1
-    (omega (arith, room, room-low st.args.reporting, st.pre)) in
-    let k = date-number (rows v) st.args.jd _ w.0 in
+    let room = lent_length c.args.dst.now c.args.at (omega (arith, room-low c.args.reporting, c.requires)) in
+    let w = text_refused (rows c.before.before.before.before) c.args.jd
+    (same c.before.before.before.before) c.to_iso8601_expanded_by_arrays.ensures _ c.in-Refused.is
+    (omega (arith, room, room-low c.args.reporting, c.requires)) in
+    let k = date-number (rows c.before.before.before.before) c.args.jd _ w.0 in
     (k.0, k.1, search rules)
 
-returns : tie.Need-returns
+returns : tie.Need-returns-in-Written
 returns c =
-    let v = c.before.before.before.before.before in
-    let st = start v in
-    let w = text-written (rows v) st.args.jd (same v) v.to-iso8601-expanded-by-arrays.ensures st.args.reporting _ _ c.before.n.given.1 in (
+    let w = text-written (rows c.before.before.before) c.args.jd
+    (same c.before.before.before) c.to_iso8601_expanded_by_arrays.ensures c.args.reporting _ _ c.in-Written.is in (
       record {
-        ends = ap (λ (k : ℕ). st.args.at + k) w.0;
-        holds = part-put st.args.dst.now st.args.at (omega (arith, room-low st.args.reporting, st.pre)) _ _ w.1;
+        ends = ap (λ (k : ℕ). c.args.at + k) w.0;
+        holds = part-put c.args.dst.now c.args.at (omega (arith, room-low c.args.reporting, c.requires)) _ _ w.1;
       },
-      omega (arith, w.0, shown-most st.args.reporting st.args.jd _ (brief (rows v) st.args.jd)),
+      omega (arith, w.0, shown-most c.args.reporting c.args.jd _ (brief (rows c.before.before.before) c.args.jd)),
     )
 
-returns-2 : tie.Need-returns-2
+returns-2 : tie.Need-returns-in-Refused
 unfolding shown
 returns-2 c =
-    let n = c.before.before.before.before.before in
-    let v = n.before.before.before.before in
-    let st = start v in
-    let room = lent_length st.args.dst.now st.args.at (omega (arith, room-low st.args.reporting, st.pre)) in
-    let w = text_refused (rows v) st.args.jd (same v) v.to-iso8601-expanded-by-arrays.ensures _ n.number.given.1
-    (omega (arith, room, room-low st.args.reporting, st.pre)) in
-    let p = c.before.before.place-date-refused.ensures in (
-      placed-as (sym (ap (shown st.args.reporting st.args.jd) w.0))
-          (placed-into (part-kept st.args.dst.now st.args.at (omega (arith, room-low st.args.reporting, st.pre)) _ w.1) p.0),
+    let room = lent_length c.args.dst.now c.args.at (omega (arith, room-low c.args.reporting, c.requires)) in
+    let w = text_refused (rows c.before.before.before.before.before.before.before) c.args.jd
+    (same c.before.before.before.before.before.before.before) c.to_iso8601_expanded_by_arrays.ensures _ c.in-Refused.is
+    (omega (arith, room, room-low c.args.reporting, c.requires)) in
+    let p = c.place_date_refused.ensures in (
+      placed-as (sym (ap (shown c.args.reporting c.args.jd) w.0))
+          (placed-into (part-kept c.args.dst.now c.args.at (omega (arith, room-low c.args.reporting, c.requires)) _ w.1) p.0),
       omega (arith, p.1),
     )
 
-within : tie.Need-slice-bounds-to-iso8601-expanded-by-arrays-start
-within c = let st = c.before.before.before.before.before in omega (arith, room-low st.args.reporting, st.requires)
+within : tie.Need-slice_bounds-to_iso8601_expanded_by_arrays-start
+within c = omega (arith, room-low c.args.reporting, c.requires)
 
-pub place-shown-spec : {M : Type 1} → statement M
-place-shown-spec =
+pub place_shown_spec : {M : Type 1} → statement M
+place_shown_spec =
     tie.close
     (tie.spec (λ c κs. search rules) (λ c. within c) within (λ c. search rules) (λ c κs. search rules) (λ c. search rules) add-result
     (λ c. search rules) place-date-refused-requires (λ c. search rules) returns (λ c. search rules) returns-2)

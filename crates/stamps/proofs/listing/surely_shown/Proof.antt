@@ -4,13 +4,13 @@ use Rattle.stamps.proofs.LateDates.{from_zero, below-zero}
 use Rattle.stamps.proofs.listing.surely_shown.Statement.{statement}
 use Rattle.stamps.proofs.listing.surely_shown.Tie as tie
 
-returns : tie.Need-returns
+returns : tie.Need-returns-then-sum
 unfolding of_bits
-returns c = from_zero c.before.args.sum c.if1.true
+returns c = from_zero c.args.sum c.if-sum.true
 
-returns-2 : tie.Need-returns-2
+returns-2 : tie.Need-returns-else-sum
 unfolding of_bits
-returns-2 c = below-zero c.before.args.sum c.if1.false
+returns-2 c = below-zero c.args.sum c.if-sum.false
 
-pub surely-shown-spec : {M : Type 1} → statement M
-surely-shown-spec = tie.close (tie.spec returns returns-2)
+pub surely_shown_spec : {M : Type 1} → statement M
+surely_shown_spec = tie.close (tie.spec returns returns-2)

@@ -5,6 +5,6 @@ use Rattle.numerals.proofs.digits.Places.{digit_put}
 use Rattle.stamps.proofs.place.digit.Statement.{statement}
 use Rattle.stamps.proofs.place.digit.Tie as tie
 
-pub digit-spec : {M : Type 1} → statement M
-digit-spec = tie.close (tie.spec (λ c. search rules) (λ c. search rules) (λ c. search rules) (λ c. search rules) (λ c. search rules)
+pub digit_spec : {M : Type 1} → statement M
+digit_spec = tie.close (tie.spec (λ c. search rules) (λ c. search rules) (λ c. search rules) (λ c. search rules) (λ c. search rules)
     (λ c. digit_put c.args.dst.now c.args.at _ _ c.requires refl))

@@ -4,16 +4,14 @@ use Rattle.stamps.proofs.Places.{one-digit, more-digits}
 use Rattle.stamps.proofs.place.number.Statement.{statement}
 use Rattle.stamps.proofs.place.number.Tie as tie
 
-returns : tie.Need-returns
-returns c = one-digit _ 3 c.before.before.before.before.if1.true c.before.before.digit.ensures
+returns : tie.Need-returns-then-n-lt10
+returns c = one-digit _ 3 c.if-n-lt10.true c.digit.ensures
 
-returns-2 : tie.Need-returns-2
+returns-2 : tie.Need-returns
 returns-2 c =
-    let q = c.before.before in
-    let p = q.before.before.before.before in
-    more-digits _ 3 p.before.before.if1.false p.before.before.before.before.requires p.three-digits.ensures.0 q.digit2.ensures
+    more-digits _ 3 c.if-n-lt10.false c.requires c.three_digits-next.ensures.0 c.digit-2.ensures
 
-pub number-spec : {M : Type 1} → statement M
-number-spec =
+pub number_spec : {M : Type 1} → statement M
+number_spec =
     tie.close
     (tie.spec (λ c κs. search rules) (λ c. search rules) returns (λ c κs. search rules) (λ c κs. search rules) (λ c. search rules) returns-2)

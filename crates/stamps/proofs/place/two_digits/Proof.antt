@@ -5,17 +5,15 @@ use Rattle.stamps.proofs.Places.{one-digit, more-digits, first-digit}
 use Rattle.stamps.proofs.place.two_digits.Statement.{statement}
 use Rattle.stamps.proofs.place.two_digits.Tie as tie
 
-returns : tie.Need-returns
-returns c = one-digit _ 1 c.before.before.before.before.if1.true c.before.before.digit.ensures
+returns : tie.Need-returns-then-n-lt10
+returns c = one-digit _ 1 c.if-n-lt10.true c.digit.ensures
 
-returns-2 : tie.Need-returns-2
+returns-2 : tie.Need-returns
 returns-2 c =
-    let q = c.before.before in
-    let p = q.before.before.before.before in
-    more-digits _ 1 p.before.before.if1.false p.before.before.before.before.requires (placed-as (first-digit _) p.digit2.ensures)
-    q.digit3.ensures
+    more-digits _ 1 c.if-n-lt10.false c.requires (placed-as (first-digit _) c.digit-next.ensures)
+    c.digit-2.ensures
 
-pub two-digits-spec : {M : Type 1} → statement M
-two-digits-spec =
+pub two_digits_spec : {M : Type 1} → statement M
+two_digits_spec =
     tie.close
     (tie.spec (λ c κs. search rules) (λ c. search rules) returns (λ c κs. search rules) (λ c κs. search rules) (λ c. search rules) returns-2)

@@ -6,39 +6,34 @@ use borrow.Author.Rules.{rules}
 use Rattle.stamps.proofs.reported.place_block_reported.Statement.{statement}
 use Rattle.stamps.proofs.reported.place_block_reported.Tie as tie
 
-place-number-requires : tie.Need-place-number-requires
+place-number-requires : tie.Need-place_number-requires
 place-number-requires c κs =
-    let st = c.before.before.before.before.before in
-    omega (arith, numbers-room st.args.reporting c.before.enum_told.given.1, st.requires.2)
+    omega (arith, numbers-room c.args.reporting c.in-Numbers.is, c.requires.2)
 
-place-sentence-requires : tie.Need-place-sentence-requires
-place-sentence-requires c κs =
-    let st = c.before.before.before.before.before.before.before.before in (
-      st.requires.0,
-      st.requires.1,
-      block-width _ _ _ (search rules) (search rules) (search rules),
-      omega (arith, sentences_room st.args.reporting _ c.before.before.before.before.reporting.given.1, st.requires.2),
-    )
+place-sentence-requires : tie.Need-place_sentence-requires
+place-sentence-requires c κs = (
+  c.requires.0,
+  c.requires.1,
+  block-width _ _ _ (search rules) (search rules) (search rules),
+  omega (arith, sentences_room c.args.reporting _ c.in-Sentences.is, c.requires.2),
+)
 
-returns : tie.Need-returns
+returns : tie.Need-returns-in-Numbers
 returns c =
-    let st = c.before.before.before.before.before.before.before.before in
-    let e = c.before.before.before.before.enum_told.given.1 in
-    let p = c.before.before.place-number.ensures in
-    (placed-as (numbers-reported st.args.reporting e st.args.number _) p.0, omega (arith, p.1, numbers-room st.args.reporting e))
+    let e = c.in-Numbers.is in
+    let p = c.place_number.ensures in
+    (placed-as (numbers-reported c.args.reporting e c.args.number _) p.0, omega (arith, p.1, numbers-room c.args.reporting e))
 
-returns-2 : tie.Need-returns-2
+returns-2 : tie.Need-returns-in-Sentences
 returns-2 c =
-    let back = c.before.before.before.before.before.before.before.before in
-    let st = back.before.before.before in
-    let e = c.before.before.before.before.before.before.before.reporting.given.1 in
-    let p = c.before.before.place-sentence.ensures in
-    let v = block-values st.args.reporting _ e st.args.block.now _ _ c.before.before.before.before.before.u32-at.ensures
-    c.before.before.before.before.u32-at2.ensures in
-    (placed-as (sentences_reported st.args.reporting _ e st.args.number _ _ v) p.0, omega (arith, p.1, sentences_room st.args.reporting _ e))
+    let e = c.in-Sentences.is in
+    let p = c.place_sentence.ensures in
+    let v = block-values c.args.reporting _ e c.args.block.now _ _ c.u32_at-size.ensures
+    c.u32_at-second.ensures in
+    (placed-as (sentences_reported c.args.reporting _ e c.args.number _ _ v) p.0, omega (arith, p.1, sentences_room c.args.reporting _ e))
 
-pub place-block-reported-spec : {M : Type 1} → statement M
-place-block-reported-spec =
+pub place_block_reported_spec : {M : Type 1} → statement M
+place_block_reported_spec =
     tie.close
     (tie.spec (λ c. search rules) place-number-requires (λ c. search rules) (λ c κs. search rules) (λ c κs. search rules) place-sentence-requires
     (λ c. search rules) returns (λ c. search rules) returns-2)

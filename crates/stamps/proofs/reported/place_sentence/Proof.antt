@@ -10,35 +10,32 @@ use borrow.Author.Rules.{rules}
 use Rattle.stamps.proofs.reported.place_sentence.Statement.{statement}
 use Rattle.stamps.proofs.reported.place_sentence.Tie as tie
 
-add-result : tie.Need-overflow-add-result
+add-result : tie.Need-overflow_add-result
 add-result c =
-    let st = c.before.before.before.before.before.before.before.before in
-    let w = given-written (as_given st.args.number st.args.values st.requires.0 st.requires.1
-    c.before.before.before.before.before.put-reason.ensures) _ c.before.n.given.1 in
-    omega (arith, w.0, reason_short st.args.number st.args.values st.requires.2, st.requires.3, st.well_formed)
+    let w = given-written (as_given c.args.number c.args.values c.requires.0 c.requires.1
+    c.put_reason.ensures) _ c.in-Written.is in
+    omega (arith, w.0, reason_short c.args.number c.args.values c.requires.2, c.requires.3, c.well_formed)
 
-returns : tie.Need-returns
+returns : tie.Need-returns-in-Written
 returns c =
-    let st = c.before.before.before.before.before.before.before.before in
-    let w = given-written (as_given st.args.number st.args.values st.requires.0 st.requires.1
-    c.before.before.before.before.before.put-reason.ensures) _ c.before.n.given.1 in (
+    let w = given-written (as_given c.args.number c.args.values c.requires.0 c.requires.1
+    c.put_reason.ensures) _ c.in-Written.is in (
       record {
-        ends = ap (λ (k : ℕ). st.args.at + k) w.0;
-        holds = part-put st.args.dst.now st.args.at (omega (arith, st.requires.3)) _ _ w.1;
+        ends = ap (λ (k : ℕ). c.args.at + k) w.0;
+        holds = part-put c.args.dst.now c.args.at (omega (arith, c.requires.3)) _ _ w.1;
       },
-      omega (arith, w.0, reason_short st.args.number st.args.values st.requires.2),
+      omega (arith, w.0, reason_short c.args.number c.args.values c.requires.2),
     )
 
-returns-2 : tie.Need-returns-2
+returns-2 : tie.Need-returns-in-Refused
 returns-2 c =
-    let st = c.before.before.before.before.before.before.before in
-    let room = lent_length st.args.dst.now st.args.at (omega (arith, st.requires.3)) in
-    let short = reason_short st.args.number st.args.values st.requires.2 in
-    absurd (given-fits (as_given st.args.number st.args.values st.requires.0 st.requires.1 c.before.before.before.before.put-reason.ensures) _
-    c.enum_told.given.1 (omega (arith, room, short, st.requires.3)))
+    let room = lent_length c.args.dst.now c.args.at (omega (arith, c.requires.3)) in
+    let short = reason_short c.args.number c.args.values c.requires.2 in
+    absurd (given-fits (as_given c.args.number c.args.values c.requires.0 c.requires.1 c.put_reason.ensures) _
+    c.in-Refused.is (omega (arith, room, short, c.requires.3)))
 
-pub place-sentence-spec : {M : Type 1} → statement M
-place-sentence-spec =
+pub place_sentence_spec : {M : Type 1} → statement M
+place_sentence_spec =
     tie.close
     (tie.spec (λ c. search rules) (λ c. search rules) (λ c. search rules) (λ c κs. search rules) (λ c. search rules) add-result (λ c. search rules)
     (λ c. search rules) returns (λ c. search rules) returns-2)

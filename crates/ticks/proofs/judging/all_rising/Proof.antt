@@ -9,59 +9,60 @@ use Rattle.ticks.proofs.judging.Checks.{none_yet, step, rising-more, rising-stop
 use Rattle.ticks.proofs.judging.all_rising.Statement.{statement}
 use Rattle.ticks.proofs.judging.all_rising.Tie as tie
 
-abbrev invariant-loop : tie.invariant-loop
+abbrev invariant-loop : tie.invariant-loop-i
 invariant-loop s n last before₀ i₀ before i = (i ≤ n - 1) × (holds_below i (step (number_at s)) ≡ true) × (before ≡ number_at s i)
 
-abbrev decreases-loop : tie.decreases-loop
+abbrev decreases-loop : tie.decreases-loop-i
 decreases-loop s n last before₀ i₀ before i = n - 1 - i
 
-sub-last : tie.Need-overflow-sub-last invariant-loop decreases-loop
+sub-last : tie.Need-overflow_sub-last invariant-loop decreases-loop
 sub-last c = c.before.requires.0
 
-number-at-requires : tie.Need-number-at-requires invariant-loop decreases-loop
+number-at-requires : tie.Need-number_at-before-requires invariant-loop decreases-loop
 number-at-requires c κs = omega (arith, c.before.requires.0, c.before.requires.2)
 
-loop-holds : tie.Need-loop-init invariant-loop decreases-loop
-loop-holds c = (omega arith, none_yet _, c.number-at.ensures)
+loop-holds : tie.Need-loop-i-init invariant-loop decreases-loop
+loop-holds c = (omega arith, none_yet _, c.number_at-before.ensures)
 
-add-number-at : tie.Need-overflow-add-number-at invariant-loop decreases-loop
-add-number-at c = record { fits = omega (arith, c.loop-test.true, c.before.before.before.before.requires.1) }
+add-number-at : tie.Need-overflow_add-i invariant-loop decreases-loop
+add-number-at c = record { fits = omega (arith, c.loop-i-test.true, c.before.before.before.before.requires.1) }
 
-number-at-requires-2 : tie.Need-number-at-requires-2 invariant-loop decreases-loop
-number-at-requires-2 c κs = omega (arith, c.loop-test.true, c.before.before.before.before.requires.2)
+number-at-requires-2 : tie.Need-number_at-next-requires invariant-loop decreases-loop
+number-at-requires-2 c κs = omega (arith, c.loop-i-test.true, c.before.before.before.before.requires.2)
 
-returns : tie.Need-returns invariant-loop decreases-loop
+returns : tie.Need-returns-then-next-before invariant-loop decreases-loop
 returns c =
     let q = c.before in
     let l = q.before.before in
     let a = l.before.before.before.args in
-    rising-stops (number_at a.s.now) a.n l.loop.i l.loop.before l.loop.invariant.2 q.number-at2.result q.number-at2.ensures
-    q.before.loop-test.true (omega (arith, c.if1.true))
+    rising-stops (number_at a.s.now) a.n l.loop-i.i l.loop-i.before l.loop-i.invariant.2 q.number_at-next.result q.number_at-next.ensures
+    q.before.loop-i-test.true (omega (arith, c.if-next-before.true))
 
-add-i : tie.Need-overflow-add-i invariant-loop decreases-loop
-add-i c = record { fits = omega (arith, c.before.before.loop-test.true, c.before.before.before.before.before.before.requires.1) }
+add-i : tie.Need-overflow_add-i-in-loop-i invariant-loop decreases-loop
+add-i c = record { fits = omega (arith, c.before.before.loop-i-test.true, c.before.before.before.before.before.before.requires.1) }
 
-loop-less : tie.Need-loop-smaller invariant-loop decreases-loop
-loop-less c = omega (arith, c.before.before.loop-test.true)
+loop-less : tie.Need-loop-i-smaller invariant-loop decreases-loop
+loop-less c = omega (arith, c.before.before.loop-i-test.true)
 
-loop-again : tie.Need-loop-preserved invariant-loop decreases-loop
+loop-again : tie.Need-loop-i-preserved invariant-loop decreases-loop
 loop-again c =
     let q = c.before in
     let l = q.before.before in
     let a = l.before.before.before.args in (
-      omega (arith, q.before.loop-test.true),
-      rising-more (number_at a.s.now) a.n l.loop.i l.loop.before l.loop.invariant.2 q.number-at2.result q.number-at2.ensures
-          l.loop.invariant.1 (omega (arith, c.if1.false)),
-      q.number-at2.ensures,
+      omega (arith, q.before.loop-i-test.true),
+      rising-more (number_at a.s.now) a.n l.loop-i.i l.loop-i.before l.loop-i.invariant.2 q.number_at-next.result q.number_at-next.ensures
+          l.loop-i.invariant.1 (omega (arith, c.if-next-before.false)),
+      q.number_at-next.ensures,
     )
 
-returns-2 : tie.Need-returns-2 invariant-loop decreases-loop
+returns-2 : tie.Need-returns invariant-loop decreases-loop
 returns-2 c =
     let l = c.before in
     let a = l.before.before.before.args in
-    rising-ends (number_at a.s.now) a.n l.loop.i l.loop.invariant.0 c.loop-test.false l.loop.invariant.1
+    rising-ends (number_at a.s.now) a.n l.loop-i.i l.loop-i.invariant.0 c.loop-i-test.false l.loop-i.invariant.1
 
-pub all-rising-spec : {M : Type 1} → statement M
-all-rising-spec =
+pub all_rising_spec : {M : Type 1} → statement M
+all_rising_spec =
     tie.close
-    (tie.spec invariant-loop decreases-loop sub-last number-at-requires loop-holds add-number-at number-at-requires-2 returns add-i loop-less loop-again returns-2)
+    (tie.spec invariant-loop decreases-loop sub-last number-at-requires loop-holds add-number-at number-at-requires-2 returns add-i loop-less loop-again
+    returns-2)

@@ -4,11 +4,11 @@ use borrow.Author.Rules.{rules}
 use Rattle.ticks.proofs.judging.both_rising.Statement.{statement}
 use Rattle.ticks.proofs.judging.both_rising.Tie as tie
 
-returns : tie.Need-returns
-returns c = rw (← c.before.before.all-rising.ensures, c.before.if1.true) c.all-rising2.ensures
+returns : tie.Need-returns-then-all_rising
+returns c = rw (← c.before.before.all_rising.ensures, c.before.if-all_rising.true) c.all_rising-then-all_rising.ensures
 
-returns-2 : tie.Need-returns-2
-returns-2 c = c.if1.false ∙ rw (← c.before.all-rising.ensures, c.if1.false)
+returns-2 : tie.Need-returns-else-all_rising
+returns-2 c = c.if-all_rising.false ∙ rw (← c.before.all_rising.ensures, c.if-all_rising.false)
 
-pub both-rising-spec : {M : Type 1} → statement M
-both-rising-spec = tie.close (tie.spec (λ c κs. search rules) (λ c κs. search rules) returns returns-2)
+pub both_rising_spec : {M : Type 1} → statement M
+both_rising_spec = tie.close (tie.spec (λ c κs. search rules) (λ c κs. search rules) returns returns-2)

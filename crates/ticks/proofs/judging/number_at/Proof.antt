@@ -15,9 +15,9 @@ returns c =
     let l = s.args.s.now in
     let i = s.args.i in
     let e : 8 * i + 8 - 8 * i ≡ 8 = omega arith in
-    c.u64-at.ensures ∙ ap (λ (n : ℕ). u64_at (take n (drop (8 * i) l)) 0) e ∙ eight_in_part l (8 * i) s.requires
+    c.u64_at.ensures ∙ ap (λ (n : ℕ). u64_at (take n (drop (8 * i) l)) 0) e ∙ eight_in_part l (8 * i) s.requires
 
-pub number-at-spec : {M : Type 1} → statement M
-number-at-spec =
+pub number_at_spec : {M : Type 1} → statement M
+number_at_spec =
     tie.close
     (tie.spec (λ c. search rules) (λ c. search rules) (λ c. search rules) (λ c. search rules) (λ c. search rules) (λ c κs. search rules) returns)

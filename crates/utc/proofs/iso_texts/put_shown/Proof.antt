@@ -6,24 +6,18 @@ use borrow.Author.Rules.{rules}
 use Rattle.utc.proofs.iso_texts.put_shown.Statement.{statement}
 use Rattle.utc.proofs.iso_texts.put_shown.Tie as tie
 
-returns : tie.Need-returns
+returns : tie.Need-returns-in-At
 unfolding shown_text_by
 returns c =
-    let p = c.before.before in
-    let k = p.before.before.before in
-    let s = k.before.before.before in
-    call-put _ _ _ _ _ (ap (shown_text s.args.date) k.shown.given.1) p.put-text.ensures
+    call-put _ _ _ _ _ (ap (shown_text c.args.date) c.in-At.is) c.put_text.ensures
 
-returns-2 : tie.Need-returns-2
+returns-2 : tie.Need-returns-in-NextMidnight
 unfolding shown_text_by
 returns-2 c =
-    let p = c.before.before in
-    let k = p.before.before in
-    let s = k.before.before.before in
-    call-as _ _ _ _ _ (ap (shown_text s.args.date) k.enum_told.given.1) p.put-next-midnight.ensures
+    call-as _ _ _ _ _ (ap (shown_text c.args.date) c.in-NextMidnight.is) c.put_next_midnight.ensures
 
-pub put-shown-spec : {M : Type 1} → statement M
-put-shown-spec =
+pub put_shown_spec : {M : Type 1} → statement M
+put_shown_spec =
     tie.close
     (tie.spec (λ c. search rules) (λ c κs. search rules) (λ c. search rules) (λ c κs. search rules) (λ c. search rules) returns (λ c. search rules)
     returns-2)

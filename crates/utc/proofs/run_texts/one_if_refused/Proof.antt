@@ -4,11 +4,11 @@ use borrow.Author.Tests.{eq-eqb, ne_eqb}
 use Rattle.utc.proofs.run_texts.one_if_refused.Statement.{statement}
 use Rattle.utc.proofs.run_texts.one_if_refused.Tie as tie
 
-returns : tie.Need-returns
-returns c = (rw (eq-eqb c.before.args.number 0 c.if1.true), omega arith)
+returns : tie.Need-returns-then-number-eq0
+returns c = (rw (eq-eqb c.args.number 0 c.if-number-eq0.true), omega arith)
 
-returns-2 : tie.Need-returns-2
-returns-2 c = (rw (ne_eqb c.before.args.number 0 c.if1.false), omega arith)
+returns-2 : tie.Need-returns-else-number-eq0
+returns-2 c = (rw (ne_eqb c.args.number 0 c.if-number-eq0.false), omega arith)
 
-pub one-if-refused-spec : {M : Type 1} → statement M
-one-if-refused-spec = tie.close (tie.spec returns returns-2)
+pub one_if_refused_spec : {M : Type 1} → statement M
+one_if_refused_spec = tie.close (tie.spec returns returns-2)

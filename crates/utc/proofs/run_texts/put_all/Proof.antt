@@ -14,12 +14,12 @@ use Rattle.utc.proofs.run_texts.Puts.{Putting, putting_starts, len1, len2, len3,
 use Rattle.utc.proofs.run_texts.put_all.Statement.{statement}
 use Rattle.utc.proofs.run_texts.put_all.Tie as tie
 
-abbrev invariant-loop : tie.invariant-loop
+abbrev invariant-loop : tie.invariant-loop-i
 invariant-loop textForm jd1s jd2s n size months seconds texts₀ lengths₀ numbers₀ refused₀ kept₀ i₀ texts lengths numbers refused kept i =
     Putting (stamp_text (form_named textForm) (rows_in size months seconds) jd1s jd2s) n texts₀ lengths₀ numbers₀ texts lengths numbers refused i
     × RightKept (rows_in size months seconds) kept
 
-abbrev decreases-loop : tie.decreases-loop
+abbrev decreases-loop : tie.decreases-loop-i
 decreases-loop textForm jd1s jd2s n size months seconds texts₀ lengths₀ numbers₀ refused₀ kept₀ i₀ texts lengths numbers refused kept i = n - i
 
 -- the text of each stamp
@@ -30,92 +30,99 @@ answers s = let a = s.args in stamp_text (form_named a.textForm) (rows_in a.size
 abbrev rows : tie.Start invariant-loop decreases-loop → List Row
 rows s = rows_in s.args.size s.args.months.now s.args.seconds.now
 
-loop-holds : tie.Need-loop-init invariant-loop decreases-loop
+loop-holds : tie.Need-loop-i-init invariant-loop decreases-loop
 unfolding RightKept
 loop-holds c =
-    let s = c.before.before.before.before.before.before in
-    let a = s.args in
-    (putting_starts (answers s) a.n a.texts.now a.lengths.now a.numbers.now, (λ l. absurd (no_end _ c.no_day.ensures l)))
-
-put-stamp-requires : tie.Need-put-stamp-requires invariant-loop decreases-loop
-put-stamp-requires c κs =
-    let test = c.before in
-    let l = c.before.before in
-    let s = c.before.before.before.before.before.before.before.before.before in
-    (omega (arith, test.loop-test.true, s.requires.places, len1 (answers s) _ _ _ _ _ _ _ _ _ l.loop.invariant.0), l.loop.invariant.1)
-
-slice-write-lengths : tie.Need-slice-write-lengths invariant-loop decreases-loop
-slice-write-lengths c =
-    let test = c.before.before.before.before.before.before in
-    let l = test.before in
-    let s = l.before.before.before.before.before.before.before in
-    omega (arith, test.loop-test.true, s.requires.bytes, len2 (answers s) _ _ _ _ _ _ _ _ _ l.loop.invariant.0)
-
-slice-write-numbers : tie.Need-slice-write-numbers invariant-loop decreases-loop
-slice-write-numbers c =
-    let test = c.before.before.before.before.before.before in
-    let l = test.before in
-    let s = l.before.before.before.before.before.before.before in
-    omega (arith, test.loop-test.true, s.requires.bytes2, len3 (answers s) _ _ _ _ _ _ _ _ _ l.loop.invariant.0)
-
-one-if-refused-requires : tie.Need-one-if-refused-requires invariant-loop decreases-loop
-one-if-refused-requires c κs = search rules
-
-add-refused : tie.Need-overflow-add-refused invariant-loop decreases-loop
-add-refused c =
-    let test = c.before.before.before.before.before.before.before in
-    let l = test.before in
-    let s = l.before.before.before.before.before.before.before in
-    record {
-      fits = omega (arith, test.loop-test.true, few (answers s) _ _ _ _ _ _ _ _ _ l.loop.invariant.0, s.requires.stamps, c.one-if-refused.ensures.1);
-    }
-
-add-i : tie.Need-overflow-add-i invariant-loop decreases-loop
-add-i c =
-    let test = c.before.before.before.before.before.before.before in
-    let s = test.before.before.before.before.before.before.before.before in
-    record { fits = omega (arith, test.loop-test.true, s.requires.stamps) }
-
-loop-less : tie.Need-loop-smaller invariant-loop decreases-loop
-loop-less c = omega (arith, c.before.before.before.before.before.before.before.loop-test.true)
-
-loop-again : tie.Need-loop-preserved invariant-loop decreases-loop
-loop-again c =
-    let at-put-stamp = c.before.before.before.before.before in
-    let test = at-put-stamp.before.before in
-    let l = test.before in
-    let s = l.before.before.before.before.before.before.before in (
-      putting_goes (answers s) _ _ _ _ _ _ _ _ _ l.loop.invariant.0 _ _ _ test.loop-test.true at-put-stamp.put-stamp.ensures.0
-          c.one-if-refused.ensures.0,
-      at-put-stamp.put-stamp.ensures.1,
+    let a = c.args in (
+      putting_starts (answers c.before.before.before.before.before.before) a.n a.texts.now a.lengths.now a.numbers.now,
+      (λ l. absurd (no_end _ c.no_day-kept.ensures l)),
     )
 
-same_length : tie.Need-same-length invariant-loop decreases-loop
+put-stamp-requires : tie.Need-put_stamp-done-requires invariant-loop decreases-loop
+put-stamp-requires c κs = (
+  omega (
+    arith,
+    c.loop-i-test.true,
+    c.requires.places,
+    len1
+        (answers c.before.before.before.before.before.before.before.before.before) _ _ _ _ _ _ _ _ _ c.loop-i.invariant.0,
+  ),
+  c.loop-i.invariant.1,
+)
+
+slice-write-lengths : tie.Need-bounds-lengths-i invariant-loop decreases-loop
+slice-write-lengths c =
+    let back = c.before.before.before.before.before.before in
+    omega (
+      arith,
+      c.loop-i-test.true,
+      c.requires.bytes,
+      len2 (answers
+          back.before.before.before.before.before.before.before.before) _ _ _ _ _ _ _ _ _ c.loop-i.invariant.0,
+    )
+
+slice-write-numbers : tie.Need-bounds-numbers-i invariant-loop decreases-loop
+slice-write-numbers c =
+    let back = c.before.before.before.before.before.before in
+    omega (
+      arith,
+      c.loop-i-test.true,
+      c.requires.bytes2,
+      len3
+          (answers back.before.before.before.before.before.before.before.before) _ _ _ _ _ _ _ _ _ c.loop-i.invariant.0,
+    )
+
+one-if-refused-requires : tie.Need-one_if_refused-refused-requires invariant-loop decreases-loop
+one-if-refused-requires c κs = search rules
+
+add-refused : tie.Need-overflow_add-refused invariant-loop decreases-loop
+add-refused c =
+    let back = c.before.before.before.before.before.before in
+    record {
+      fits = omega (
+        arith,
+        c.loop-i-test.true,
+        few (answers back.before.before.before.before.before.before.before.before.before) _ _ _ _ _ _ _ _ _ c.loop-i.invariant.0,
+        c.requires.stamps,
+        c.one_if_refused-refused.ensures.1,
+      );
+    }
+
+add-i : tie.Need-overflow_add-i invariant-loop decreases-loop
+add-i c =
+    record { fits = omega (arith, c.loop-i-test.true, c.requires.stamps) }
+
+loop-less : tie.Need-loop-i-smaller invariant-loop decreases-loop
+loop-less c = omega (arith, c.loop-i-test.true)
+
+loop-again : tie.Need-loop-i-preserved invariant-loop decreases-loop
+loop-again c =
+    let back = c.before.before.before.before.before.before in (
+      putting_goes (answers back.before.before.before.before.before.before.before.before.before) _ _ _ _ _ _ _ _ _
+          c.loop-i.invariant.0 _ _ _ c.loop-i-test.true c.put_stamp-done.ensures.0
+          c.one_if_refused-refused.ensures.0,
+      c.put_stamp-done.ensures.1,
+    )
+
+same_length : tie.Need-shape_of-texts invariant-loop decreases-loop
 same_length c =
-    let l = c.before in
-    let s = l.before.before.before.before.before.before.before in
-    len1 (answers s) _ _ _ _ _ _ _ _ _ l.loop.invariant.0
+    len1 (answers c.before.before.before.before.before.before.before.before) _ _ _ _ _ _ _ _ _ c.loop-i.invariant.0
 
-same-length-2 : tie.Need-same-length-2 invariant-loop decreases-loop
+same-length-2 : tie.Need-shape_of-lengths invariant-loop decreases-loop
 same-length-2 c =
-    let l = c.before in
-    let s = l.before.before.before.before.before.before.before in
-    len2 (answers s) _ _ _ _ _ _ _ _ _ l.loop.invariant.0
+    len2 (answers c.before.before.before.before.before.before.before.before) _ _ _ _ _ _ _ _ _ c.loop-i.invariant.0
 
-same-length-3 : tie.Need-same-length-3 invariant-loop decreases-loop
+same-length-3 : tie.Need-shape_of-numbers invariant-loop decreases-loop
 same-length-3 c =
-    let l = c.before in
-    let s = l.before.before.before.before.before.before.before in
-    len3 (answers s) _ _ _ _ _ _ _ _ _ l.loop.invariant.0
+    len3 (answers c.before.before.before.before.before.before.before.before) _ _ _ _ _ _ _ _ _ c.loop-i.invariant.0
 
 returns : tie.Need-returns invariant-loop decreases-loop
 returns c =
-    let l = c.before in
-    let s = l.before.before.before.before.before.before.before in
-    putting_ends (answers s) _ _ _ _ _ _ _ _ _ l.loop.invariant.0 (omega (arith, c.loop-test.false))
+    putting_ends (answers c.before.before.before.before.before.before.before.before) _ _ _ _ _ _ _ _ _ c.loop-i.invariant.0 (omega (arith, c.loop-i-test.false))
 
-pub put-all-spec : {M : Type 1} → statement M
-put-all-spec =
+pub put_all_spec : {M : Type 1} → statement M
+put_all_spec =
     tie.close
-    (tie.spec invariant-loop decreases-loop (λ c κs. search rules) loop-holds put-stamp-requires slice-write-lengths slice-write-numbers one-if-refused-requires add-refused
+    (tie.spec invariant-loop decreases-loop (λ c κs. search rules) loop-holds put-stamp-requires slice-write-lengths slice-write-numbers one-if-refused-requires
+    add-refused
     add-i loop-less loop-again same_length same-length-2 same-length-3 returns)

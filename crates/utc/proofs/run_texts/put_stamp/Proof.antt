@@ -12,49 +12,39 @@ use borrow.Author.Rules.{rules}
 use Rattle.utc.proofs.run_texts.put_stamp.Statement.{statement}
 use Rattle.utc.proofs.run_texts.put_stamp.Tie as tie
 
-returns : tie.Need-returns
+returns : tie.Need-returns-then-put_kept
 unfolding PutsByDay
 returns c =
-    let k = c.before.before.before in
-    let n = k.before.before in
-    let d = n.before in
-    let s = d.before.before.before.before in
-    let a = s.args in
+    let a = c.args in
     let size = 27 * a.i + 27 - 27 * a.i in
     let rows = rows_in a.size a.months.now a.seconds.now in (
-      stamp-placed a.textForm rows a.jd1s.now a.jd2s.now a.texts.now a.i size d.stamp-of.result _ _ (omega arith)
-          d.stamp-of.ensures s.requires.0
-          (short-beside _ _ _ (part_room a.texts.now (27 * a.i) size (omega arith) s.requires.0)
-          (subst (λ (b : Bool). PutsByDay a.textForm d.stamp-of.result n.next-day.result (mid_of (27 * a.i) size a.texts.now) b
-          k.put-kept.new.1.1.1.0)
-          c.if1.true k.put-kept.ensures rows n.next-day.ensures)),
-      n.next-day.ensures,
+      stamp-placed a.textForm rows a.jd1s.now a.jd2s.now a.texts.now a.i size c.stamp_of-jd.result _ _ (omega arith)
+          c.stamp_of-jd.ensures c.requires.0
+          (short-beside _ _ _ (part_room a.texts.now (27 * a.i) size (omega arith) c.requires.0)
+          (subst (λ (b : Bool). PutsByDay a.textForm c.stamp_of-jd.result c.next_day-next.result (mid_of (27 * a.i) size a.texts.now) b
+          c.put_kept.new.out)
+          c.if-put_kept.true c.put_kept.ensures rows c.next_day-next.ensures)),
+      c.next_day-next.ensures,
     )
 
-returns-2 : tie.Need-returns-2
+returns-2 : tie.Need-returns
 unfolding PutsByDay
 returns-2 c =
-    let p = c.before.before in
-    let i = p.before.before in
-    let k = i.before.before.before in
-    let n = k.before.before in
-    let d = n.before in
-    let s = d.before.before.before.before in
-    let a = s.args in
+    let a = c.args in
     let size = 27 * a.i + 27 - 27 * a.i in
     let rows = rows_in a.size a.months.now a.seconds.now in (
-      stamp-placed-again a.textForm rows a.jd1s.now a.jd2s.now a.texts.now _ a.i size d.stamp-of.result _ _
-          (omega arith) d.stamp-of.ensures s.requires.0
+      stamp-placed-again a.textForm rows a.jd1s.now a.jd2s.now a.texts.now _ a.i size c.stamp_of-jd.result _ _
+          (omega arith) c.stamp_of-jd.ensures c.requires.0
           (part-unchanged a.texts.now (27 * a.i) size _ (omega arith)
-          (subst (λ (b : Bool). PutsByDay a.textForm d.stamp-of.result n.next-day.result (mid_of (27 * a.i) size a.texts.now) b
-          k.put-kept.new.1.1.1.0)
-          i.if1.false k.put-kept.ensures))
-          p.put-single.ensures,
-      n.next-day.ensures,
+          (subst (λ (b : Bool). PutsByDay a.textForm c.stamp_of-jd.result c.next_day-next.result (mid_of (27 * a.i) size a.texts.now) b
+          c.put_kept.new.out)
+          c.if-put_kept.false c.put_kept.ensures))
+          c.put_single-beside.ensures,
+      c.next_day-next.ensures,
     )
 
-pub put-stamp-spec : {M : Type 1} → statement M
-put-stamp-spec =
+pub put_stamp_spec : {M : Type 1} → statement M
+put_stamp_spec =
     tie.close
     (tie.spec (λ c. search rules) (λ c. search rules) (λ c κs. search rules) (λ c κs. search rules) (λ c. search rules) (λ c. search rules)
     (λ c. search rules) (λ c κs. search rules) (λ c. search rules) returns (λ c. search rules) (λ c. search rules) (λ c. search rules)

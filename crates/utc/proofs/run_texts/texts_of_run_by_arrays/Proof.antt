@@ -6,33 +6,28 @@ use borrow.Author.Rules.{rules}
 use Rattle.utc.proofs.run_texts.texts_of_run_by_arrays.Statement.{statement}
 use Rattle.utc.proofs.run_texts.texts_of_run_by_arrays.Tie as tie
 
-returns : tie.Need-returns
+returns : tie.Need-returns-then-number-ne0
 returns c =
-    let a = c.before.before.before.before.before.before.before.args in
-    let q = c.before.texts-refusal in
+    let a = c.args in
+    let q = c.texts_refusal-number in
     run-refused (form_named a.textForm) (rows_in a.size a.months.now a.seconds.now) a.jd1s.now a.jd2s.now a.texts.now
-    a.lengths.now a.numbers.now q.result q.ensures c.if1.true
+    a.lengths.now a.numbers.now q.result q.ensures c.if-number-ne0.true
 
-put-all-requires : tie.Need-put-all-requires
+put-all-requires : tie.Need-put_all-requires
 put-all-requires c κs =
-    let at-if1 = c.before.before.before in
-    let at-refusal = at-if1.before in
-    let a = at-refusal.before.before.before.before.before.before.args in
-    let q = at-refusal.texts-refusal in
+    let a = c.args in
+    let q = c.texts_refusal-number in
     roomy (form_named a.textForm) (rows_in a.size a.months.now a.seconds.now) a.jd1s.now a.jd2s.now a.texts.now
-    a.lengths.now a.numbers.now q.result q.ensures at-if1.if1.false
+    a.lengths.now a.numbers.now q.result q.ensures c.if-number-ne0.false
 
-returns-2 : tie.Need-returns-2
+returns-2 : tie.Need-returns
 returns-2 c =
-    let at-put-all = c.before.before.before.before.before.before in
-    let at-if1 = at-put-all.before.before.before.before in
-    let at-refusal = at-if1.before in
-    let a = at-refusal.before.before.before.before.before.before.args in
-    let q = at-refusal.texts-refusal in
+    let a = c.args in
+    let q = c.texts_refusal-number in
     run_ends (form_named a.textForm) (rows_in a.size a.months.now a.seconds.now) a.jd1s.now a.jd2s.now a.texts.now
-    a.lengths.now a.numbers.now q.result q.ensures at-if1.if1.false _ _ _ _ at-put-all.put_all.ensures
+    a.lengths.now a.numbers.now q.result q.ensures c.if-number-ne0.false _ _ _ _ c.put_all.ensures
 
-pub texts-of-run-by-arrays-spec : {M : Type 1} → statement M
-texts-of-run-by-arrays-spec =
+pub texts_of_run_by_arrays_spec : {M : Type 1} → statement M
+texts_of_run_by_arrays_spec =
     tie.close
     (tie.spec (λ c κs. search rules) returns put-all-requires (λ c. search rules) (λ c. search rules) (λ c. search rules) returns-2)

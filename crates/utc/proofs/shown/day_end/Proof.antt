@@ -5,17 +5,17 @@ use Rattle.time_of_day.specs.TimeShown.{day_end}
 use Rattle.utc.proofs.shown.day_end.Statement.{statement}
 use Rattle.utc.proofs.shown.day_end.Tie as tie
 
-returns : tie.Need-returns
+returns : tie.Need-returns-then-leap
 unfolding day_end of_bits
-returns c = (simp c.if1.true, lit≤ tt)
+returns c = (simp c.if-leap.true, lit≤ tt)
 
-returns-2 : tie.Need-returns-2
+returns-2 : tie.Need-returns-then-leap-2
 unfolding day_end of_bits
-returns-2 c = (simp (c.before.if1.false, c.if2.true), lit≤ tt)
+returns-2 c = (simp (c.if-leap.false, c.if-leap-2.true), lit≤ tt)
 
-returns-3 : tie.Need-returns-3
+returns-3 : tie.Need-returns
 unfolding day_end of_bits
-returns-3 c = (simp (c.before.if1.false, c.if2.false), lit≤ tt)
+returns-3 c = (simp (c.if-leap.false, c.if-leap-2.false), lit≤ tt)
 
-pub day-end-spec : {M : Type 1} → statement M
-day-end-spec = tie.close (tie.spec returns returns-2 returns-3)
+pub day_end_spec : {M : Type 1} → statement M
+day_end_spec = tie.close (tie.spec returns returns-2 returns-3)

@@ -10,9 +10,9 @@ use Rattle.utc.proofs.shown.millis_shown.Tie as tie
 returns : tie.Need-returns
 unfolding count_by
 returns c = c.from_zero.ensures ∙ ap from_zero
-    (to_z-of_z {w = w64} {z = c.before.milliseconds.result} (record { sfits = c.before.milliseconds.type-inv }) ∙ c.before.milliseconds.ensures)
+    (to_z-of_z {w = w64} {z = c.milliseconds.result} (record { sfits = c.milliseconds.type_inv }) ∙ c.milliseconds.ensures)
 
-pub millis-shown-spec : {M : Type 1} → statement M
-millis-shown-spec =
+pub millis_shown_spec : {M : Type 1} → statement M
+millis_shown_spec =
     tie.close
     (tie.spec (λ c κs. search rules) (λ c κs. search rules) returns)

@@ -12,10 +12,10 @@ use Rattle.utc.proofs.shown.milliseconds.Tie as tie
 returns : tie.Need-returns
 unfolding millis_of
 returns c =
-    to_z-of_z {w = w64} {z = c.saturating-i64.result} (record { sfits = c.saturating-i64.type-inv })
-    ∙ c.saturating-i64.ensures
-    ∙ ap (λ (x : Float). to_signed 63 x) c.before.round.ensures
-    ∙ ap (λ (x : Float). to_signed 63 (to_whole away (mul binary64 thousand_f x))) c.before.before.seconds.ensures
+    to_z-of_z {w = w64} {z = c.saturating_i64.result} (record { sfits = c.saturating_i64.type_inv })
+    ∙ c.saturating_i64.ensures
+    ∙ ap (λ (x : Float). to_signed 63 x) c.round.ensures
+    ∙ ap (λ (x : Float). to_signed 63 (to_whole away (mul binary64 thousand_f x))) c.seconds.ensures
 
-pub milliseconds-spec : {M : Type 1} → statement M
-milliseconds-spec = tie.close (tie.spec (λ c κs. search rules) (λ c κs. search rules) (λ c κs. search rules) returns)
+pub milliseconds_spec : {M : Type 1} → statement M
+milliseconds_spec = tie.close (tie.spec (λ c κs. search rules) (λ c κs. search rules) (λ c κs. search rules) returns)

@@ -8,5 +8,5 @@ returns : tie.Need-returns
 unfolding fraction_seconds
 returns c = refl
 
-pub seconds-spec : {M : Type 1} → statement M
-seconds-spec = tie.close (tie.spec returns)
+pub seconds_spec : {M : Type 1} → statement M
+seconds_spec = tie.close (tie.spec returns)

@@ -12,7 +12,7 @@ with-minute k m = record { hour = m / 60; minute = m % 60; second = (k - m * 600
 
 returns : tie.Need-returns
 unfolding time_of
-returns c = ap (λ (m : ℕ). with-minute c.before.args.millis m) c.minute-of-day.ensures
+returns c = ap (λ (m : ℕ). with-minute c.args.millis m) c.minute_of_day-minute.ensures
 
-pub time-of-spec : {M : Type 1} → statement M
-time-of-spec = tie.close (tie.spec (λ c κs. search rules) (λ c. search rules) (λ c. search rules) returns)
+pub time_of_spec : {M : Type 1} → statement M
+time_of_spec = tie.close (tie.spec (λ c κs. search rules) (λ c. search rules) (λ c. search rules) returns)

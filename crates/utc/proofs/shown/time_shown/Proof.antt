@@ -7,24 +7,18 @@ use Rattle.time_of_day.proofs.ByCount.{at-time, at_end}
 use Rattle.utc.proofs.shown.time_shown.Statement.{statement}
 use Rattle.utc.proofs.shown.time_shown.Tie as tie
 
-returns : tie.Need-returns
+returns : tie.Need-returns-then-count-day_end
 returns c =
-    let e = c.before.before in
-    let m = e.before in
-    let w = m.before in
-    at-time (count_by away) w.before.args.fraction w.before.args.leap w.whole-leap.result m.millis-shown.result e.day-end.result
-    w.whole-leap.ensures m.millis-shown.ensures e.day-end.ensures.0 c.time-of.result c.time-of.ensures c.before.if1.true
+    at-time (count_by away) c.args.fraction c.args.leap c.whole_leap-day_leap.result c.millis_shown-count.result c.day_end.result
+    c.whole_leap-day_leap.ensures c.millis_shown-count.ensures c.day_end.ensures.0 c.time_of.result c.time_of.ensures c.if-count-day_end.true
 
-returns-2 : tie.Need-returns-2
+returns-2 : tie.Need-returns-else-count-day_end
 returns-2 c =
-    let e = c.before in
-    let m = e.before in
-    let w = m.before in
-    at_end (count_by away) w.before.args.fraction w.before.args.leap w.whole-leap.result m.millis-shown.result e.day-end.result
-    w.whole-leap.ensures m.millis-shown.ensures e.day-end.ensures.0 (omega (arith, c.if1.false))
+    at_end (count_by away) c.args.fraction c.args.leap c.whole_leap-day_leap.result c.millis_shown-count.result c.day_end.result
+    c.whole_leap-day_leap.ensures c.millis_shown-count.ensures c.day_end.ensures.0 (omega (arith, c.if-count-day_end.false))
 
-pub time-shown-spec : {M : Type 1} → statement M
-time-shown-spec =
+pub time_shown_spec : {M : Type 1} → statement M
+time_shown_spec =
     tie.close
     (tie.spec (λ c κs. search rules) (λ c κs. search rules) (λ c κs. search rules) (λ c. search rules) (λ c κs. search rules)
     returns returns-2)

@@ -13,13 +13,13 @@ picks : (b : Bool) (x r : Float) → r ≡ abs x → lt half r ≡ b → cond b 
 unfolding whole_leap
 picks b x r e t = ap (λ (z : Bool). cond z x nought) (sym t ∙ ap (λ (v : Float). lt half v) e)
 
-returns : tie.Need-returns
+returns : tie.Need-returns-then-fabs
 unfolding of_bits
-returns c = picks true c.before.before.args.leap c.before.fabs.result c.before.fabs.ensures c.if1.true
+returns c = picks true c.args.leap c.fabs.result c.fabs.ensures c.if-fabs.true
 
-returns-2 : tie.Need-returns-2
+returns-2 : tie.Need-returns-else-fabs
 unfolding of_bits
-returns-2 c = picks false c.before.before.args.leap c.before.fabs.result c.before.fabs.ensures c.if1.false
+returns-2 c = picks false c.args.leap c.fabs.result c.fabs.ensures c.if-fabs.false
 
-pub whole-leap-spec : {M : Type 1} → statement M
-whole-leap-spec = tie.close (tie.spec (λ c κs. search rules) returns returns-2)
+pub whole_leap_spec : {M : Type 1} → statement M
+whole_leap_spec = tie.close (tie.spec (λ c κs. search rules) returns returns-2)

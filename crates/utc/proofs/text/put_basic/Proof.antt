@@ -7,23 +7,22 @@ use Rattle.utc.proofs.text.Laws.{short, put-done, basic-source}
 use Rattle.utc.proofs.text.put_basic.Statement.{statement}
 use Rattle.utc.proofs.text.put_basic.Tie as tie
 
-returns : tie.Need-returns
+returns : tie.Need-returns-then-out-lt23
 returns c =
-    let a = c.before.before.before.before.args in
-    short (four a.year ++ after_year a.date a.time) a.out.now (omega (arith, c.if1.true))
+    let a = c.args in
+    short (four a.year ++ after_year a.date a.time) a.out.now (omega (arith, c.if-out-lt23.true))
 
-returns-2 : tie.Need-returns-2
+returns-2 : tie.Need-returns
 returns-2 c =
-    let b = c.before.before.before.before.before.before.before in
-    let a = b.before.before.before.args in
+    let a = c.args in
     put-done _ (four a.year ++ after_year a.date a.time) a.out.now _ _
-    (basic-source a.year a.date a.time _ _ _ b.before.fourth.ensures b.wide-bytes.ensures)
-    c.before.before.copy.ensures.0
-    c.before.before.copy.ensures.1
-    (omega (arith, c.before.before.before.before.before.before.if1.false))
+    (basic-source a.year a.date a.time _ _ _ c.fourth-fourth.ensures c.wide_bytes-all.ensures)
+    c.copy-n.ensures.0
+    c.copy-n.ensures.1
+    (omega (arith, c.if-out-lt23.false))
 
-pub put-basic-spec : {M : Type 1} → statement M
-put-basic-spec =
+pub put_basic_spec : {M : Type 1} → statement M
+put_basic_spec =
     tie.close
     (tie.spec (λ c κs. search rules) (λ c κs. search rules) returns (λ c. search rules) (λ c. search rules) (λ c. search rules) (λ c κs. search rules)
     (λ c. search rules) returns-2)

@@ -5,27 +5,20 @@ use Rattle.utc.proofs.text.Laws.{basic-is, of_date}
 use Rattle.utc.proofs.text.put_text.Statement.{statement}
 use Rattle.utc.proofs.text.put_text.Tie as tie
 
-returns : tie.Need-returns
+returns : tie.Need-returns-then-is_basic
 returns c =
-    let p = c.before.before in
-    let i = p.before.before in
-    let s = i.before.before in
-    let n = s.before.before in
-    of_date n.before.before.before.args.date n.before.before.before.args.time n.negative.result s.size.result _ _ _ _
-    (record { sfits = n.before.struct_told.given.0.1 }) n.negative.ensures s.size.ensures
-    (basic-is n.negative.result s.size.result (sym i.before.is-basic.ensures ∙ i.if1.true))
-    p.put-basic.ensures
+    of_date c.args.date c.args.time c.negative-negative.result c.size-size.result _ _ _ _
+    (record { sfits = c.struct_told-1.given.0.1 }) c.negative-negative.ensures c.size-size.ensures
+    (basic-is c.negative-negative.result c.size-size.result (sym c.is_basic.ensures ∙ c.if-is_basic.true))
+    c.put_basic.ensures
 
-returns-2 : tie.Need-returns-2
+returns-2 : tie.Need-returns
 returns-2 c =
-    let p = c.before.before in
-    let s = p.before.before.before.before in
-    let n = s.before.before in
-    of_date n.before.before.before.args.date n.before.before.before.args.time n.negative.result s.size.result _ _ _ _
-    (record { sfits = n.before.struct_told.given.0.1 }) n.negative.ensures s.size.ensures refl p.put-wide.ensures
+    of_date c.args.date c.args.time c.negative-negative.result c.size-size.result _ _ _ _
+    (record { sfits = c.struct_told-1.given.0.1 }) c.negative-negative.ensures c.size-size.ensures refl c.put_wide.ensures
 
-pub put-text-spec : {M : Type 1} → statement M
-put-text-spec =
+pub put_text_spec : {M : Type 1} → statement M
+put_text_spec =
     tie.close
     (tie.spec (λ c κs. search rules) (λ c κs. search rules) (λ c κs. search rules) (λ c κs. search rules) (λ c. search rules) returns
     (λ c κs. search rules) (λ c. search rules) returns-2)

@@ -6,7 +6,7 @@ use Rattle.utc_scales.proofs.days.first_is_kept.Tie as tie
 
 returns : tie.Need-returns
 unfolding first_is_kept
-returns c = c.at-least-in-size.ensures
+returns c = c.at_least_in_size.ensures
 
-pub first-is-kept-spec : {M : Type 1} → statement M
-first-is-kept-spec = tie.close (tie.spec (λ c κs. search rules) returns)
+pub first_is_kept_spec : {M : Type 1} → statement M
+first_is_kept_spec = tie.close (tie.spec (λ c κs. search rules) returns)

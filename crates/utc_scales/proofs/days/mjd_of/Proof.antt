@@ -5,11 +5,11 @@ use Rattle.utc_scales.proofs.days.Midnights.{less-fits, less-read, less-held}
 use Rattle.utc_scales.proofs.days.mjd_of.Statement.{statement}
 use Rattle.utc_scales.proofs.days.mjd_of.Tie as tie
 
-int-to-float-result : tie.Need-int-to-float-result
+int-to-float-result : tie.Need-int_to_float-result
 int-to-float-result c = less-held c.before.args.day c.before.ranges.day c.before.requires
 
 returns : tie.Need-returns
 returns c = ap (of_int binary64) (less-read c.before.args.day c.before.ranges.day c.before.requires)
 
-pub mjd-of-spec : {M : Type 1} → statement M
-mjd-of-spec = tie.close (tie.spec (λ c. less-fits c.args.day c.ranges.day c.requires) int-to-float-result returns)
+pub mjd_of_spec : {M : Type 1} → statement M
+mjd_of_spec = tie.close (tie.spec (λ c. less-fits c.args.day c.ranges.day c.requires) int-to-float-result returns)

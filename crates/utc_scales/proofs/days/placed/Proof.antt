@@ -9,13 +9,13 @@ use borrow.Author.Rules.{rules}
 use Rattle.utc_scales.proofs.days.placed.Statement.{statement}
 use Rattle.utc_scales.proofs.days.placed.Tie as tie
 
-returns : tie.Need-returns
+returns : tie.Need-returns-in-Refused
 unfolding julian_outcome fraction_outcome placed
-returns c = sym (stopped _ (ap fraction_outcome c.before.x.given.1))
+returns c = sym (stopped _ (ap fraction_outcome c.in-Refused.is))
 
-returns-2 : tie.Need-returns-2
+returns-2 : tie.Need-returns-in-Fraction
 unfolding julian_outcome fraction_outcome placed
-returns-2 c = ap answer c.put-beside.ensures ∙ sym (went _ (ap fraction_outcome c.before.before.x2.given.1))
+returns-2 c = ap answer c.put_beside.ensures ∙ sym (went _ (ap fraction_outcome c.in-Fraction.is))
 
-pub placed-spec : {M : Type 1} → statement M
-placed-spec = tie.close (tie.spec (λ c. search rules) (λ c. search rules) (λ c κs. search rules) returns returns-2)
+pub placed_spec : {M : Type 1} → statement M
+placed_spec = tie.close (tie.spec (λ c. search rules) (λ c. search rules) (λ c κs. search rules) returns returns-2)

@@ -4,13 +4,13 @@ use Rattle.utc_scales.specs.from_ut1.Ut1Utc.{at_most_one}
 use Rattle.utc_scales.proofs.from_ut1.at_most_one.Statement.{statement}
 use Rattle.utc_scales.proofs.from_ut1.at_most_one.Tie as tie
 
-returns : tie.Need-returns
+returns : tie.Need-returns-then-x
 unfolding at_most_one of_bits
-returns c = rw c.if1.true
+returns c = rw c.if-x.true
 
-returns-2 : tie.Need-returns-2
+returns-2 : tie.Need-returns-else-x
 unfolding at_most_one of_bits
-returns-2 c = rw c.if1.false
+returns-2 c = rw c.if-x.false
 
-pub at-most-one-spec : {M : Type 1} → statement M
-at-most-one-spec = tie.close (tie.spec returns returns-2)
+pub at_most_one_spec : {M : Type 1} → statement M
+at_most_one_spec = tie.close (tie.spec returns returns-2)

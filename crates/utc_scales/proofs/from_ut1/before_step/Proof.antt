@@ -4,13 +4,13 @@ use Rattle.utc_scales.specs.from_ut1.Ut1Utc.{before_step}
 use Rattle.utc_scales.proofs.from_ut1.before_step.Statement.{statement}
 use Rattle.utc_scales.proofs.from_ut1.before_step.Tie as tie
 
-returns : tie.Need-returns
+returns : tie.Need-returns-then-delta-dut1
 unfolding before_step of_bits
-returns c = rw c.if1.true
+returns c = rw c.if-delta-dut1.true
 
-returns-2 : tie.Need-returns-2
+returns-2 : tie.Need-returns-else-delta-dut1
 unfolding before_step of_bits
-returns-2 c = rw c.if1.false
+returns-2 c = rw c.if-delta-dut1.false
 
-pub before-step-spec : {M : Type 1} → statement M
-before-step-spec = tie.close (tie.spec returns returns-2)
+pub before_step_spec : {M : Type 1} → statement M
+before_step_spec = tie.close (tie.spec returns returns-2)

@@ -8,6 +8,6 @@ returns : tie.Need-returns
 unfolding near_step
 returns c = cc
 
-pub near-step-spec : {M : Type 1} → statement M
-near-step-spec =
+pub near_step_spec : {M : Type 1} → statement M
+near_step_spec =
     tie.close (tie.spec (λ c κs. search rules) (λ c κs. search rules) (λ c κs. search rules) returns)

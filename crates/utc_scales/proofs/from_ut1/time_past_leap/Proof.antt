@@ -10,5 +10,5 @@ returns : tie.Need-returns
 unfolding time_past_leap mjd_zero_point seconds_per_day round of_bits
 returns c = refl
 
-pub time-past-leap-spec : {M : Type 1} → statement M
-time-past-leap-spec = tie.close (tie.spec returns)
+pub time_past_leap_spec : {M : Type 1} → statement M
+time_past_leap_spec = tie.close (tie.spec returns)

@@ -18,21 +18,21 @@ use Rattle.utc_scales.proofs.table.day_of.Tie as tie
 abbrev rows : tie.Start → List Row
 rows s = rows_in s.args.size s.args.months.now s.args.seconds.now
 
-cast-day-offsets-by-arrays : tie.Need-overflow-cast-day-offsets-by-arrays
-cast-day-offsets-by-arrays c = month_fits _ _ (c.before.gregorian-date.ensures ∙ ap gregorian_date (to_z-of_z c.before.before.ranges.day))
+cast-day-offsets-by-arrays : tie.Need-overflow_cast-t
+cast-day-offsets-by-arrays c = month_fits _ _ (c.before.gregorian_date-t.ensures ∙ ap gregorian_date (to_z-of_z c.before.before.ranges.day))
 
-cast-day-offsets-by-arrays-2 : tie.Need-overflow-cast-day-offsets-by-arrays-2
+cast-day-offsets-by-arrays-2 : tie.Need-overflow_cast-t-2
 cast-day-offsets-by-arrays-2 c = day-of-month-fits _ _
-    (c.before.before.gregorian-date.ensures ∙ ap gregorian_date (to_z-of_z c.before.before.before.ranges.day))
+    (c.before.before.gregorian_date-t.ensures ∙ ap gregorian_date (to_z-of_z c.before.before.before.ranges.day))
 
 returns : tie.Need-returns
 unfolding read_on offsets_of rule_on day_by_rule
-returns c = c.day-offsets-by-arrays.ensures
-    ∙ handed _ _ (c.before.before.before.before.gregorian-date.ensures
+returns c = c.day_offsets_by_arrays.ensures
+    ∙ handed _ _ (c.before.before.before.before.gregorian_date-t.ensures
     ∙ ap gregorian_date (to_z-of_z c.before.before.before.before.before.ranges.day)) (day_by_rule (rows c.before.before.before.before.before))
-    (record { sfits = c.before.struct_told.given.0.1 })
+    (record { sfits = c.before.struct_told-1.given.0.1 })
 
-pub day-of-spec : {M : Type 1} → statement M
-day-of-spec =
+pub day_of_spec : {M : Type 1} → statement M
+day_of_spec =
     tie.close
     (tie.spec (λ c κs. search rules) cast-day-offsets-by-arrays cast-day-offsets-by-arrays-2 (λ c κs. search rules) returns)

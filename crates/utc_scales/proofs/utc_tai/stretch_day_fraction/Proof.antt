@@ -11,5 +11,5 @@ returns : tie.Need-returns
 unfolding stretch_day_fraction drift_rate leap_amount seconds_per_day round of_bits
 returns c = refl
 
-pub stretch-day-fraction-spec : {M : Type 1} → statement M
-stretch-day-fraction-spec = tie.close (tie.spec returns)
+pub stretch_day_fraction_spec : {M : Type 1} → statement M
+stretch_day_fraction_spec = tie.close (tie.spec returns)

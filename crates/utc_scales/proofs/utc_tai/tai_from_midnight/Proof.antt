@@ -9,5 +9,5 @@ returns : tie.Need-returns
 unfolding tai_from_midnight
 returns c = cc (mjd-zero-point, seconds-per-day)
 
-pub tai-from-midnight-spec : {M : Type 1} → statement M
-tai-from-midnight-spec = tie.close (tie.spec (λ c κs. search rules) returns)
+pub tai_from_midnight_spec : {M : Type 1} → statement M
+tai_from_midnight_spec = tie.close (tie.spec (λ c κs. search rules) returns)

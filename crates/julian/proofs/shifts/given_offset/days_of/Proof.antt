@@ -10,5 +10,5 @@ returns : tie.Need-returns
 unfolding days_of
 returns c = ap (div binary64 c.args.seconds) seconds-per-day
 
-pub days-of-spec : {M : Type 1} → statement M
-days-of-spec = tie.close (tie.spec returns)
+pub days_of_spec : {M : Type 1} → statement M
+days_of_spec = tie.close (tie.spec returns)

@@ -8,8 +8,8 @@ use Rattle.julian.specs.shifts.Shifts.{minus, converted_by}
 
 returns : tie.Need-returns
 unfolding converted_by
-returns c = c.earlier.ensures ∙ moved-alike minus c.before.before.finite-both.ensures c.before.days-of.ensures
+returns c = c.earlier.ensures ∙ moved-alike minus c.finite_both.ensures c.days_of.ensures
 
-pub earlier-by-spec : {M : Type 1} → statement M
-earlier-by-spec =
+pub earlier_by_spec : {M : Type 1} → statement M
+earlier_by_spec =
     tie.close (tie.spec (λ c κs. search rules) (λ c κs. search rules) (λ c κs. search rules) returns)

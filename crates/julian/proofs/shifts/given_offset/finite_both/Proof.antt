@@ -8,10 +8,10 @@ use Rattle.julian.specs.shifts.Shifts.{finite_both}
 
 returns : tie.Need-returns
 unfolding finite_both
-returns c = c.first-refusal.ensures
-    ∙ both c.before.before.before.args.seconds c.before.before.before.args.jd c.before.before.finite-jd.ensures
-    c.before.finite-offset.ensures
+returns c = c.first_refusal.ensures
+    ∙ both c.args.seconds c.args.jd c.finite_jd-date.ensures
+    c.finite_offset-offset.ensures
 
-pub finite-both-spec : {M : Type 1} → statement M
-finite-both-spec =
+pub finite_both_spec : {M : Type 1} → statement M
+finite_both_spec =
     tie.close (tie.spec (λ c κs. search rules) (λ c κs. search rules) (λ c κs. search rules) returns)

@@ -10,16 +10,16 @@ use Rattle.julian.proofs.shifts.given_offset.finite_offset.Statement.{statement}
 use Rattle.julian.proofs.shifts.given_offset.finite_offset.Tie as tie
 use Rattle.julian.specs.shifts.Shifts.{finite_offset}
 
-returns : tie.Need-returns
+returns : tie.Need-returns-in-Offset
 unfolding julian_outcome offset_outcome finite_offset
-returns c = sym (went (λ (s : Float). answer c.before.before.before.before.args.jd)
-    (sym c.before.before.before.finite-arg.ensures ∙ ap offset_outcome c.before.s.given.1))
+returns c = sym (went (λ (s : Float). answer c.args.jd)
+    (sym c.finite_arg.ensures ∙ ap offset_outcome c.in-Offset.is))
 
-returns-2 : tie.Need-returns-2
+returns-2 : tie.Need-returns-in-Refused
 unfolding julian_outcome offset_outcome finite_offset
-returns-2 c = sym (stopped (λ (s : Float). answer c.before.before.before.before.args.jd)
-    (sym c.before.before.before.finite-arg.ensures ∙ ap offset_outcome c.before.n.given.1))
+returns-2 c = sym (stopped (λ (s : Float). answer c.args.jd)
+    (sym c.finite_arg.ensures ∙ ap offset_outcome c.in-Refused.is))
 
-pub finite-offset-spec : {M : Type 1} → statement M
-finite-offset-spec =
+pub finite_offset_spec : {M : Type 1} → statement M
+finite_offset_spec =
     tie.close (tie.spec (λ c κs. search rules) (λ c. search rules) (λ c. search rules) returns returns-2)

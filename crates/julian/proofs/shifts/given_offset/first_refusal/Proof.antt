@@ -7,13 +7,13 @@ use borrow.Author.Rules.{rules}
 use Rattle.julian.proofs.shifts.given_offset.first_refusal.Statement.{statement}
 use Rattle.julian.proofs.shifts.given_offset.first_refusal.Tie as tie
 
-returns : tie.Need-returns
+returns : tie.Need-returns-in-Date
 unfolding julian_outcome
-returns c = sym (went (λ (jd : JulianDate). julian_outcome c.before.before.before.args.b) (ap julian_outcome c.before.a.given.1))
+returns c = sym (went (λ (jd : JulianDate). julian_outcome c.args.b) (ap julian_outcome c.in-Date.is))
 
-returns-2 : tie.Need-returns-2
+returns-2 : tie.Need-returns-in-Refused
 unfolding julian_outcome
-returns-2 c = sym (stopped (λ (jd : JulianDate). julian_outcome c.before.before.before.args.b) (ap julian_outcome c.before.a2.given.1))
+returns-2 c = sym (stopped (λ (jd : JulianDate). julian_outcome c.args.b) (ap julian_outcome c.in-Refused.is))
 
-pub first-refusal-spec : {M : Type 1} → statement M
-first-refusal-spec = tie.close (tie.spec (λ c. search rules) (λ c. search rules) returns returns-2)
+pub first_refusal_spec : {M : Type 1} → statement M
+first_refusal_spec = tie.close (tie.spec (λ c. search rules) (λ c. search rules) returns returns-2)

@@ -8,7 +8,7 @@ use Rattle.julian.specs.shifts.Shifts.{plus, converted_by}
 
 returns : tie.Need-returns
 unfolding converted_by
-returns c = c.later.ensures ∙ moved-alike plus c.before.before.finite-both.ensures c.before.days-of.ensures
+returns c = c.later.ensures ∙ moved-alike plus c.finite_both.ensures c.days_of.ensures
 
-pub later-by-spec : {M : Type 1} → statement M
-later-by-spec = tie.close (tie.spec (λ c κs. search rules) (λ c κs. search rules) (λ c κs. search rules) returns)
+pub later_by_spec : {M : Type 1} → statement M
+later_by_spec = tie.close (tie.spec (λ c κs. search rules) (λ c κs. search rules) (λ c κs. search rules) returns)

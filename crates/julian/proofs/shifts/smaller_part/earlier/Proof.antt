@@ -8,15 +8,15 @@ use Rattle.julian.proofs.shifts.smaller_part.earlier.Statement.{statement}
 use Rattle.julian.proofs.shifts.smaller_part.earlier.Tie as tie
 use Rattle.julian.specs.shifts.Shifts.{minus, changed}
 
-returns : tie.Need-returns
+returns : tie.Need-returns-in-Date
 unfolding julian_outcome changed
-returns c = ap answer c.subtract-days.ensures
-    ∙ sym (went (changed (minus c.before.before.before.before.args.days)) (ap julian_outcome c.before.before.a.given.1))
+returns c = ap answer c.subtract_days.ensures
+    ∙ sym (went (changed (minus c.args.days)) (ap julian_outcome c.in-Date.is))
 
-returns-2 : tie.Need-returns-2
+returns-2 : tie.Need-returns-in-Refused
 unfolding julian_outcome
-returns-2 c = sym (stopped (changed (minus c.before.before.before.args.days)) (ap julian_outcome c.before.a2.given.1))
+returns-2 c = sym (stopped (changed (minus c.args.days)) (ap julian_outcome c.in-Refused.is))
 
-pub earlier-spec : {M : Type 1} → statement M
-earlier-spec =
+pub earlier_spec : {M : Type 1} → statement M
+earlier_spec =
     tie.close (tie.spec (λ c. search rules) (λ c κs. search rules) (λ c. search rules) returns returns-2)

@@ -6,7 +6,7 @@ use Rattle.julian.proofs.shifts.smaller_part.first_is_larger.Tie as tie
 
 returns : tie.Need-returns
 unfolding first_is_larger
-returns c = c.larger-in-size.ensures
+returns c = c.larger_in_size.ensures
 
-pub first-is-larger-spec : {M : Type 1} → statement M
-first-is-larger-spec = tie.close (tie.spec (λ c κs. search rules) returns)
+pub first_is_larger_spec : {M : Type 1} → statement M
+first_is_larger_spec = tie.close (tie.spec (λ c κs. search rules) returns)

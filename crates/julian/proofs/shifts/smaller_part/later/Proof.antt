@@ -8,14 +8,14 @@ use Rattle.julian.proofs.shifts.smaller_part.later.Statement.{statement}
 use Rattle.julian.proofs.shifts.smaller_part.later.Tie as tie
 use Rattle.julian.specs.shifts.Shifts.{plus, changed}
 
-returns : tie.Need-returns
+returns : tie.Need-returns-in-Date
 unfolding julian_outcome changed
-returns c = ap answer c.add-days.ensures
-    ∙ sym (went (changed (plus c.before.before.before.before.args.days)) (ap julian_outcome c.before.before.a.given.1))
+returns c = ap answer c.add_days.ensures
+    ∙ sym (went (changed (plus c.args.days)) (ap julian_outcome c.in-Date.is))
 
-returns-2 : tie.Need-returns-2
+returns-2 : tie.Need-returns-in-Refused
 unfolding julian_outcome
-returns-2 c = sym (stopped (changed (plus c.before.before.before.args.days)) (ap julian_outcome c.before.a2.given.1))
+returns-2 c = sym (stopped (changed (plus c.args.days)) (ap julian_outcome c.in-Refused.is))
 
-pub later-spec : {M : Type 1} → statement M
-later-spec = tie.close (tie.spec (λ c. search rules) (λ c κs. search rules) (λ c. search rules) returns returns-2)
+pub later_spec : {M : Type 1} → statement M
+later_spec = tie.close (tie.spec (λ c. search rules) (λ c κs. search rules) (λ c. search rules) returns returns-2)

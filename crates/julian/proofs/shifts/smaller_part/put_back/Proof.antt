@@ -6,11 +6,11 @@ use borrow.Author.Rules.{rules}
 use Rattle.julian.proofs.shifts.smaller_part.put_back.Statement.{statement}
 use Rattle.julian.proofs.shifts.smaller_part.put_back.Tie as tie
 
-returns : tie.Need-returns
-returns c = put_is c.before.before.args.jd c.before.before.args.x true (sym c.if1.true ∙ c.before.first-is-larger.ensures)
+returns : tie.Need-returns-then-first_is_larger
+returns c = put_is c.before.before.args.jd c.before.before.args.x true (sym c.if-first_is_larger.true ∙ c.before.first_is_larger.ensures)
 
-returns-2 : tie.Need-returns-2
-returns-2 c = put_is c.before.before.args.jd c.before.before.args.x false (sym c.if1.false ∙ c.before.first-is-larger.ensures)
+returns-2 : tie.Need-returns-else-first_is_larger
+returns-2 c = put_is c.before.before.args.jd c.before.before.args.x false (sym c.if-first_is_larger.false ∙ c.before.first_is_larger.ensures)
 
-pub put-back-spec : {M : Type 1} → statement M
-put-back-spec = tie.close (tie.spec (λ c κs. search rules) returns returns-2)
+pub put_back_spec : {M : Type 1} → statement M
+put_back_spec = tie.close (tie.spec (λ c κs. search rules) returns returns-2)

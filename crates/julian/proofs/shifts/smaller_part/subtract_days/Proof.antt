@@ -12,7 +12,7 @@ returns : tie.Need-returns
 unfolding map_smaller_part minus
 returns c = c.put_back.ensures
     ∙ ap (λ (p : Parts). put_back c.before.before.before.args.jd (sub binary64 p.smaller c.before.before.before.args.days))
-    c.before.before.split.ensures
+    c.before.before.split-p.ensures
 
-pub subtract-days-spec : {M : Type 1} → statement M
-subtract-days-spec = tie.close (tie.spec (λ c κs. search rules) (λ c κs. search rules) returns)
+pub subtract_days_spec : {M : Type 1} → statement M
+subtract_days_spec = tie.close (tie.spec (λ c κs. search rules) (λ c κs. search rules) returns)

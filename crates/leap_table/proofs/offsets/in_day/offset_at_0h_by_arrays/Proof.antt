@@ -1,9 +1,6 @@
 -- `leap_table::offsets::in_day::offset_at_0h_by_arrays` meets its contract: 0h is in every day. Assumes nothing.
-use mathlib.Core.Path.{◌≡◌, refl, ◌∙◌}
-use mathlib.Core.Bool.{true}
-use mathlib.Core.List.{List}
+use Rattle.std.proofs.Common.{◌≡◌, true, List, refl, ◌∙◌, to_z-of_z, rules}
 use lib.Ieee.{of_bits, le}
-use mir.Facts.{to_z-of_z}
 use Rattle.floats.specs.Whole.{nought}
 use Rattle.leap_table.specs.rows.Table.{Row}
 use Rattle.leap_table.specs.rows.Announced.{rows_in}
@@ -12,7 +9,6 @@ use Rattle.leap_table.specs.offsets.Rule.{offset_by_rule}
 use Rattle.leap_table.specs.offsets.Answers.{seconds_by_rule_outcome}
 use Rattle.leap_table.proofs.offsets.Rules.{told}
 use Rattle.leap_table.proofs.offsets.Plain.{read_plain, plain-offset, read-offset, read-rule}
-use borrow.Author.Rules.{rules}
 use Rattle.leap_table.proofs.offsets.in_day.offset_at_0h_by_arrays.Statement.{statement}
 use Rattle.leap_table.proofs.offsets.in_day.offset_at_0h_by_arrays.Tie as tie
 
@@ -24,28 +20,26 @@ at-0h : in_day nought ≡ true
 unfolding in_day le
 at-0h = refl
 
-returns : tie.Need-returns
+returns : tie.Need-returns-then-plain_day
 unfolding seconds_by_rule_outcome offset_by_rule
 returns c =
-    let t = c.before in
-    let s = t.before.before in
-    let (x, r) = c.of-plain-day.ensures in
+    let (x, r) = c.of_plain_day-found.ensures in
     told _ _ _ _
-    (plain-offset (rows s) _ _ _ (read_plain _ _ _ s.ranges.year s.ranges.month s.ranges.day (t.before.plain-day.ensures t.if1.true)) _
-    (read-offset (rows s) _ _ s.ranges.year s.ranges.month _ x) nought at-0h)
-    (r ∙ read-rule (rows s) _ _ s.ranges.year s.ranges.month)
+    (plain-offset (rows c.before.before.before) _ _ _ (read_plain _ _ _ c.ranges.year c.ranges.month c.ranges.day (c.plain_day.ensures c.if-plain_day.true)) _
+    (read-offset (rows c.before.before.before) _ _ c.ranges.year c.ranges.month _ x) nought at-0h)
+    (r ∙ read-rule (rows c.before.before.before) _ _ c.ranges.year c.ranges.month)
 
-by-mjd-requires : tie.Need-by-mjd-requires
+by-mjd-requires : tie.Need-by_mjd-requires
 unfolding of_bits
 by-mjd-requires c κs = at-0h
 
-returns-2 : tie.Need-returns-2
+returns-2 : tie.Need-returns
 unfolding of_bits
 returns-2 c =
-    let s = c.before.before.before in
-    c.by-mjd.ensures ∙ (λ i. offset_by_rule (rows s) (to_z-of_z s.ranges.year i) (to_z-of_z s.ranges.month i) (to_z-of_z s.ranges.day i) nought)
+    c.by_mjd.ensures ∙ (λ i. offset_by_rule (rows c.before.before.before) (to_z-of_z c.ranges.year i) (to_z-of_z c.ranges.month i)
+    (to_z-of_z c.ranges.day i) nought)
 
-pub offset-at-0h-by-arrays-spec : {M : Type 1} → statement M
-offset-at-0h-by-arrays-spec =
+pub offset_at_0h_by_arrays_spec : {M : Type 1} → statement M
+offset_at_0h_by_arrays_spec =
     tie.close
-    (tie.spec (λ c κs. search rules) (λ c κs. c.before.plain-day.ensures c.if1.true) returns by-mjd-requires returns-2)
+    (tie.spec (λ c κs. search rules) (λ c κs. c.plain_day.ensures c.if-plain_day.true) returns by-mjd-requires returns-2)

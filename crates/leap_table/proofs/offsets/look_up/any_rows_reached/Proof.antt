@@ -1,10 +1,5 @@
 -- `leap_table::offsets::look_up::any_rows_reached` meets its contract: the announced rows, and where none has begun the fixed ones. Assumes nothing.
-use mathlib.Core.Path.{◌≡◌, refl, ap, sym, ◌∙◌}
-use mathlib.Core.List.{List, []}
-use Prim.Native.Nat.{ℕ, zero, suc, ◌+◌}
-use native.Mathlib.Omega.{arith}
-use lib.IntN.{ℤ}
-use borrow.Author.Rules.{rules}
+use Rattle.std.proofs.Common.{◌≡◌, ℕ, zero, suc, ◌+◌, List, [], ℤ, sym, refl, ap, ◌∙◌, arith, rules}
 use Rattle.leap_table.specs.rows.Table.{fixed, starts, reached, fixed_rows}
 use Rattle.leap_table.specs.rows.Announced.{least, announced_table, rows_in, rows_to}
 use Rattle.leap_table.specs.offsets.Plain.{by_found}
@@ -27,27 +22,25 @@ by-some : (n k : ℕ) → (k ≡ 0 → ⊥) → by_found n k ≡ fixed_rows + k
 by-some n zero e = absurd (e refl)
 by-some n (suc k) e = refl
 
-returns : tie.Need-returns
+returns : tie.Need-returns-then-found-eq0
 returns c =
-    let f = c.before.before in
-    let s = f.before.before.args in
-    let r = c.fixed-rows-reached.ensures in (
-      λ seconds. r.0 ∙ sym (by-none s.n _ c.before.if1.true) ∙ f.announced-rows-reached.ensures.0
-          ∙ of_table s.size s.months.now seconds s.n _ f.before.at_most_16.ensures.0,
+    let s = c.args in
+    let r = c.fixed_rows_reached.ensures in (
+      λ seconds. r.0 ∙ sym (by-none s.n _ c.if-found-eq0.true) ∙ c.announced_rows_reached-found.ensures.0
+          ∙ of_table s.size s.months.now seconds s.n _ c.at_most_16.ensures.0,
       omega (arith, r.1),
     )
 
-returns-2 : tie.Need-returns-2
+returns-2 : tie.Need-returns
 returns-2 c =
-    let f = c.before in
-    let s = f.before.before.args in
-    let e = f.before.at_most_16.ensures.0 in (
-      λ seconds. sym (by-some s.n _ c.if1.false) ∙ f.announced-rows-reached.ensures.0 ∙ of_table s.size s.months.now seconds s.n _ e,
-      omega (arith, f.announced-rows-reached.ensures.1, e),
+    let s = c.args in
+    let e = c.at_most_16.ensures.0 in (
+      λ seconds. sym (by-some s.n _ c.if-found-eq0.false) ∙ c.announced_rows_reached-found.ensures.0 ∙ of_table s.size s.months.now seconds s.n _ e,
+      omega (arith, c.announced_rows_reached-found.ensures.1, e),
     )
 
-pub any-rows-reached-spec : {M : Type 1} → statement M
-any-rows-reached-spec =
+pub any_rows_reached_spec : {M : Type 1} → statement M
+any_rows_reached_spec =
     tie.close
     (tie.spec (λ c κs. search rules) (λ c. search rules) (λ c κs. search rules) (λ c κs. search rules) returns (λ c. search rules) (λ c. search rules)
     returns-2)

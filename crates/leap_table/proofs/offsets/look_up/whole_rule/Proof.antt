@@ -1,10 +1,5 @@
 -- `leap_table::offsets::look_up::whole_rule` meets its contract: no row of places 14 on drifts. Assumes nothing.
-use mathlib.Core.Path.{ap, ◌∙◌}
-use mathlib.Core.Bool.{not}
-use Prim.Native.Nat.{◌-◌}
-use native.Mathlib.Omega.{arith}
-use borrow.Author.Tests.{le-ltb}
-use borrow.Author.Rules.{rules}
+use Rattle.std.proofs.Common.{◌-◌, not, ap, ◌∙◌, arith, rules, le-ltb}
 use Rattle.leap_table.specs.rows.Announced.{announced_size, announced_table, rows_in}
 use Rattle.leap_table.proofs.rows.Tables.{table-drifts}
 use Rattle.leap_table.proofs.rows.ByParts.{announced-size}
@@ -20,5 +15,5 @@ returns c size months seconds h =
     rule-whole (rows_in size months seconds) k (omega arith)
     (table-drifts t (announced_size t) (k - 1) (omega (arith, p, h, announced-size size months seconds)) ∙ ap not (le-ltb (k - 1) 14 (omega arith)))
 
-pub whole-rule-spec : {M : Type 1} → statement M
-whole-rule-spec = tie.close (tie.spec (λ c. search rules) (λ c. search rules) returns)
+pub whole_rule_spec : {M : Type 1} → statement M
+whole_rule_spec = tie.close (tie.spec (λ c. search rules) (λ c. search rules) returns)

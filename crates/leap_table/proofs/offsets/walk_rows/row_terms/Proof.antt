@@ -1,14 +1,7 @@
 -- `leap_table::offsets::walk_rows::row_terms` meets its contract: the four answers are those of At.antt and Forward.antt.
 -- Assumes nothing.
-use mathlib.Core.Path.{◌≡◌, refl, ap, sym, ◌∙◌}
-use mathlib.Core.List.{List}
-use mathlib.Core.Bool.{not}
-use Prim.Native.Nat.{ℕ, ◌+◌, ◌-◌, ◌≤◌, ◌<◌}
-use native.Mathlib.Omega.{arith}
-use lib.ListN.{get_or}
+use Rattle.std.proofs.Common.{◌≡◌, ℕ, ◌+◌, ◌-◌, ◌<◌, ◌≤◌, not, List, get_or, sym, refl, ap, ◌∙◌, arith, rules, le-ltb, lt-ltb}
 use lib.Ieee.{of_bits}
-use borrow.Author.Tests.{lt-ltb, le-ltb}
-use borrow.Author.Rules.{rules}
 use Rattle.leap_table.specs.rows.Table.{Row, none, fixed_rows}
 use Rattle.leap_table.specs.rows.Announced.{least, announced_size, rows_of}
 use Rattle.leap_table.specs.offsets.Offset.{seconds_of, start_of, rate_of}
@@ -23,62 +16,57 @@ use Rattle.leap_table.proofs.offsets.walk_rows.row_terms.Tie as tie
 above : (k : ℕ) → (k ≡ 0 → ⊥) → 0 < k
 above k h = omega arith
 
-returns : tie.Need-returns
+returns : tie.Need-returns-then-rows-eq0
 unfolding of_bits by_terms
 returns c =
-    let s = c.before.args in
-    λ mjd f. absent (rows_of s.t1) s.rows mjd f c.if1.true
+    let s = c.args in
+    λ mjd f. absent (rows_of s.table) s.rows mjd f c.if-rows-eq0.true
 
-returns-2 : tie.Need-returns-2
+returns-2 : tie.Need-returns-then-i-lt14
 unfolding by_terms
 returns-2 c =
-    let f = c.before.before.before.before in
-    let s = f.before.args in
-    let g = c.before.before.before.if2.true in
-    let p = sym (fixed-place s.t1 (announced_size s.t1) (s.rows - 1) (omega arith)) in
+    let s = c.args in
+    let g = c.if-i-lt14.true in
+    let p = sym (fixed-place s.table (announced_size s.table) (s.rows - 1) (omega arith)) in
     λ mjd x.
-    row-drifts (rows_of s.t1) s.rows mjd x (above _ f.if1.false)
-    (table-drifts s.t1 (announced_size s.t1) (s.rows - 1) (omega arith) ∙ ap not (lt-ltb (s.rows - 1) 14 g))
+    row-drifts (rows_of s.table) s.rows mjd x (above _ c.if-rows-eq0.false)
+    (table-drifts s.table (announced_size s.table) (s.rows - 1) (omega arith) ∙ ap not (lt-ltb (s.rows - 1) 14 g))
     _ _ _
-    (c.before.before.seconds-at.ensures ∙ ap seconds_of p)
-    (c.before.start-at.ensures ∙ ap start_of p)
-    (c.rate-at.ensures ∙ ap rate_of p)
+    (c.seconds_at.ensures ∙ ap seconds_of p)
+    (c.start_at.ensures ∙ ap start_of p)
+    (c.rate_at.ensures ∙ ap rate_of p)
 
-returns-3 : tie.Need-returns-3
+returns-3 : tie.Need-returns-then-announced_size-i
 unfolding of_bits by_terms
 returns-3 c =
-    let n = c.before in
-    let s = n.before.before.before.args in
-    λ mjd f. no_row s.t1 s.rows mjd f (above _ n.before.before.if1.false) (omega (arith, c.if3.true, n.announced-size.ensures.0))
+    let s = c.args in
+    λ mjd f. no_row s.table s.rows mjd f (above _ c.if-rows-eq0.false) (omega (arith, c.if-announced_size-i.true, c.announced_size.ensures.0))
 
 -- how many rows there are at the last answer, and that row i is one of them
-module _ (c : tie.After-table) where
-  few : let s = c.before.before.before.before.before.args in s.rows ≤ fixed_rows + announced_size s.t1
-  few = omega (arith, c.before.if3.false, c.before.before.announced-size.ensures.0)
+module _ (c : tie.Else-announced_size-i) where
+  few : let s = c.args in s.rows ≤ fixed_rows + announced_size s.table
+  few = omega (arith, c.if-announced_size-i.false, c.announced_size.ensures.0)
 
-seconds-of-row-requires : tie.Need-seconds-of-row-requires
+seconds-of-row-requires : tie.Need-seconds_of_row-requires
 seconds-of-row-requires c κs =
-    let q = c.before in
-    let s = q.before.before.before.before.before.args in
-    (omega (arith, q.before.before.before.if2.false), omega (arith, few q, at_most_16 s.t1))
+    let s = c.args in
+    (omega (arith, c.if-i-lt14.false), omega (arith, few c.before, at_most_16 s.table))
 
-returns-4 : tie.Need-returns-4
+returns-4 : tie.Need-returns
 unfolding by_terms announced_size
 returns-4 c =
-    let q = c.before.before in
-    let n = q.before.before in
-    let f = n.before.before in
-    let s = f.before.args in
-    let k = least s.t1.months_size s.t1.seconds_size in
-    let e = c.seconds-of-row.ensures k s.t1.months (few q) ∙ ap (λ (l : List Row). seconds_of (get_or l (s.rows - 1) none)) (rows_in_lem s.t1 k refl) in
+    let s = c.args in
+    let k = least s.table.months_size s.table.seconds_size in
+    let e = c.seconds_of_row.ensures k s.table.months (few c.before.before) ∙ ap (λ (l : List Row). seconds_of (get_or l (s.rows - 1) none))
+    (rows_in_lem s.table k refl) in
     λ mjd x.
-    row_stays (rows_of s.t1) s.rows mjd x (above _ f.if1.false)
-    (table-drifts s.t1 (announced_size s.t1) (s.rows - 1) (omega (arith, q.before.if3.false, n.announced-size.ensures.0))
-    ∙ ap not (le-ltb (s.rows - 1) 14 n.before.if2.false))
+    row_stays (rows_of s.table) s.rows mjd x (above _ c.if-rows-eq0.false)
+    (table-drifts s.table (announced_size s.table) (s.rows - 1) (omega (arith, c.if-announced_size-i.false, c.announced_size.ensures.0))
+    ∙ ap not (le-ltb (s.rows - 1) 14 c.if-i-lt14.false))
     _ e
 
-pub row-terms-spec : {M : Type 1} → statement M
-row-terms-spec =
+pub row_terms_spec : {M : Type 1} → statement M
+row_terms_spec =
     tie.close
     (tie.spec returns (λ c. search rules) (λ c κs. search rules) (λ c κs. search rules) (λ c κs. search rules) returns-2 (λ c κs. search rules)
     (λ c. search rules) returns-3 seconds-of-row-requires returns-4)

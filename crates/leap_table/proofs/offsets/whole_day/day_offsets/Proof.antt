@@ -1,8 +1,6 @@
 -- `leap_table::offsets::whole_day::day_offsets` meets its contract: the table is tested, and the offsets are those of its rows, without the rule. Assumes
 -- nothing.
-use mathlib.Core.Path.{◌≡◌, ap, sym, ◌∙◌}
-use mir.Facts.{to_z-of_z}
-use borrow.Author.Rules.{rules}
+use Rattle.std.proofs.Common.{◌≡◌, sym, ap, ◌∙◌, to_z-of_z, rules}
 use Rattle.refusals.specs.Outcome.{onward}
 use Rattle.leap_table.specs.declared.offsets.DayByRule.{DayByRule}
 use Rattle.leap_table.specs.rows.Announced.{rows_of, table_of}
@@ -15,31 +13,28 @@ use Rattle.leap_table.proofs.offsets.Rules.{day-forgets}
 use Rattle.leap_table.proofs.offsets.whole_day.day_offsets.Statement.{statement}
 use Rattle.leap_table.proofs.offsets.whole_day.day_offsets.Tie as tie
 
-returns : tie.Need-returns
+returns : tie.Need-returns-then-number-ne0
 unfolding day_offsets_outcome
-returns c = let r = c.before in not_taken r.before.args.t4 r.table-refusal.result r.table-refusal.ensures _ c.if1.true
+returns c = not_taken c.args.table c.table_refusal-number.result c.table_refusal-number.ensures _ c.if-number-ne0.true
 
-called : (v : tie.After-day-offsets-by-arrays) → let s = v.before.before.before.before.before.before.before.args in
-    forget (day_by_rule_outcome v.day-offsets-by-arrays.result) ≡ onward (table_of s.t4) (λ rows. day_offsets rows s.year s.month s.day)
+called : (v : tie.After-day_offsets_by_arrays) → let s = v.args in
+    forget (day_by_rule_outcome v.day_offsets_by_arrays.result) ≡ onward (table_of s.table) (λ rows. day_offsets rows s.year s.month s.day)
 called v =
-    let z = v.before.before.before.before in
-    let r = z.before.before in
-    let s = r.before in
-    let rows = rows_in_lem s.args.t4 z.size_of.result z.size_of.ensures in
-    ap forget (v.day-offsets-by-arrays.ensures
-    ∙ (λ i. day_by_rule (rows i) (to_z-of_z s.ranges.year i) (to_z-of_z s.ranges.month i) (to_z-of_z s.ranges.day i)))
-    ∙ day-forgets (rows_of s.args.t4) s.args.year s.args.month s.args.day
-    ∙ taken s.args.t4 r.table-refusal.result r.table-refusal.ensures _ z.before.if1.false
+    let rows = rows_in_lem v.args.table v.size_of.result v.size_of.ensures in
+    ap forget (v.day_offsets_by_arrays.ensures
+    ∙ (λ i. day_by_rule (rows i) (to_z-of_z v.ranges.year i) (to_z-of_z v.ranges.month i) (to_z-of_z v.ranges.day i)))
+    ∙ day-forgets (rows_of v.args.table) v.args.year v.args.month v.args.day
+    ∙ taken v.args.table v.table_refusal-number.result v.table_refusal-number.ensures _ v.if-number-ne0.false
 
-returns-2 : tie.Need-returns-2
+returns-2 : tie.Need-returns-in-Refused
 unfolding day_offsets_outcome day_by_rule_outcome forget onward
-returns-2 c = ap (λ (x : DayByRule). forget (day_by_rule_outcome x)) (sym c.before.number.given.1) ∙ called c.before.before.before
+returns-2 c = ap (λ (x : DayByRule). forget (day_by_rule_outcome x)) (sym c.in-Refused.is) ∙ called c.before
 
-returns-3 : tie.Need-returns-3
+returns-3 : tie.Need-returns-in-Day
 unfolding day_offsets_outcome day_by_rule_outcome forget onward
-returns-3 c = ap (λ (x : DayByRule). forget (day_by_rule_outcome x)) (sym c.before.o.given.1) ∙ called c.before.before.before
+returns-3 c = ap (λ (x : DayByRule). forget (day_by_rule_outcome x)) (sym c.in-Day.is) ∙ called c.before
 
-pub day-offsets-spec : {M : Type 1} → statement M
-day-offsets-spec =
+pub day_offsets_spec : {M : Type 1} → statement M
+day_offsets_spec =
     tie.close
     (tie.spec (λ c κs. search rules) returns (λ c κs. search rules) (λ c κs. search rules) (λ c. search rules) (λ c. search rules) returns-2 returns-3)

@@ -1,8 +1,5 @@
 -- `leap_table::walk::in_bytes::offsets_at_0h_bytes` meets its contract: all is judged before a place is written. Assumes nothing.
-use Prim.Native.Nat.{◌*◌, ◌/◌, ◌%◌}
-use native.Mathlib.Omega.{arith}
-use lib.Dec.{eqb}
-use lib.ListN.{length}
+use Rattle.std.proofs.Common.{◌*◌, ◌/◌, ◌%◌, eqb, length, arith, rules}
 use Rattle.leap_table.specs.rows.Announced.{rows_of}
 use Rattle.leap_table.specs.walk.Walk.{triple_offset}
 use Rattle.leap_table.specs.judging.Lists.{dates_from, triple_in}
@@ -11,40 +8,33 @@ use Rattle.leap_table.proofs.judging.Judges.{how_many}
 use Rattle.leap_table.proofs.walk.Goods.{all-good}
 use Rattle.leap_table.proofs.walk.Eights.{eights_length}
 use Rattle.leap_table.proofs.walk.Calls.{passed, refused-call, walked_call}
-use borrow.Author.Rules.{rules}
 use Rattle.leap_table.proofs.walk.in_bytes.offsets_at_0h_bytes.Statement.{statement}
 use Rattle.leap_table.proofs.walk.in_bytes.offsets_at_0h_bytes.Tie as tie
 
-returns : tie.Need-returns
+returns : tie.Need-returns-then-number-ne0
 returns c =
-    let r = c.before in
-    let s = r.before.before.before.args in
+    let s = c.args in
     let l = s.dates.now in
     refused-call s.table (eqb (length l % 12) 0) (dates_from (triple_in l) 0 (length l / 12)) (length s.out.now / 8) in_eights s.out.now
-    r.bytes-refusal.result r.bytes-refusal.ensures c.if1.true
+    c.bytes_refusal-number.result c.bytes_refusal-number.ensures c.if-number-ne0.true
 
-walk-all-requires : tie.Need-walk-all-requires
+walk-all-requires : tie.Need-walk_all-requires
 walk-all-requires c κs =
-    let i = c.before in
-    let r = i.before in
-    let s = r.before.before.before.args in
+    let s = c.args in
     let l = s.dates.now in
-    let p = passed s.table (eqb (length l % 12) 0) (dates_from (triple_in l) 0 (length l / 12)) (length s.out.now / 8) r.bytes-refusal.result
-    r.bytes-refusal.ensures i.if1.false in
+    let p = passed s.table (eqb (length l % 12) 0) (dates_from (triple_in l) 0 (length l / 12)) (length s.out.now / 8) c.bytes_refusal-number.result
+    c.bytes_refusal-number.ensures c.if-number-ne0.false in
     (all-good (triple_in l) (length l / 12) p.good, p.order, omega arith, omega (arith, p.fits, how_many (triple_in l) (length l / 12) 0))
 
-returns-2 : tie.Need-returns-2
+returns-2 : tie.Need-returns
 returns-2 c =
-    let w = c.before.before in
-    let i = w.before.before in
-    let r = i.before in
-    let s = r.before.before.before.args in
+    let s = c.args in
     let l = s.dates.now in
     walked_call s.table (eqb (length l % 12) 0) (dates_from (triple_in l) 0 (length l / 12)) (length s.out.now / 8) in_eights s.out.now
-    r.bytes-refusal.result r.bytes-refusal.ensures i.if1.false
-    w.walk-all.result _ (8 * (length l / 12)) w.walk-all.ensures.0 w.walk-all.ensures.1
+    c.bytes_refusal-number.result c.bytes_refusal-number.ensures c.if-number-ne0.false
+    c.walk_all.result _ (8 * (length l / 12)) c.walk_all.ensures.0 c.walk_all.ensures.1
     (eights_length (triple_offset (rows_of s.table)) (triple_in l) (length l / 12))
 
-pub offsets-at-0h-bytes-spec : {M : Type 1} → statement M
-offsets-at-0h-bytes-spec =
+pub offsets_at_0h_bytes_spec : {M : Type 1} → statement M
+offsets_at_0h_bytes_spec =
     tie.close (tie.spec (λ c κs. search rules) returns walk-all-requires (λ c. search rules) returns-2)

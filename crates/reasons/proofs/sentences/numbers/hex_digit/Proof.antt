@@ -4,5 +4,5 @@ use borrow.Author.Rules.{rules}
 use Rattle.reasons.proofs.sentences.numbers.hex_digit.Statement.{statement}
 use Rattle.reasons.proofs.sentences.numbers.hex_digit.Tie as tie
 
-pub hex-digit-spec : {M : Type 1} → statement M
-hex-digit-spec = tie.close (tie.spec (λ c. search rules) (λ c. in_turn c.args.d c.requires))
+pub hex_digit_spec : {M : Type 1} → statement M
+hex_digit_spec = tie.close (tie.spec (λ c. search rules) (λ c. in_turn c.args.d c.requires))

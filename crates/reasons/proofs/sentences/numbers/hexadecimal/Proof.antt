@@ -10,13 +10,12 @@ use Rattle.reasons.proofs.sentences.numbers.hexadecimal.Tie as tie
 
 returns : tie.Need-returns
 returns c =
-    let s = c.before.before.before.before.before in
-    let n = s.before.before.args.n in
-    let long = ap length s.sixteen.ensures in
-    let p = placed-as s.sixteen.ensures
-    (c.before.before.place-bytes.ensures.written (omega (arith, long, hex_length n, s.before.before.requires))) in
+    let n = c.args.n in
+    let long = ap length c.sixteen-all.ensures in
+    let p = placed-as c.sixteen-all.ensures
+    (c.place_bytes.ensures.written (omega (arith, long, hex_length n, c.requires))) in
     (p, omega (arith, p.ends, hex_length n))
 
-pub hexadecimal-spec : {M : Type 1} → statement M
-hexadecimal-spec =
+pub hexadecimal_spec : {M : Type 1} → statement M
+hexadecimal_spec =
     tie.close (tie.spec (λ c κs. search rules) (λ c. search rules) (λ c κs. search rules) (λ c. search rules) returns)

@@ -15,34 +15,27 @@ use borrow.Author.Rules.{rules}
 use Rattle.reasons.proofs.sentences.numbers.signed.Statement.{statement}
 use Rattle.reasons.proofs.sentences.numbers.signed.Tie as tie
 
-returns : tie.Need-returns
+returns : tie.Need-returns-then-n-lt0
 returns c =
-    let d = c.before.before in
-    let b = d.before.before.before.before in
-    let i = b.before.before.before in
-    let st = i.before.before.before in
-    let e = i.before.size.ensures ∙ ap nat_abs (to_z-of_z st.ranges.n) in
-    let m = b.place-bytes.ensures.written (omega (arith, st.requires)) in
-    let l = placed-length m (omega (arith, st.requires)) in
-    let q = decimal-placed d.place-decimal.ensures.0 d.place-decimal.ensures.1 (omega (arith, m.ends, l, st.requires)) in
-    let p = then m q.0 (omega (arith, q.1, m.ends, st.requires)) in (
-      placed-as (ap (λ (k : ℕ). 45 ∷ digits_of k) e ∙ signed_below st.args.n (lt_left st.args.n (pos 0) true st.ranges.n i.if1.true)) p,
+    let e = c.size-digits.ensures ∙ ap nat_abs (to_z-of_z c.ranges.n) in
+    let m = c.place_bytes-next.ensures.written (omega (arith, c.requires)) in
+    let l = placed-length m (omega (arith, c.requires)) in
+    let q = decimal-placed c.place_decimal.ensures.0 c.place_decimal.ensures.1 (omega (arith, m.ends, l, c.requires)) in
+    let p = then m q.0 (omega (arith, q.1, m.ends, c.requires)) in (
+      placed-as (ap (λ (k : ℕ). 45 ∷ digits_of k) e ∙ signed_below c.args.n (lt_left c.args.n (pos 0) true c.ranges.n c.if-n-lt0.true)) p,
       omega (arith, q.1, m.ends),
     )
 
-returns-2 : tie.Need-returns-2
+returns-2 : tie.Need-returns
 returns-2 c =
-    let d = c.before.before in
-    let i = d.before.before in
-    let st = i.before.before.before in
-    let e = i.before.size.ensures ∙ ap nat_abs (to_z-of_z st.ranges.n) in
-    let q = decimal-placed d.place-decimal2.ensures.0 d.place-decimal2.ensures.1 (omega (arith, st.requires)) in (
-      placed-as (ap digits_of e ∙ signed-from st.args.n (lt_left st.args.n (pos 0) false st.ranges.n i.if1.false)) q.0,
+    let e = c.size-digits.ensures ∙ ap nat_abs (to_z-of_z c.ranges.n) in
+    let q = decimal-placed c.place_decimal-2.ensures.0 c.place_decimal-2.ensures.1 (omega (arith, c.requires)) in (
+      placed-as (ap digits_of e ∙ signed-from c.args.n (lt_left c.args.n (pos 0) false c.ranges.n c.if-n-lt0.false)) q.0,
       omega (arith, q.1),
     )
 
-pub signed-spec : {M : Type 1} → statement M
-signed-spec =
+pub signed_spec : {M : Type 1} → statement M
+signed_spec =
     tie.close
-    (tie.spec (λ c κs. search rules) (λ c. search rules) (λ c. search rules) (λ c κs. search rules) (λ c κs. search rules) (λ c. search rules) returns
+    (tie.spec (λ c κs. search rules) (λ c. search rules) (λ c κs. search rules) (λ c κs. search rules) (λ c. search rules) returns
     (λ c κs. search rules) (λ c. search rules) returns-2)

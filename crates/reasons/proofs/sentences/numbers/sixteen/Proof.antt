@@ -8,8 +8,8 @@ returns : tie.Need-returns
 unfolding hex16 hex_digits
 returns c = cc
 
-pub sixteen-spec : {M : Type 1} → statement M
-sixteen-spec =
+pub sixteen_spec : {M : Type 1} → statement M
+sixteen_spec =
     tie.close
     (tie.spec (λ c κs. search rules) (λ c κs. search rules) (λ c κs. search rules) (λ c κs. search rules) (λ c κs. search rules)
     (λ c κs. search rules) (λ c κs. search rules) (λ c κs. search rules) (λ c κs. search rules) (λ c κs. search rules) (λ c κs. search rules)

@@ -10,23 +10,17 @@ use Rattle.reasons.proofs.sentences.words.float.Tie as tie
 
 hexadecimal-requires : tie.Need-hexadecimal-requires
 hexadecimal-requires c κs =
-    let b = c.before.before.before.before in
-    let st = b.before.before.before.before in
-    let p = b.place-bytes.ensures.written (omega (arith, st.requires)) in
-    omega (arith, p.ends, placed-length p (omega (arith, st.requires)), st.requires)
+    let p = c.place_bytes-next.ensures.written (omega (arith, c.requires)) in
+    omega (arith, p.ends, placed-length p (omega (arith, c.requires)), c.requires)
 
 returns : tie.Need-returns
 returns c =
-    let h = c.before.before in
-    let t = h.before.before in
-    let b = t.before.before.before in
-    let st = b.before.before.before.before in
-    let p = b.place-bytes.ensures.written (omega (arith, st.requires)) in
-    let q = placed-as (ap hex16 t.to-bits.ensures) h.hexadecimal.ensures.0 in
-    let short = h.hexadecimal.ensures.1 in
-    (then p q (omega (arith, p.ends, short, st.requires)), omega (arith, p.ends, short, st.requires))
+    let p = c.place_bytes-next.ensures.written (omega (arith, c.requires)) in
+    let q = placed-as (ap hex16 c.to_bits.ensures) c.hexadecimal.ensures.0 in
+    let short = c.hexadecimal.ensures.1 in
+    (then p q (omega (arith, p.ends, short, c.requires)), omega (arith, p.ends, short, c.requires))
 
-pub float-spec : {M : Type 1} → statement M
-float-spec =
+pub float_spec : {M : Type 1} → statement M
+float_spec =
     tie.close
     (tie.spec (λ c κs. search rules) (λ c κs. search rules) hexadecimal-requires (λ c. search rules) returns)

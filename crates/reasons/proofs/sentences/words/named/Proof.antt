@@ -9,40 +9,38 @@ use borrow.Author.Rules.{rules}
 use Rattle.reasons.proofs.sentences.words.named.Statement.{statement}
 use Rattle.reasons.proofs.sentences.words.named.Tie as tie
 
-pub named-spec : {M : Type 1} → statement M
+pub named_spec : {M : Type 1} → statement M
 unfolding named_text
-named-spec =
+named_spec =
     tie.close
-    (tie.spec (λ c. search rules) (λ c. search rules) (λ c. search rules) (λ c κs. search rules) (λ c. search rules) (λ c. search rules)
-    (λ c κs. search rules) (λ c. search rules) (λ c. search rules) (λ c κs. search rules) (λ c. search rules) (λ c. search rules) (λ c. search rules)
-    (λ c κs. search rules) (λ c. search rules) (λ c. search rules) (λ c. search rules) (λ c κs. search rules) (λ c. search rules) (λ c. search rules)
-    (λ c κs. search rules) (λ c. search rules) (λ c. search rules) (λ c κs. search rules) (λ c. search rules) (λ c. search rules)
-    (λ c κs. search rules) (λ c. search rules) (λ c. search rules) (λ c. search rules) (λ c κs. search rules) (λ c. search rules) (λ c. search rules)
-    (λ c κs. search rules) (λ c. search rules) (λ c. search rules) (λ c κs. search rules) (λ c. search rules) (λ c. search rules)
-    (λ c κs. search rules) (λ c. search rules) (λ c. search rules) (λ c. search rules) (λ c κs. search rules) (λ c. search rules) (λ c. search rules)
-    (λ c. search rules) (λ c κs. search rules) (λ c. search rules) (λ c. search rules) (λ c κs. search rules)
-    (λ c. (placed-as (sym (ap named_text c.enum_told.given.1)) (nothing-at _ _ (omega (arith, c.before.before.before.requires))), omega arith))
+    (tie.spec (λ c. search rules) (λ c. search rules) (λ c κs. search rules) (λ c. search rules) (λ c κs. search rules) (λ c. search rules)
+    (λ c κs. search rules) (λ c. search rules) (λ c. search rules) (λ c κs. search rules) (λ c. search rules) (λ c. search rules) (λ c κs. search rules)
+    (λ c. search rules) (λ c κs. search rules) (λ c. search rules) (λ c κs. search rules) (λ c. search rules) (λ c κs. search rules) (λ c. search rules)
+    (λ c. search rules) (λ c κs. search rules) (λ c. search rules) (λ c κs. search rules) (λ c. search rules) (λ c κs. search rules) (λ c. search rules)
+    (λ c κs. search rules) (λ c. search rules) (λ c. search rules) (λ c κs. search rules) (λ c. search rules) (λ c. search rules) (λ c κs. search rules)
+    (λ c. search rules) (λ c κs. search rules)
+    (λ c. (placed-as (sym (ap named_text c.in-NoField.is)) (nothing-at _ _ (omega (arith, c.requires))), omega arith))
     (λ c. search rules)
-    (λ c. by_field c.before.before.before.before.before.before.field.given.1
-    (read_back (ascii_bytes ": year ") c.before.before.before.before.before.before.field.given.0.0
-    c.before.before.before.before.before.known-told.given.0.1 c.before.before.signed.ensures))
+    (λ c. by_field c.in-Year.is
+    (read_back (ascii_bytes ": year ") c.in-Year.n
+    (omega arith) c.signed.ensures))
     (λ c. search rules)
-    (λ c. by_field c.before.before.before.before.before.before.field2.given.1
-    (read_back (ascii_bytes ": month ") c.before.before.before.before.before.before.field2.given.0.0
-    c.before.before.before.before.before.known-told2.given.0.1 c.before.before.signed2.ensures))
+    (λ c. by_field c.in-Month.is
+    (read_back (ascii_bytes ": month ") c.in-Month.n
+    (omega arith) c.signed-in-Month.ensures))
     (λ c. search rules)
-    (λ c. by_field c.before.before.before.before.before.before.field3.given.1
-    (read_back (ascii_bytes ": day ") c.before.before.before.before.before.before.field3.given.0.0
-    c.before.before.before.before.before.known-told3.given.0.1 c.before.before.signed3.ensures))
-    (λ c. search rules) (λ c. by_field c.before.before.before.before.before.before.field4.given.1 c.before.before.whole.ensures)
-    (λ c. search rules) (λ c. by_field c.before.before.before.before.before.before.field5.given.1 c.before.before.whole2.ensures)
-    (λ c. search rules) (λ c. by_field c.before.before.before.before.before.before.field6.given.1 c.before.before.float.ensures)
-    (λ c. search rules) (λ c. by_field c.before.before.before.before.before.before.field7.given.1 c.before.before.float2.ensures)
-    (λ c. search rules) (λ c. by_field c.before.before.before.before.before.before.field8.given.1 c.before.before.float3.ensures)
-    (λ c. search rules) (λ c. by_field c.before.before.before.before.before.before.field9.given.1 c.before.before.whole3.ensures)
-    (λ c. search rules) (λ c. by_field c.before.before.before.before.before.before.field10.given.1 c.before.before.float4.ensures)
-    (λ c. search rules) (λ c. by_field c.before.before.before.before.before.before.field11.given.1 c.before.before.float5.ensures)
-    (λ c. search rules) (λ c. by_field c.before.before.before.before.before.before.field12.given.1 c.before.before.float6.ensures)
-    (λ c. search rules) (λ c. by_field c.before.before.before.before.before.before.field13.given.1 c.before.before.whole4.ensures)
-    (λ c. search rules) (λ c. by_field c.before.before.before.before.before.before.field14.given.1 c.before.before.whole5.ensures)
-    (λ c. search rules) (λ c. by_field c.before.before.before.before.before.before.field15.given.1 c.before.before.whole6.ensures))
+    (λ c. by_field c.in-Day.is
+    (read_back (ascii_bytes ": day ") c.in-Day.n
+    (omega arith) c.signed-in-Day.ensures))
+    (λ c. search rules) (λ c. by_field c.in-Hour.is c.whole.ensures)
+    (λ c. search rules) (λ c. by_field c.in-Minute.is c.whole-in-Minute.ensures)
+    (λ c. search rules) (λ c. by_field c.in-Second.is c.float.ensures)
+    (λ c. search rules) (λ c. by_field c.in-Sum.is c.float-in-Sum.ensures)
+    (λ c. search rules) (λ c. by_field c.in-Fraction.is c.float-in-Fraction.ensures)
+    (λ c. search rules) (λ c. by_field c.in-Nanos.is c.whole-in-Nanos.ensures)
+    (λ c. search rules) (λ c. by_field c.in-FirstPart.is c.float-in-FirstPart.ensures)
+    (λ c. search rules) (λ c. by_field c.in-SecondPart.is c.float-in-SecondPart.ensures)
+    (λ c. search rules) (λ c. by_field c.in-Offset.is c.float-in-Offset.ensures)
+    (λ c. search rules) (λ c. by_field c.in-SecondSize.is c.whole-in-SecondSize.ensures)
+    (λ c. search rules) (λ c. by_field c.in-Size.is c.whole-in-Size.ensures)
+    (λ c. search rules) (λ c. by_field c.in-WholeLength.is c.whole-in-WholeLength.ensures))

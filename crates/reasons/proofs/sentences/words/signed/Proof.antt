@@ -11,20 +11,15 @@ use Rattle.reasons.proofs.sentences.words.signed.Tie as tie
 
 signed-requires : tie.Need-signed-requires
 signed-requires c κs =
-    let b = c.before.before.before in
-    let st = b.before.before.before.before in
-    let p = b.place-bytes.ensures.written (omega (arith, st.requires)) in
-    omega (arith, p.ends, placed-length p (omega (arith, st.requires)), st.requires)
+    let p = c.place_bytes-next.ensures.written (omega (arith, c.requires)) in
+    omega (arith, p.ends, placed-length p (omega (arith, c.requires)), c.requires)
 
 returns : tie.Need-returns
 returns c =
-    let s = c.before.before in
-    let b = s.before.before.before.before in
-    let st = b.before.before.before.before in
-    let p = b.place-bytes.ensures.written (omega (arith, st.requires)) in
-    let q = placed-as (ap signed_digits (to_z-of_z st.ranges.n)) s.signed.ensures.0 in
-    let short = s.signed.ensures.1 in
-    (then p q (omega (arith, p.ends, short, st.requires)), omega (arith, p.ends, short, st.requires))
+    let p = c.place_bytes-next.ensures.written (omega (arith, c.requires)) in
+    let q = placed-as (ap signed_digits (to_z-of_z c.ranges.n)) c.signed.ensures.0 in
+    let short = c.signed.ensures.1 in
+    (then p q (omega (arith, p.ends, short, c.requires)), omega (arith, p.ends, short, c.requires))
 
-pub signed-spec : {M : Type 1} → statement M
-signed-spec = tie.close (tie.spec (λ c κs. search rules) signed-requires (λ c. search rules) returns)
+pub signed_spec : {M : Type 1} → statement M
+signed_spec = tie.close (tie.spec (λ c κs. search rules) signed-requires (λ c. search rules) returns)

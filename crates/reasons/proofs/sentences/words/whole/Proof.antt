@@ -8,13 +8,10 @@ use Rattle.reasons.proofs.sentences.words.whole.Tie as tie
 
 returns : tie.Need-returns
 returns c =
-    let s = c.before.before in
-    let b = s.before.before.before.before in
-    let st = b.before.before.before.before in
-    let p = b.place-bytes.ensures.written (omega (arith, st.requires)) in
-    let l = placed-length p (omega (arith, st.requires)) in
-    let q = decimal-placed s.place-decimal.ensures.0 s.place-decimal.ensures.1 (omega (arith, p.ends, l, st.requires)) in
-    (then p q.0 (omega (arith, p.ends, q.1, st.requires)), omega (arith, p.ends, q.1, st.requires))
+    let p = c.place_bytes-next.ensures.written (omega (arith, c.requires)) in
+    let l = placed-length p (omega (arith, c.requires)) in
+    let q = decimal-placed c.place_decimal.ensures.0 c.place_decimal.ensures.1 (omega (arith, p.ends, l, c.requires)) in
+    (then p q.0 (omega (arith, p.ends, q.1, c.requires)), omega (arith, p.ends, q.1, c.requires))
 
-pub whole-spec : {M : Type 1} → statement M
-whole-spec = tie.close (tie.spec (λ c κs. search rules) (λ c κs. search rules) (λ c. search rules) returns)
+pub whole_spec : {M : Type 1} → statement M
+whole_spec = tie.close (tie.spec (λ c κs. search rules) (λ c κs. search rules) (λ c. search rules) returns)

@@ -6,39 +6,39 @@ use borrow.Author.Rules.{rules}
 use Rattle.runs.proofs.by_formula.changes.changed_part.Statement.{statement}
 use Rattle.runs.proofs.by_formula.changes.changed_part.Tie as tie
 
-returns : tie.Need-returns
+returns : tie.Need-returns-then-kind-eq-SHIFT
 unfolding change_of plus
-returns c = rw (eq-eqb _ _ c.if1.true)
+returns c = rw (eq-eqb _ _ c.if-kind-eq-SHIFT.true)
 
-returns-2 : tie.Need-returns-2
+returns-2 : tie.Need-returns-then-kind-eq-TT_TO_TCG
 unfolding change_of
-returns-2 c = rw (ne_eqb _ _ c.before.before.if1.false, eq-eqb _ _ c.before.if2.true) c.tt-to-tcg-part.ensures
+returns-2 c = rw (ne_eqb _ _ c.if-kind-eq-SHIFT.false, eq-eqb _ _ c.if-kind-eq-TT_TO_TCG.true) c.tt_to_tcg_part.ensures
 
-returns-3 : tie.Need-returns-3
+returns-3 : tie.Need-returns-then-kind-eq-TCG_TO_TT
 unfolding change_of
-returns-3 c = rw (ne_eqb _ _ c.before.before.before.if1.false, ne_eqb _ _ c.before.before.if2.false, eq-eqb _ _ c.before.if3.true)
-    c.tcg-to-tt-part.ensures
+returns-3 c = rw (ne_eqb _ _ c.if-kind-eq-SHIFT.false, ne_eqb _ _ c.if-kind-eq-TT_TO_TCG.false, eq-eqb _ _ c.if-kind-eq-TCG_TO_TT.true)
+    c.tcg_to_tt_part.ensures
 
-returns-4 : tie.Need-returns-4
+returns-4 : tie.Need-returns-then-kind-eq-TCB_TO_TDB
 unfolding change_of
 returns-4 c = rw (
-  ne_eqb _ _ c.before.before.before.before.if1.false,
-  ne_eqb _ _ c.before.before.before.if2.false,
-  ne_eqb _ _ c.before.before.if3.false,
-  eq-eqb _ _ c.before.if4.true,
-) c.tcb-to-tdb-part.ensures
+  ne_eqb _ _ c.if-kind-eq-SHIFT.false,
+  ne_eqb _ _ c.if-kind-eq-TT_TO_TCG.false,
+  ne_eqb _ _ c.if-kind-eq-TCG_TO_TT.false,
+  eq-eqb _ _ c.if-kind-eq-TCB_TO_TDB.true,
+) c.tcb_to_tdb_part.ensures
 
-returns-5 : tie.Need-returns-5
+returns-5 : tie.Need-returns
 unfolding change_of
 returns-5 c = rw (
-  ne_eqb _ _ c.before.before.before.before.if1.false,
-  ne_eqb _ _ c.before.before.before.if2.false,
-  ne_eqb _ _ c.before.before.if3.false,
-  ne_eqb _ _ c.before.if4.false,
-) c.tdb-to-tcb-part.ensures
+  ne_eqb _ _ c.if-kind-eq-SHIFT.false,
+  ne_eqb _ _ c.if-kind-eq-TT_TO_TCG.false,
+  ne_eqb _ _ c.if-kind-eq-TCG_TO_TT.false,
+  ne_eqb _ _ c.if-kind-eq-TCB_TO_TDB.false,
+) c.tdb_to_tcb_part.ensures
 
-pub changed-part-spec : {M : Type 1} → statement M
-changed-part-spec =
+pub changed_part_spec : {M : Type 1} → statement M
+changed_part_spec =
     tie.close
     (tie.spec returns (λ c κs. search rules) returns-2 (λ c κs. search rules) returns-3 (λ c κs. search rules) returns-4 (λ c κs. search rules)
     returns-5)

@@ -7,57 +7,57 @@ use Rattle.runs.proofs.by_formula.Puts.{Putting, putting_starts, len1, len2, len
 use Rattle.runs.proofs.by_formula.changes.shift_all.Statement.{statement}
 use Rattle.runs.proofs.by_formula.changes.shift_all.Tie as tie
 
-abbrev invariant-loop : tie.invariant-loop
+abbrev invariant-loop : tie.invariant-loop-i
 invariant-loop days jd1s jd2s n out1₀ out2₀ numbers₀ refused₀ i₀ out1 out2 numbers refused i =
     Putting (changed_stamp (change_of 3 days) jd1s jd2s) n out1₀ out2₀ numbers₀ out1 out2 numbers refused i
 
-abbrev decreases-loop : tie.decreases-loop
+abbrev decreases-loop : tie.decreases-loop-i
 decreases-loop days jd1s jd2s n out1₀ out2₀ numbers₀ refused₀ i₀ out1 out2 numbers refused i = n - i
 
-loop-holds : tie.Need-loop-init invariant-loop decreases-loop
+loop-holds : tie.Need-loop-i-init invariant-loop decreases-loop
 loop-holds c = putting_starts
 
-change-stamp-requires : tie.Need-change-stamp-requires invariant-loop decreases-loop
+change-stamp-requires : tie.Need-change_stamp-number-requires invariant-loop decreases-loop
 change-stamp-requires c κs =
-    let l = c.before.before.before in
-    let p = l.before.before.before.before.before.before.requires in
-    let h = c.before.before.loop-test.true in
-    ((omega (arith, h, p.first), omega (arith, h, p.second)), has-places l.loop.invariant p h)
+    let p = c.requires in
+    let h = c.loop-i-test.true in
+    ((omega (arith, h, p.first), omega (arith, h, p.second)), has-places c.loop-i.invariant p h)
 
-slice-write-numbers : tie.Need-slice-write-numbers invariant-loop decreases-loop
+slice-write-numbers : tie.Need-bounds-numbers-i invariant-loop decreases-loop
 slice-write-numbers c =
-    let test = c.before.before.before.before.before.before.before in
-    let l = test.before in
-    has-byte l.loop.invariant l.before.before.before.before.before.before.requires test.loop-test.true
+    has-byte c.loop-i.invariant c.requires c.loop-i-test.true
 
-one-if-refused-requires : tie.Need-one-if-refused-requires invariant-loop decreases-loop
+one-if-refused-requires : tie.Need-one_if_refused-refused-requires invariant-loop decreases-loop
 one-if-refused-requires c κs = search rules
 
-add-refused : tie.Need-overflow-add-refused invariant-loop decreases-loop
+add-refused : tie.Need-overflow_add-refused invariant-loop decreases-loop
 add-refused c =
-    let test = c.before.before.before.before.before.before.before.before in
-    let l = test.before in
-    record { fits = omega (arith, test.loop-test.true, few l.loop.invariant, l.before.before.before.before.before.before.requires.first, c.one-if-refused.ensures.1) }
+    record {
+      fits = omega (
+        arith,
+        c.loop-i-test.true,
+        few c.loop-i.invariant,
+        c.requires.first,
+        c.one_if_refused-refused.ensures.1,
+      );
+    }
 
-add-i : tie.Need-overflow-add-i invariant-loop decreases-loop
+add-i : tie.Need-overflow_add-i invariant-loop decreases-loop
 add-i c =
-    let test = c.before.before.before.before.before.before.before.before in
-    record { fits = omega (arith, test.loop-test.true, test.before.before.before.before.before.before.before.requires.first) }
+    record { fits = omega (arith, c.loop-i-test.true, c.requires.first) }
 
-loop-less : tie.Need-loop-smaller invariant-loop decreases-loop
-loop-less c = omega (arith, c.before.before.before.before.before.before.before.before.loop-test.true)
+loop-less : tie.Need-loop-i-smaller invariant-loop decreases-loop
+loop-less c = omega (arith, c.loop-i-test.true)
 
-loop-again : tie.Need-loop-preserved invariant-loop decreases-loop
+loop-again : tie.Need-loop-i-preserved invariant-loop decreases-loop
 loop-again c =
-    let put = c.before.before.before.before.before in
-    let test = put.before.before.before in
-    putting_goes test.before.loop.invariant test.loop-test.true put.change-stamp.ensures c.one-if-refused.ensures.0
+    putting_goes c.loop-i.invariant c.loop-i-test.true c.change_stamp-number.ensures c.one_if_refused-refused.ensures.0
 
 returns : tie.Need-returns invariant-loop decreases-loop
-returns c = putting_ends c.before.loop.invariant (omega (arith, c.loop-test.false))
+returns c = putting_ends c.loop-i.invariant (omega (arith, c.loop-i-test.false))
 
-pub shift-all-spec : {M : Type 1} → statement M
-shift-all-spec =
+pub shift_all_spec : {M : Type 1} → statement M
+shift_all_spec =
     tie.close
     (tie.spec invariant-loop decreases-loop loop-holds change-stamp-requires slice-write-numbers one-if-refused-requires add-refused add-i loop-less loop-again
-    (λ c. len1 c.before.loop.invariant) (λ c. len2 c.before.loop.invariant) (λ c. len3 c.before.loop.invariant) returns)
+    (λ c. len1 c.loop-i.invariant) (λ c. len2 c.loop-i.invariant) (λ c. len3 c.loop-i.invariant) returns)

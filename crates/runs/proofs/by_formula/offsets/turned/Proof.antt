@@ -3,5 +3,5 @@ use borrow.Author.Rules.{rules}
 use Rattle.runs.proofs.by_formula.offsets.turned.Statement.{statement}
 use Rattle.runs.proofs.by_formula.offsets.turned.Tie as tie
 
-pub turned-spec : {M : Type 1} → statement M
-turned-spec = tie.close (tie.spec (λ c. rw c.if1.true) (λ c. search rules))
+pub turned_spec : {M : Type 1} → statement M
+turned_spec = tie.close (tie.spec (λ c. rw c.if-earlier.true) (λ c. search rules))

@@ -7,35 +7,35 @@ use borrow.Author.Rules.{rules}
 use Rattle.runs.proofs.by_formula.pairs.formula_of.Statement.{statement}
 use Rattle.runs.proofs.by_formula.pairs.formula_of.Tie as tie
 
-returns : tie.Need-returns
-returns c = found 4 1 3 (sym c.before.before.before.are.ensures ∙ c.before.before.if1.true) c.of-kind.ensures.0
-    (c.of-kind.ensures.1 ∙ c.before.gps-days.ensures) gps_to_tai
+returns : tie.Need-returns-then-are
+returns c = found 4 1 3 (sym c.are.ensures ∙ c.if-are.true) c.of_kind.ensures.0
+    (c.of_kind.ensures.1 ∙ c.gps_days.ensures) gps_to_tai
 
-returns-2 : tie.Need-returns-2
-returns-2 c = found 1 4 3 (sym c.before.before.before.are2.ensures ∙ c.before.before.if2.true) c.of-kind2.ensures.0
-    (c.of-kind2.ensures.1 ∙ (ap neg c.before.gps-days2.ensures)) tai_to_gps
+returns-2 : tie.Need-returns-then-are-2
+returns-2 c = found 1 4 3 (sym c.are-2.ensures ∙ c.if-are-2.true) c.of_kind-then-are-2.ensures.0
+    (c.of_kind-then-are-2.ensures.1 ∙ (ap neg c.gps_days-then-are-2.ensures)) tai_to_gps
 
-returns-3 : tie.Need-returns-3
-returns-3 c = found 1 3 3 (sym c.before.before.before.are3.ensures ∙ c.before.before.if3.true) c.of-kind3.ensures.0
-    (c.of-kind3.ensures.1 ∙ c.before.tt-days.ensures) tai_to_tt
+returns-3 : tie.Need-returns-then-are-3
+returns-3 c = found 1 3 3 (sym c.are-3.ensures ∙ c.if-are-3.true) c.of_kind-then-are-3.ensures.0
+    (c.of_kind-then-are-3.ensures.1 ∙ c.tt_days.ensures) tai_to_tt
 
-returns-4 : tie.Need-returns-4
-returns-4 c = found 3 1 3 (sym c.before.before.before.are4.ensures ∙ c.before.before.if4.true) c.of-kind4.ensures.0
-    (c.of-kind4.ensures.1 ∙ (ap neg c.before.tt-days2.ensures)) tt_to_tai
+returns-4 : tie.Need-returns-then-are-4
+returns-4 c = found 3 1 3 (sym c.are-4.ensures ∙ c.if-are-4.true) c.of_kind-then-are-4.ensures.0
+    (c.of_kind-then-are-4.ensures.1 ∙ (ap neg c.tt_days-then-are-4.ensures)) tt_to_tai
 
-returns-5 : tie.Need-returns-5
-returns-5 c = found 3 5 4 (sym c.before.before.are5.ensures ∙ c.before.if5.true) c.of-kind5.ensures.0 c.of-kind5.ensures.1 (tt-to-tcg _)
+returns-5 : tie.Need-returns-then-are-5
+returns-5 c = found 3 5 4 (sym c.are-5.ensures ∙ c.if-are-5.true) c.of_kind-then-are-5.ensures.0 c.of_kind-then-are-5.ensures.1 (tt-to-tcg _)
 
-returns-6 : tie.Need-returns-6
-returns-6 c = found 5 3 5 (sym c.before.before.are6.ensures ∙ c.before.if6.true) c.of-kind6.ensures.0 c.of-kind6.ensures.1 (tcg-to-tt _)
+returns-6 : tie.Need-returns-then-are-6
+returns-6 c = found 5 3 5 (sym c.are-6.ensures ∙ c.if-are-6.true) c.of_kind-then-are-6.ensures.0 c.of_kind-then-are-6.ensures.1 (tcg-to-tt _)
 
-returns-7 : tie.Need-returns-7
-returns-7 c = found 6 7 6 (sym c.before.before.are7.ensures ∙ c.before.if7.true) c.of-kind7.ensures.0 c.of-kind7.ensures.1 (tcb-to-tdb _)
+returns-7 : tie.Need-returns-then-are-7
+returns-7 c = found 6 7 6 (sym c.are-7.ensures ∙ c.if-are-7.true) c.of_kind-then-are-7.ensures.0 c.of_kind-then-are-7.ensures.1 (tcb-to-tdb _)
 
-returns-8 : tie.Need-returns-8
-returns-8 c = found 7 6 7 (sym c.before.before.are8.ensures ∙ c.before.if8.true) c.of-kind8.ensures.0 c.of-kind8.ensures.1 (tdb-to-tcb _)
+returns-8 : tie.Need-returns-then-are-8
+returns-8 c = found 7 6 7 (sym c.are-8.ensures ∙ c.if-are-8.true) c.of_kind-then-are-8.ensures.0 c.of_kind-then-are-8.ensures.1 (tdb-to-tcb _)
 
-offset-kind-requires : tie.Need-offset-kind-requires
+offset-kind-requires : tie.Need-offset_kind-requires
 unfolding needs_none
 offset-kind-requires c κs =
     let at-are7 = c.before.before.before in
@@ -54,24 +54,24 @@ offset-kind-requires c κs =
     rw (
       (sym
           at-are.are.ensures
-          ∙ at-if1.if1.false),
-      (sym at-are2.are2.ensures
-          ∙ at-if2.if2.false),
-      (sym at-are3.are3.ensures
-          ∙ at-if3.if3.false),
-      (sym at-are4.are4.ensures
-          ∙ at-if4.if4.false),
-      (sym at-are5.are5.ensures ∙ at-if5.if5.false),
-      (sym at-are6.are6.ensures ∙ at-if6.if6.false),
-      (sym at-are7.are7.ensures ∙ c.before.before.if7.false),
-      (sym c.before.are8.ensures ∙ c.if8.false),
+          ∙ at-if1.if-are.false),
+      (sym at-are2.are-2.ensures
+          ∙ at-if2.if-are-2.false),
+      (sym at-are3.are-3.ensures
+          ∙ at-if3.if-are-3.false),
+      (sym at-are4.are-4.ensures
+          ∙ at-if4.if-are-4.false),
+      (sym at-are5.are-5.ensures ∙ at-if5.if-are-5.false),
+      (sym at-are6.are-6.ensures ∙ at-if6.if-are-6.false),
+      (sym at-are7.are-7.ensures ∙ c.if-are-7.false),
+      (sym c.are-8.ensures ∙ c.if-are-8.false),
     )
 
-returns-9 : tie.Need-returns-9
-returns-9 c = kept c.of-kind9.ensures.0 c.of-kind9.ensures.1 c.before.offset-kind.ensures
+returns-9 : tie.Need-returns
+returns-9 c = kept c.of_kind-2.ensures.0 c.of_kind-2.ensures.1 c.offset_kind.ensures
 
-pub formula-of-spec : {M : Type 1} → statement M
-formula-of-spec =
+pub formula_of_spec : {M : Type 1} → statement M
+formula_of_spec =
     tie.close
     (tie.spec (λ c κs. search rules) (λ c κs. search rules) (λ c κs. search rules) returns (λ c κs. search rules) (λ c κs. search rules)
     (λ c κs. search rules) returns-2 (λ c κs. search rules) (λ c κs. search rules) (λ c κs. search rules) returns-3 (λ c κs. search rules)

@@ -5,17 +5,14 @@ use Rattle.utc.proofs.iso_texts.EachForm.{table-refused, table_taken}
 use Rattle.utc.proofs.iso_texts.by_rule.to_iso8601.Statement.{statement}
 use Rattle.utc.proofs.iso_texts.by_rule.to_iso8601.Tie as tie
 
-returns : tie.Need-returns
-returns c = table-refused standard_form _ _ _ c.before.table-refusal.ensures c.if1.true
+returns : tie.Need-returns-then-number-ne0
+returns c = table-refused standard_form _ _ _ c.table_refusal-number.ensures c.if-number-ne0.true
 
-returns-2 : tie.Need-returns-2
+returns-2 : tie.Need-returns
 returns-2 c =
-    let v = c.before.before in
-    let z = v.before.before.before.before.before in
-    let i = z.before in
-    table_taken standard_form _ _ _ i.before.table-refusal.ensures i.if1.false z.size_of.ensures v.to-iso8601-by-arrays.ensures
+    table_taken standard_form _ _ _ c.table_refusal-number.ensures c.if-number-ne0.false c.size_of.ensures c.to_iso8601_by_arrays.ensures
 
-pub to-iso8601-spec : {M : Type 1} → statement M
-to-iso8601-spec =
+pub to_iso8601_spec : {M : Type 1} → statement M
+to_iso8601_spec =
     tie.close
     (tie.spec (λ c κs. search rules) returns (λ c κs. search rules) (λ c κs. search rules) (λ c. search rules) returns-2)

@@ -9,13 +9,13 @@ use borrow.Author.Rules.{rules}
 use Rattle.utc.proofs.iso_texts.by_rule.with_rule.Statement.{statement}
 use Rattle.utc.proofs.iso_texts.by_rule.with_rule.Tie as tie
 
-returns : tie.Need-returns
+returns : tie.Need-returns-in-Refused
 unfolding text_by_rule_outcome text_outcome with_rule onward
-returns c = ap (λ (x : TextAnswer). with_rule (text_outcome x) c.before.before.before.args.rule) (sym c.before.text.given.1)
+returns c = ap (λ (x : TextAnswer). with_rule (text_outcome x) c.args.rule) (sym c.in-Refused.is)
 
-returns-2 : tie.Need-returns-2
+returns-2 : tie.Need-returns-in-Written
 unfolding text_by_rule_outcome text_outcome with_rule onward
-returns-2 c = ap (λ (x : TextAnswer). with_rule (text_outcome x) c.before.before.before.args.rule) (sym c.before.text2.given.1)
+returns-2 c = ap (λ (x : TextAnswer). with_rule (text_outcome x) c.args.rule) (sym c.in-Written.is)
 
-pub with-rule-spec : {M : Type 1} → statement M
-with-rule-spec = tie.close (tie.spec (λ c. search rules) (λ c. search rules) returns returns-2)
+pub with_rule_spec : {M : Type 1} → statement M
+with_rule_spec = tie.close (tie.spec (λ c. search rules) (λ c. search rules) returns returns-2)

@@ -11,30 +11,24 @@ use borrow.Author.Rules.{rules}
 use Rattle.utc.proofs.iso_texts.expanded.put_next_midnight.Statement.{statement}
 use Rattle.utc.proofs.iso_texts.expanded.put_next_midnight.Tie as tie
 
-returns : tie.Need-returns
+returns : tie.Need-returns-in-Refused
 unfolding next_outcome
 returns c =
-    let v = c.before.before.before in
-    let s = v.before.before.before.before.before in
-    let f : SFits w32 s.args.date.year = record { sfits = v.before.struct_told.given.0.1 } in
-    call-refused _ _ _ (next-refused expanded_text s.args.date _
-    (sym (read-fields next_of s.args.date f s.requires.0 s.requires.1) ∙ sym v.next-calendar-day.ensures
-    ∙ ap next_outcome c.before.number.given.1))
+    let f : SFits w32 c.args.date.year = record { sfits = c.struct_told-1.given.0.1 } in
+    call-refused _ _ _ (next-refused expanded_text c.args.date _
+    (sym (read-fields next_of c.args.date f c.requires.0 c.requires.1) ∙ sym c.next_calendar_day.ensures
+    ∙ ap next_outcome c.in-Refused.is))
 
-returns-2 : tie.Need-returns-2
+returns-2 : tie.Need-returns-in-Date
 unfolding next_outcome
 returns-2 c =
-    let p = c.before.before in
-    let n = p.before.before.before in
-    let v = n.before.before in
-    let s = v.before.before.before.before.before in
-    let f : SFits w32 s.args.date.year = record { sfits = v.before.struct_told.given.0.1 } in
-    call-put _ _ _ _ _ (next-given expanded_text s.args.date _
-    (sym (read-fields next_of s.args.date f s.requires.0 s.requires.1) ∙ sym v.next-calendar-day.ensures ∙ ap next_outcome n.next.given.1))
-    p.put-text-expanded.ensures
+    let f : SFits w32 c.args.date.year = record { sfits = c.struct_told-1.given.0.1 } in
+    call-put _ _ _ _ _ (next-given expanded_text c.args.date _
+    (sym (read-fields next_of c.args.date f c.requires.0 c.requires.1) ∙ sym c.next_calendar_day.ensures ∙ ap next_outcome c.in-Date.is))
+    c.put_text_expanded.ensures
 
-pub put-next-midnight-spec : {M : Type 1} → statement M
-put-next-midnight-spec =
+pub put_next_midnight_spec : {M : Type 1} → statement M
+put_next_midnight_spec =
     tie.close
     (tie.spec (λ c. search rules) (λ c. search rules) (λ c κs. search rules) (λ c. search rules) (λ c. search rules) (λ c κs. search rules) returns
     (λ c. search rules) returns-2)

@@ -13,15 +13,15 @@ use Rattle.utc.proofs.run_texts.kept_day.day_bytes.Tie as tie
 returns : tie.Need-returns
 unfolding time_of
 returns c =
-    let a = c.before.args in
-    let m = c.minute-of-day.result in
+    let a = c.args in
+    let m = c.minute_of_day-minute.result in
     let k = a.millis in
-    let e : m ≡ minute_of k = c.minute-of-day.ensures in
-    ap (λ (z : List ℕ). eleven a.t1 ++ z) (time-written m (k - m * 60000) (omega (arith, e)) (omega (arith, e, c.before.requires))
+    let e : m ≡ minute_of k = c.minute_of_day-minute.ensures in
+    ap (λ (z : List ℕ). eleven a.d ++ z) (time-written m (k - m * 60000) (omega (arith, e)) (omega (arith, e, c.requires))
     ∙ ap (λ (n : ℕ). time_characters (record { hour = n / 60; minute = n % 60; second = (k - n * 60000) / 1000; milli = (k - n * 60000) % 1000 })) e)
 
-pub day-bytes-spec : {M : Type 1} → statement M
-day-bytes-spec =
+pub day_bytes_spec : {M : Type 1} → statement M
+day_bytes_spec =
     tie.close
     (tie.spec (λ c κs. search rules) (λ c. search rules) (λ c. search rules) (λ c. search rules) (λ c. search rules) (λ c. search rules)
     (λ c. search rules) (λ c. search rules) (λ c. search rules) (λ c. search rules) (λ c. search rules) (λ c. search rules) (λ c. search rules)

@@ -6,34 +6,27 @@ use borrow.Author.Rules.{rules}
 use Rattle.utc.proofs.shown.half_even.even_count.Statement.{statement}
 use Rattle.utc.proofs.shown.half_even.even_count.Tie as tie
 
-even-millis-requires : tie.Need-even-millis-requires
-even-millis-requires c κs =
-    let t = c.before.before in
-    let g = t.before in (
-      omega (
-        arith,
-        g.grid-units.ensures,
-        whole-small g.before.args.fraction g.before.args.leap (sym t.in_whole.ensures ∙ c.before.if1.true),
-      ),
-      c.day-end.ensures.1,
-    )
+even-millis-requires : tie.Need-even_millis-requires
+even-millis-requires c κs = (
+  omega (
+    arith,
+    c.grid_units-units.ensures,
+    whole-small c.args.fraction c.args.leap (sym c.in_whole.ensures ∙ c.if-in_whole.true),
+  ),
+  c.day_end.ensures.1,
+)
 
-returns : tie.Need-returns
+returns : tie.Need-returns-then-in_whole
 returns c =
-    let d = c.before in
-    let t = d.before.before in
-    let g = t.before in
-    c.even-millis.ensures
-    ∙ count-in-whole g.before.args.fraction g.before.args.leap g.grid-units.result d.day-end.result g.grid-units.ensures
-    d.day-end.ensures.0 (sym t.in_whole.ensures ∙ d.before.if1.true)
+    c.even_millis.ensures
+    ∙ count-in-whole c.args.fraction c.args.leap c.grid_units-units.result c.day_end.result c.grid_units-units.ensures
+    c.day_end.ensures.0 (sym c.in_whole.ensures ∙ c.if-in_whole.true)
 
-returns-2 : tie.Need-returns-2
+returns-2 : tie.Need-returns-else-in_whole
 returns-2 c =
-    let t = c.before.before in
-    let g = t.before in
-    c.float-count.ensures ∙ count-by-float g.before.args.fraction g.before.args.leap (sym t.in_whole.ensures ∙ c.before.if1.false)
+    c.float_count.ensures ∙ count-by-float c.args.fraction c.args.leap (sym c.in_whole.ensures ∙ c.if-in_whole.false)
 
-pub even-count-spec : {M : Type 1} → statement M
-even-count-spec =
+pub even_count_spec : {M : Type 1} → statement M
+even_count_spec =
     tie.close
     (tie.spec (λ c κs. search rules) (λ c κs. search rules) (λ c κs. search rules) even-millis-requires (λ c κs. search rules) returns returns-2)

@@ -7,13 +7,13 @@ use borrow.Author.Rules.{rules}
 use Rattle.utc.proofs.shown.half_even.even_millis.Statement.{statement}
 use Rattle.utc.proofs.shown.half_even.even_millis.Tie as tie
 
-mul_low : tie.Need-overflow-mul-low
+mul_low : tie.Need-overflow_mul-low
 mul_low c = record { fits = omega (arith, part-most (c.args.units % 67108864) c.args.day (omega arith), c.requires.1) }
 
-mul-high : tie.Need-overflow-mul-high
+mul-high : tie.Need-overflow_mul-high
 mul-high c = record { fits = omega (arith, part-most (c.args.units / 67108864) c.args.day (omega (arith, c.requires.0)), c.requires.1) }
 
-add-high : tie.Need-overflow-add-high
+add-high : tie.Need-overflow_add-high
 add-high c = record {
   fits = omega (
     arith,
@@ -23,7 +23,7 @@ add-high c = record {
   );
 }
 
-nearest-even-requires : tie.Need-nearest-even-requires
+nearest-even-requires : tie.Need-nearest_even-requires
 nearest-even-requires c κs = omega (
   arith,
   part-most (c.args.units % 67108864) c.args.day (omega arith),
@@ -32,9 +32,9 @@ nearest-even-requires c κs = omega (
 )
 
 returns : tie.Need-returns
-returns c = c.nearest-even.ensures ∙ halves-even c.before.args.units c.before.args.day
+returns c = c.nearest_even.ensures ∙ halves-even c.args.units c.args.day
 
-pub even-millis-spec : {M : Type 1} → statement M
-even-millis-spec =
+pub even_millis_spec : {M : Type 1} → statement M
+even_millis_spec =
     tie.close
     (tie.spec mul_low mul-high add-high (λ c. search rules) (λ c. search rules) nearest-even-requires returns)

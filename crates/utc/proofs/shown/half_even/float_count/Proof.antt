@@ -10,17 +10,14 @@ use Rattle.utc.proofs.shown.half_even.float_count.Tie as tie
 
 returns : tie.Need-returns
 returns c =
-    let z = c.before.before in
-    let s = z.before in
-    let p = s.before in
-    c.of-halves.ensures
-    ∙ float_is p.before.args.fraction p.before.args.leap p.twice-millis.result s.saturating-i64.result z.from_zero.result
-    c.before.worth.result
-    p.twice-millis.ensures s.saturating-i64.ensures
-    (z.from_zero.ensures ∙ ap from_zero (to_z-of_z {w = w64} {z = s.saturating-i64.result} (record { sfits = s.saturating-i64.type-inv })))
-    c.before.worth.ensures
+    c.of_halves.ensures
+    ∙ float_is c.args.fraction c.args.leap c.twice_millis-product.result c.saturating_i64.result c.from_zero-halves.result
+    c.worth.result
+    c.twice_millis-product.ensures c.saturating_i64.ensures
+    (c.from_zero-halves.ensures ∙ ap from_zero (to_z-of_z {w = w64} {z = c.saturating_i64.result} (record { sfits = c.saturating_i64.type_inv })))
+    c.worth.ensures
 
-pub float-count-spec : {M : Type 1} → statement M
-float-count-spec =
+pub float_count_spec : {M : Type 1} → statement M
+float_count_spec =
     tie.close
     (tie.spec (λ c κs. search rules) (λ c κs. search rules) (λ c κs. search rules) (λ c κs. search rules) (λ c κs. search rules) returns)

@@ -11,8 +11,8 @@ use Rattle.utc.proofs.shown.half_even.grid_units.Tie as tie
 returns : tie.Need-returns
 unfolding grid_units
 returns c = c.from_zero.ensures
-    ∙ ap from_zero (to_z-of_z {w = w64} {z = c.before.saturating-i64.result} (record { sfits = c.before.saturating-i64.type-inv })
-    ∙ c.before.saturating-i64.ensures)
+    ∙ ap from_zero (to_z-of_z {w = w64} {z = c.saturating_i64.result} (record { sfits = c.saturating_i64.type_inv })
+    ∙ c.saturating_i64.ensures)
 
-pub grid-units-spec : {M : Type 1} → statement M
-grid-units-spec = tie.close (tie.spec (λ c κs. search rules) (λ c κs. search rules) returns)
+pub grid_units_spec : {M : Type 1} → statement M
+grid_units_spec = tie.close (tie.spec (λ c κs. search rules) (λ c κs. search rules) returns)

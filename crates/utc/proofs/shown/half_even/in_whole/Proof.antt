@@ -6,18 +6,16 @@ use borrow.Author.Rules.{rules}
 use Rattle.utc.proofs.shown.half_even.in_whole.Statement.{statement}
 use Rattle.utc.proofs.shown.half_even.in_whole.Tie as tie
 
-returns : tie.Need-returns
+returns : tie.Need-returns-then-worth
 returns c =
-    let w = c.before.before in
-    c.whole-seconds.ensures ∙ sym
-    (whole-test w.before.args.fraction w.before.args.leap w.before.args.units w.worth.result true w.before.requires w.worth.ensures
-    c.before.if1.true)
+    c.whole_seconds.ensures ∙ sym
+    (whole-test c.args.fraction c.args.leap c.args.units c.worth.result true c.requires c.worth.ensures
+    c.if-worth.true)
 
-returns-2 : tie.Need-returns-2
+returns-2 : tie.Need-returns
 returns-2 c =
-    let w = c.before in
-    sym (whole-test w.before.args.fraction w.before.args.leap w.before.args.units w.worth.result false w.before.requires w.worth.ensures
-    c.if1.false)
+    sym (whole-test c.args.fraction c.args.leap c.args.units c.worth.result false c.requires c.worth.ensures
+    c.if-worth.false)
 
-pub in-whole-spec : {M : Type 1} → statement M
-in-whole-spec = tie.close (tie.spec (λ c κs. search rules) (λ c κs. search rules) returns returns-2)
+pub in_whole_spec : {M : Type 1} → statement M
+in_whole_spec = tie.close (tie.spec (λ c κs. search rules) (λ c κs. search rules) returns returns-2)

@@ -6,23 +6,17 @@ use borrow.Author.Rules.{rules}
 use Rattle.utc.proofs.shown.half_even.time_shown_half_even.Statement.{statement}
 use Rattle.utc.proofs.shown.half_even.time_shown_half_even.Tie as tie
 
-returns : tie.Need-returns
+returns : tie.Need-returns-then-count-day_end
 returns c =
-    let e = c.before.before in
-    let n = e.before in
-    let w = n.before in
-    at-time even_count w.before.args.fraction w.before.args.leap w.whole-leap.result n.even-count.result e.day-end.result
-    w.whole-leap.ensures n.even-count.ensures e.day-end.ensures.0 c.time-of.result c.time-of.ensures c.before.if1.true
+    at-time even_count c.args.fraction c.args.leap c.whole_leap-day_leap.result c.even_count-count.result c.day_end.result
+    c.whole_leap-day_leap.ensures c.even_count-count.ensures c.day_end.ensures.0 c.time_of.result c.time_of.ensures c.if-count-day_end.true
 
-returns-2 : tie.Need-returns-2
+returns-2 : tie.Need-returns-else-count-day_end
 returns-2 c =
-    let e = c.before in
-    let n = e.before in
-    let w = n.before in
-    at_end even_count w.before.args.fraction w.before.args.leap w.whole-leap.result n.even-count.result e.day-end.result
-    w.whole-leap.ensures n.even-count.ensures e.day-end.ensures.0 (omega (arith, c.if1.false))
+    at_end even_count c.args.fraction c.args.leap c.whole_leap-day_leap.result c.even_count-count.result c.day_end.result
+    c.whole_leap-day_leap.ensures c.even_count-count.ensures c.day_end.ensures.0 (omega (arith, c.if-count-day_end.false))
 
-pub time-shown-half-even-spec : {M : Type 1} → statement M
-time-shown-half-even-spec =
+pub time_shown_half_even_spec : {M : Type 1} → statement M
+time_shown_half_even_spec =
     tie.close
     (tie.spec (λ c κs. search rules) (λ c κs. search rules) (λ c κs. search rules) (λ c. search rules) (λ c κs. search rules) returns returns-2)

@@ -11,5 +11,5 @@ returns : tie.Need-returns
 unfolding twice
 returns c = ap (λ (x : Float). mul binary64 two-f (mul binary64 thousand_f x)) c.seconds.ensures
 
-pub twice-millis-spec : {M : Type 1} → statement M
-twice-millis-spec = tie.close (tie.spec (λ c κs. search rules) returns)
+pub twice_millis_spec : {M : Type 1} → statement M
+twice_millis_spec = tie.close (tie.spec (λ c κs. search rules) returns)

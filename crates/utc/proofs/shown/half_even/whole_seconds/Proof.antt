@@ -16,13 +16,13 @@ other : (x r : Float) → eq x nought ≡ false → r ≡ abs x → eq r one ≡
 unfolding day_is_whole
 other x r e a = ap (λ (z : Float). eq z one) a ∙ sym (ap (λ (b : Bool). cond b true (eq (abs x) one)) e)
 
-returns : tie.Need-returns
+returns : tie.Need-returns-then-leap
 unfolding of_bits
-returns c = zero c.before.args.leap c.if1.true
+returns c = zero c.args.leap c.if-leap.true
 
-returns-2 : tie.Need-returns-2
+returns-2 : tie.Need-returns
 unfolding of_bits
-returns-2 c = other c.before.before.args.leap c.fabs.result c.before.if1.false c.fabs.ensures
+returns-2 c = other c.args.leap c.fabs.result c.if-leap.false c.fabs.ensures
 
-pub whole-seconds-spec : {M : Type 1} → statement M
-whole-seconds-spec = tie.close (tie.spec returns (λ c κs. search rules) returns-2)
+pub whole_seconds_spec : {M : Type 1} → statement M
+whole_seconds_spec = tie.close (tie.spec returns (λ c κs. search rules) returns-2)

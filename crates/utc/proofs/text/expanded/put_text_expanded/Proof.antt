@@ -6,28 +6,20 @@ use borrow.Author.Rules.{rules}
 use Rattle.utc.proofs.text.expanded.put_text_expanded.Statement.{statement}
 use Rattle.utc.proofs.text.expanded.put_text_expanded.Tie as tie
 
-returns : tie.Need-returns
+returns : tie.Need-returns-then-is_basic
 returns c =
-    let p = c.before.before in
-    let i = p.before.before in
-    let s = i.before.before in
-    let n = s.before.before in
-    of_expanded n.before.before.before.args.date n.before.before.before.args.time n.negative.result true s.size.result _ _ _
-    (record { sfits = n.before.struct_told.given.0.1 }) n.negative.ensures s.size.ensures
-    (sym i.before.is-basic.ensures ∙ i.if1.true) p.put-basic.ensures
+    of_expanded c.args.date c.args.time c.negative-negative.result true c.size-size.result _ _ _
+    (record { sfits = c.struct_told-1.given.0.1 }) c.negative-negative.ensures c.size-size.ensures
+    (sym c.is_basic.ensures ∙ c.if-is_basic.true) c.put_basic.ensures
 
-returns-2 : tie.Need-returns-2
+returns-2 : tie.Need-returns
 returns-2 c =
-    let p = c.before.before in
-    let i = p.before.before in
-    let s = i.before.before in
-    let n = s.before.before in
-    of_expanded n.before.before.before.args.date n.before.before.before.args.time n.negative.result false s.size.result _ _ _
-    (record { sfits = n.before.struct_told.given.0.1 }) n.negative.ensures s.size.ensures
-    (sym i.before.is-basic.ensures ∙ i.if1.false) p.put-signed.ensures
+    of_expanded c.args.date c.args.time c.negative-negative.result false c.size-size.result _ _ _
+    (record { sfits = c.struct_told-1.given.0.1 }) c.negative-negative.ensures c.size-size.ensures
+    (sym c.is_basic.ensures ∙ c.if-is_basic.false) c.put_signed.ensures
 
-pub put-text-expanded-spec : {M : Type 1} → statement M
-put-text-expanded-spec =
+pub put_text_expanded_spec : {M : Type 1} → statement M
+put_text_expanded_spec =
     tie.close
     (tie.spec (λ c κs. search rules) (λ c κs. search rules) (λ c κs. search rules) (λ c κs. search rules) (λ c. search rules) returns
     (λ c κs. search rules) (λ c. search rules) returns-2)

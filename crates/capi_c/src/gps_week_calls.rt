@@ -1,0 +1,30 @@
+// GPS weeks and milliseconds of the week to GPS dates and back, and the whole week of its ten lowest bits.
+ghost use Rattle.std.specs.Prelude.{◌≡◌};
+ghost use Rattle.julian.specs.JulianDate.{julian};
+ghost use Rattle.scales.specs.gps_weeks.WeekDate.{week_date};
+ghost use Rattle.scales.specs.gps_weeks.WeekOf.{week_of};
+ghost use Rattle.scales.specs.gps_weeks.FullWeek.{full_week};
+ghost use Rattle.c_answers.specs.Delivery.{code, in_bytes, Delivered};
+ghost use Rattle.c_answers.specs.Fields.{julian_bytes};
+ghost use Rattle.capi.specs.WeekBytes.{week_bytes};
+
+#[unsafe(no_mangle)]
+pub extern "C" fn ct_gps_from_week(week: u32, millis: u32, out: &mut [u8]) -> i64
+    ensures { Delivered (in_bytes julian_bytes (week_date week millis)) out.old result out.new }
+{
+    capi::gps_week_calls::ct_gps_from_week(week, millis, out)
+}
+
+#[unsafe(no_mangle)]
+pub extern "C" fn ct_gps_to_week(jd1: f64, jd2: f64, out: &mut [u8]) -> i64
+    ensures { Delivered (in_bytes week_bytes (week_of (julian jd1 jd2))) out.old result out.new }
+{
+    capi::gps_week_calls::ct_gps_to_week(jd1, jd2, out)
+}
+
+#[unsafe(no_mangle)]
+pub extern "C" fn ct_gps_full_week(ten_bits: u32, reference: u32) -> i64
+    ensures { result ≡ code (full_week ten_bits reference) }
+{
+    capi::gps_week_calls::ct_gps_full_week(ten_bits, reference)
+}

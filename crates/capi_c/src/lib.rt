@@ -1,0 +1,28 @@
+// The static library for C: each function calls the one of its name in `capi`, and promises what that one does. Written by tools/exports.
+#![tactic(auto)]
+
+pub mod block_calls;
+pub mod calendar_calls;
+pub mod date_calls;
+pub mod date_run_calls;
+pub mod gps_week_calls;
+pub mod line_listing_calls;
+pub mod line_up_calls;
+pub mod list_calls;
+pub mod offset_calls;
+pub mod order_calls;
+pub mod reader_calls;
+pub mod reason_calls;
+pub mod run_bytes_calls;
+pub mod run_calls;
+pub mod same_stamp_calls;
+pub mod scale_calls;
+pub mod since_launch_calls;
+pub mod standby_calls;
+pub mod summary_calls;
+pub mod text_calls;
+pub mod text_run_calls;
+pub mod tick_calls;
+pub mod utc_calls;
+pub mod version_calls;
+pub mod walk_calls;

@@ -1,0 +1,118 @@
+// The sixteen scale conversions that read no table: a date's two parts in, the two parts of the date in the other scale out.
+ghost use Rattle.julian.specs.JulianDate.{julian};
+ghost use Rattle.scales.specs.Conversions.{answer_of, gps-tai, tai-gps, tai-tt, tt-tai, tai-tcg, tcg-tai, tt_tcg, tcg-tt, tcb-tdb, tdb-tcb, tt-tdb};
+ghost use Rattle.scales.specs.Conversions.{tdb-tt, ut1-tai, tai-ut1, ut1-tt, tt-ut1};
+ghost use Rattle.c_answers.specs.Delivery.{in_bytes, Delivered};
+ghost use Rattle.c_answers.specs.Fields.{julian_bytes};
+
+#[unsafe(no_mangle)]
+pub extern "C" fn ct_gps_to_tai(jd1: f64, jd2: f64, out: &mut [u8]) -> i64
+    ensures { Delivered (in_bytes julian_bytes (answer_of gps-tai (julian jd1 jd2))) out.old result out.new }
+{
+    capi::scale_calls::ct_gps_to_tai(jd1, jd2, out)
+}
+
+#[unsafe(no_mangle)]
+pub extern "C" fn ct_tai_to_gps(jd1: f64, jd2: f64, out: &mut [u8]) -> i64
+    ensures { Delivered (in_bytes julian_bytes (answer_of tai-gps (julian jd1 jd2))) out.old result out.new }
+{
+    capi::scale_calls::ct_tai_to_gps(jd1, jd2, out)
+}
+
+#[unsafe(no_mangle)]
+pub extern "C" fn ct_tai_to_tt(jd1: f64, jd2: f64, out: &mut [u8]) -> i64
+    ensures { Delivered (in_bytes julian_bytes (answer_of tai-tt (julian jd1 jd2))) out.old result out.new }
+{
+    capi::scale_calls::ct_tai_to_tt(jd1, jd2, out)
+}
+
+#[unsafe(no_mangle)]
+pub extern "C" fn ct_tt_to_tai(jd1: f64, jd2: f64, out: &mut [u8]) -> i64
+    ensures { Delivered (in_bytes julian_bytes (answer_of tt-tai (julian jd1 jd2))) out.old result out.new }
+{
+    capi::scale_calls::ct_tt_to_tai(jd1, jd2, out)
+}
+
+#[unsafe(no_mangle)]
+pub extern "C" fn ct_tai_to_tcg(jd1: f64, jd2: f64, out: &mut [u8]) -> i64
+    ensures { Delivered (in_bytes julian_bytes (answer_of tai-tcg (julian jd1 jd2))) out.old result out.new }
+{
+    capi::scale_calls::ct_tai_to_tcg(jd1, jd2, out)
+}
+
+#[unsafe(no_mangle)]
+pub extern "C" fn ct_tcg_to_tai(jd1: f64, jd2: f64, out: &mut [u8]) -> i64
+    ensures { Delivered (in_bytes julian_bytes (answer_of tcg-tai (julian jd1 jd2))) out.old result out.new }
+{
+    capi::scale_calls::ct_tcg_to_tai(jd1, jd2, out)
+}
+
+#[unsafe(no_mangle)]
+pub extern "C" fn ct_tt_to_tcg(jd1: f64, jd2: f64, out: &mut [u8]) -> i64
+    ensures { Delivered (in_bytes julian_bytes (answer_of tt_tcg (julian jd1 jd2))) out.old result out.new }
+{
+    capi::scale_calls::ct_tt_to_tcg(jd1, jd2, out)
+}
+
+#[unsafe(no_mangle)]
+pub extern "C" fn ct_tcg_to_tt(jd1: f64, jd2: f64, out: &mut [u8]) -> i64
+    ensures { Delivered (in_bytes julian_bytes (answer_of tcg-tt (julian jd1 jd2))) out.old result out.new }
+{
+    capi::scale_calls::ct_tcg_to_tt(jd1, jd2, out)
+}
+
+#[unsafe(no_mangle)]
+pub extern "C" fn ct_tcb_to_tdb(jd1: f64, jd2: f64, out: &mut [u8]) -> i64
+    ensures { Delivered (in_bytes julian_bytes (answer_of tcb-tdb (julian jd1 jd2))) out.old result out.new }
+{
+    capi::scale_calls::ct_tcb_to_tdb(jd1, jd2, out)
+}
+
+#[unsafe(no_mangle)]
+pub extern "C" fn ct_tdb_to_tcb(jd1: f64, jd2: f64, out: &mut [u8]) -> i64
+    ensures { Delivered (in_bytes julian_bytes (answer_of tdb-tcb (julian jd1 jd2))) out.old result out.new }
+{
+    capi::scale_calls::ct_tdb_to_tcb(jd1, jd2, out)
+}
+
+#[unsafe(no_mangle)]
+pub extern "C" fn ct_tt_to_tdb_with_offset(jd1: f64, jd2: f64, seconds: f64, out: &mut [u8]) -> i64
+    ensures { Delivered (in_bytes julian_bytes (answer_of (tt-tdb seconds) (julian jd1 jd2))) out.old result out.new }
+{
+    capi::scale_calls::ct_tt_to_tdb_with_offset(jd1, jd2, seconds, out)
+}
+
+#[unsafe(no_mangle)]
+pub extern "C" fn ct_tdb_to_tt_with_offset(jd1: f64, jd2: f64, seconds: f64, out: &mut [u8]) -> i64
+    ensures { Delivered (in_bytes julian_bytes (answer_of (tdb-tt seconds) (julian jd1 jd2))) out.old result out.new }
+{
+    capi::scale_calls::ct_tdb_to_tt_with_offset(jd1, jd2, seconds, out)
+}
+
+#[unsafe(no_mangle)]
+pub extern "C" fn ct_ut1_to_tai_with_offset(jd1: f64, jd2: f64, seconds: f64, out: &mut [u8]) -> i64
+    ensures { Delivered (in_bytes julian_bytes (answer_of (ut1-tai seconds) (julian jd1 jd2))) out.old result out.new }
+{
+    capi::scale_calls::ct_ut1_to_tai_with_offset(jd1, jd2, seconds, out)
+}
+
+#[unsafe(no_mangle)]
+pub extern "C" fn ct_tai_to_ut1_with_offset(jd1: f64, jd2: f64, seconds: f64, out: &mut [u8]) -> i64
+    ensures { Delivered (in_bytes julian_bytes (answer_of (tai-ut1 seconds) (julian jd1 jd2))) out.old result out.new }
+{
+    capi::scale_calls::ct_tai_to_ut1_with_offset(jd1, jd2, seconds, out)
+}
+
+#[unsafe(no_mangle)]
+pub extern "C" fn ct_ut1_to_tt_with_delta_t(jd1: f64, jd2: f64, seconds: f64, out: &mut [u8]) -> i64
+    ensures { Delivered (in_bytes julian_bytes (answer_of (ut1-tt seconds) (julian jd1 jd2))) out.old result out.new }
+{
+    capi::scale_calls::ct_ut1_to_tt_with_delta_t(jd1, jd2, seconds, out)
+}
+
+#[unsafe(no_mangle)]
+pub extern "C" fn ct_tt_to_ut1_with_delta_t(jd1: f64, jd2: f64, seconds: f64, out: &mut [u8]) -> i64
+    ensures { Delivered (in_bytes julian_bytes (answer_of (tt-ut1 seconds) (julian jd1 jd2))) out.old result out.new }
+{
+    capi::scale_calls::ct_tt_to_ut1_with_delta_t(jd1, jd2, seconds, out)
+}

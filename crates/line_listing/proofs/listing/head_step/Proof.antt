@@ -1,0 +1,14 @@
+-- `listing::head_step` meets its contract. Assumes nothing.
+use Rattle.std.proofs.Common.{rules}
+use Rattle.line_listing.specs.lines.StampLine.{stamps}
+use Rattle.line_listing.proofs.listing.Steps.{head_stepped}
+use Rattle.line_listing.proofs.listing.head_step.Statement.{statement}
+use Rattle.line_listing.proofs.listing.head_step.Tie as tie
+
+returns : tie.Need-returns
+returns c =
+    head_stepped c.args.gps c.args.tai c.args.utc (stamps c.args.jd1s.now c.args.jd2s.now c.args.numbers.now c.args.first c.args.second)
+    c.args.textless _ _ _ c.requires c.compose-written.ensures
+
+pub head_step_spec : {M : Type 1} → statement M
+head_step_spec = tie.close (tie.spec (λ c κs. search rules) (λ c. search rules) returns)
