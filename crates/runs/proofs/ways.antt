@@ -1,2 +1,3 @@
 -- The cases of a way.
 pub mod Steps
+pub mod Cases

@@ -24,6 +24,10 @@ pub own-seconds : (t : AnnouncedRows) (m : ℕ) → table_of t ≡ answer fixed 
 unfolding seconds_from
 own-seconds t m e = rw (none_rows t e)
 
+pub own-last : (t : AnnouncedRows) → table_of t ≡ answer fixed → get_or (starts (rows_of t)) (fixed_rows - 1) never ≡ last_month
+unfolding fixed
+own-last t e = rw (none_rows t e)
+
 pub last-second : seconds_from last_month ≡ last_seconds
 unfolding seconds_from whole_seconds fixed month_number reached
 last-second = refl

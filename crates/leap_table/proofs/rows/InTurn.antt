@@ -1,4 +1,4 @@
--- Lists whose elements stand to one another in turn, with one more at the end; and a test of more and more places.
+-- Lists whose elements stand to one another in turn, with one more at the end; and a test of more and more places, which stays false once it is.
 -- Assumes nothing.
 use Rattle.std.proofs.Common.{◌≡◌, ℕ, zero, suc, ◌<◌, ◌≤◌, Bool, true, false, ◌&&◌, ltb, leb, List, [], ◌∷◌, ◌++◌, length, get_or, sym, refl, ap, ◌∙◌, subst}
 use Rattle.std.proofs.Common.{true≢false, le_of_suc-le-suc, not-suc-le-zero, arith, ltb-false, ltb-true, leb-false, leb-true}
@@ -41,6 +41,30 @@ in_turn_at to d (a ∷ (b ∷ l)) e (suc i) h = in_turn_at to d (b ∷ l) (both_
 
 -- ---- a test that asks one thing more at each place
 module _ (f g : ℕ → Bool) (step : (n : ℕ) → f (suc n) ≡ f n && g n) where
+  pub fails_at : (n : ℕ) → g n ≡ false → f (suc n) ≡ false
+  fails_at n e = step n ∙ ap (λ (b : Bool). f n && b) e ∙ off (f n)
+    where
+      off : (b : Bool) → b && false ≡ false
+      off true = refl
+      off false = refl
+
+  pub stays-false : (k i : ℕ) → i ≤ k → f i ≡ false → f k ≡ false
+  stays-false zero i h e = ap f (none i h) ∙ e
+    where
+      none : (j : ℕ) → j ≤ 0 → 0 ≡ j
+      none j g = omega arith
+  stays-false (suc k) i h e = go (leb i k) refl (λ p. stays-false k i p e)
+    where
+      last : (a b : ℕ) → leb a b ≡ false → a ≤ suc b → suc b ≡ a
+      last a b p q = omega (arith, leb-false a b p)
+
+      off : (b : Bool) → b ≡ false → b && g k ≡ false
+      off b p = rw p
+
+      go : (b : Bool) → leb i k ≡ b → (i ≤ k → f k ≡ false) → f (suc k) ≡ false
+      go true p more = step k ∙ off (f k) (more (leb-true i k p))
+      go false p more = ap f (last i k p h) ∙ e
+
   -- where it holds, each thing asked does; where it fails, one fails that stands after places that hold
   pub all_hold : (n : ℕ) → f n ≡ true → (i : ℕ) → i < n → (f i ≡ true) × (g i ≡ true)
   all_hold zero e i h = absurd (not-suc-le-zero h)
@@ -62,3 +86,6 @@ module _ (f g : ℕ → Bool) (step : (n : ℕ) → f (suc n) ≡ f n && g n) wh
       go false p b q r more = let (i, l, x, y) = more p in (i, omega (arith, l), x, y)
       go true p false q r more = (n, omega arith, p, q)
       go true p true q r more = absurd (true≢false (sym (rw (p, q)) ∙ r))
+
+  pub holds-next : (n : ℕ) → f n ≡ true → g n ≡ true → f (suc n) ≡ true
+  holds-next n p q = rw (step n, p, q)

@@ -1,14 +1,16 @@
--- UTC to TAI and back by a day that is held. Assumes nothing.
+-- UTC to TAI and back by a day that is held, and the ways that take it. Assumes nothing.
 use mathlib.Core.Path.{◌≡◌, refl, sym, ap, subst, ◌∙◌}
 use mathlib.Core.Bool.{true, false≢true}
 use mathlib.Core.List.{List}
 use lib.Dec.{T}
 use lib.IntN.{pos, ◌-ℤ◌}
+use Prim.Native.Nat.{ℕ}
 use lib.Ieee.{Float, binary64, fits, lt, le, of_int}
 use Rattle.refusals.specs.Outcome.{answer}
 use Rattle.floats.specs.Whole.{nought, one}
 use Rattle.julian.specs.day_number.Answer.{day_number_and_fraction}
 use Rattle.julian.specs.day_number.Midnights.{day_from, Midnight}
+use Rattle.julian.specs.declared.JulianDate.{JulianDate}
 use Rattle.julian.specs.JulianDate.{julian}
 use Rattle.leap_table.specs.rows.Table.{Row}
 use Rattle.leap_table.specs.declared.offsets.DayOffsets.{DayOffsets}
@@ -21,7 +23,11 @@ use Rattle.utc_scales.specs.days.LargerPart.{first_is_kept, kept_as, put_beside,
 use Rattle.utc_scales.proofs.days.Steps.{parts_are, changes}
 use Rattle.utc_scales.proofs.Steps.{tai-of-day}
 use Rattle.runs.specs.declared.by_day.DayInHand.{DayInHand}
-use Rattle.runs.specs.by_day.Hand.{HeldDay, hand_of, tai_part, minus_one, serves_none, RightHand}
+use Rattle.runs.specs.declared.by_day.ByHand.{ByHand}
+use Rattle.runs.specs.declared.by_day.ByHand.TheVariants as B
+use Rattle.runs.specs.by_day.Hand.{HeldDay, hand_of, tai_part, minus_one, serves_none, RightHand, RightTaiByHand, RightUtcByHand, RightWay}
+use Rattle.runs.specs.ways.Ways.{way_of}
+use Rattle.runs.proofs.laws.EachWay.{each_way}
 use Rattle.runs.proofs.by_day.Floats.{first-larger}
 
 -- ---- UTC to TAI by a day that is held
@@ -53,6 +59,13 @@ module _ (rows : List Row) (x y : Float) (h : DayInHand) (fx : T (fits binary64 
       sym (changes (tai_fraction rows) (julian x y) (kept_as (julian x y) true) (answer (tai_part h f)) (parts_are (julian x y) true (sym kept)) (sym part))
       ∙ went _ refl
 
+-- ---- the way from UTC to TAI
+pub way_to_tai : (rows : List Row) (from to : ℕ) (d : JulianDate) (r : ByHand) → from ≡ 0 → to ≡ 1 → RightTaiByHand rows d r → RightWay rows from to d r
+unfolding RightTaiByHand RightWay
+way_to_tai rows from to d (B.Date t) p q e =
+    ap (λ (a : ℕ). way_of rows a to d) p ∙ ap (λ (a : ℕ). way_of rows 0 a d) q ∙ (each_way rows d).utc_tai ∙ e.0
+way_to_tai rows from to d B.Elsewhere p q e = tt
+
 -- ---- no day is right for every table
 pub no_day_right : (rows : List Row) (h : DayInHand) → h ≡ serves_none minus_one minus_one → RightHand rows h
 unfolding RightHand serves_none lt
@@ -71,3 +84,10 @@ module _ (rows : List Row) (big small x y z : Float) (a : refined rows big small
       sym (changes (refine_utc_fraction rows) (julian big small) (kept_as (julian big small) true) (answer z) (parts_are (julian big small) true (sym f))
       (sym three))
       ∙ went _ refl
+
+-- ---- the way from TAI to UTC
+pub way_to_utc : (rows : List Row) (from to : ℕ) (d : JulianDate) (r : ByHand) → from ≡ 1 → to ≡ 0 → RightUtcByHand rows d r → RightWay rows from to d r
+unfolding RightUtcByHand RightWay
+way_to_utc rows from to d (B.Date t) p q e =
+    ap (λ (a : ℕ). way_of rows a to d) p ∙ ap (λ (a : ℕ). way_of rows 1 a d) q ∙ (each_way rows d).tai_utc ∙ e
+way_to_utc rows from to d B.Elsewhere p q e = tt

@@ -1,8 +1,7 @@
 -- A day in hand: what UTC to TAI computes of one day alone, and what it answers by it. Written from UtcTai: `stretch_day_fraction` and `tai_from_midnight` with
--- the
--- operations that read the day's offsets alone taken out, each as it stands there. This project's own: the Rust computes them anew for each date. Assumes
+-- the operations that read the day's offsets alone taken out, each as it stands there. This project's own: the Rust computes them anew for each date. Assumes
 -- nothing.
-use Rattle.std.specs.Prelude.{◌≡◌, true, List, pos, ◌-ℤ◌, T, Float}
+use Rattle.std.specs.Prelude.{◌≡◌, ℕ, true, List, pos, ◌-ℤ◌, T, Float}
 use Rattle.std.specs.Float.{fin, binary64}
 use Rattle.std.specs.Float.Ieee.{fits, add, sub, mul, div, lt, le, of_int}
 use Rattle.refusals.specs.Outcome.{answer}
@@ -27,6 +26,7 @@ use Rattle.runs.specs.declared.by_day.Round.TheVariants as Q
 use Rattle.utc_scales.specs.days.Dates.{offsets_of}
 use Rattle.utc_scales.specs.days.LargerPart.{first_is_kept}
 use Rattle.utc_scales.specs.UtcTai.{utc_to_tai, refined, tai_to_utc}
+use Rattle.runs.specs.ways.Ways.{way_of}
 
 -- what is kept of a day by its offsets
 unfoldable pub hand_of : Float → Float → DayOffsets → DayInHand
@@ -98,3 +98,11 @@ RightUtcByHand rows d B.Elsewhere = Unit
 
 unfoldable pub FindsUtc : JulianDate → DayInHand → ByHand → Type 0
 FindsUtc d h r = (rows : List Row) → RightHand rows h → RightUtcByHand rows d r
+
+-- a date that is found is that of the way from one scale to another
+unfoldable pub RightWay : List Row → ℕ → ℕ → JulianDate → ByHand → Type 0
+RightWay rows from to d (B.Date t) = way_of rows from to d ≡ answer t
+RightWay rows from to d B.Elsewhere = Unit
+
+unfoldable pub FindsWay : ℕ → ℕ → JulianDate → DayInHand → ByHand → Type 0
+FindsWay from to d h r = (rows : List Row) → RightHand rows h → RightWay rows from to d r
