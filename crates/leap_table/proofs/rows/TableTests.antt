@@ -1,6 +1,7 @@
 -- The two tests of an announced table's rows, one row after the other, as the loops make them.
 -- Assumes nothing.
-use Rattle.std.proofs.Common.{◌≡◌, ℕ, suc, ◌+◌, ◌≤◌, ◌<◌, Bool, true, false, ◌&&◌, T, ltb, ℤ, pos, negsuc, sym, refl, ap, ◌∙◌, true≢false, add-one, le-ltb, lt-ltb}
+use Rattle.std.proofs.Common.{◌≡◌, ℕ, suc, ◌+◌, ◌≤◌, ◌<◌, Bool, true, false, ◌&&◌, T, ltb, ℤ, pos, negsuc, sym, refl, ap, ◌∙◌}
+use Rattle.std.proofs.Common.{true≢false, add-one, le-ltb, lt-ltb}
 use lib.Dec.{leb-suc-zero}
 use lib.Signed.{lt_z}
 use Rattle.leap_table.specs.declared.rows.AnnouncedRows.{AnnouncedRows}
