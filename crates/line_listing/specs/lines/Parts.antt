@@ -1,5 +1,5 @@
 -- The lines of an order of stamps, and the part of them that one call writes. Written from the header of C, ct_line_listing_part: whole lines, each given the
--- room of the longest, at most 256 in a part; 18 where a line of the part names a stamp that is not there. Assumes nothing.
+-- room of the longest, at most 256 in a part. Assumes nothing.
 use Rattle.std.specs.Prelude.{◌≡◌, ℕ, zero, suc, ◌+◌, ◌-◌, ◌/◌, Bool, true, cond, ◌&&◌, List, [], ◌++◌, length, nat_lt}
 use Rattle.refusals.specs.Outcome.{Outcome, answer, refusal, onward}
 use Rattle.utc.specs.iso_texts.TextCall.{buffer_holds}
@@ -40,7 +40,7 @@ unfoldable pub places_there : List ℕ → ℕ → ℕ → ℕ → Bool
 places_there order n line zero = true
 places_there order n line (suc k) = places_there order n line k && nat_lt (line_in_order order (line + k)) n
 
--- 18 where a line of the part names none, else 0
+-- 18 where a line of the part names none, else 0: what the listing in one call refuses
 unfoldable pub absent_refusal : Bool → ℕ → List ℕ → ℕ → ℕ → ℕ
 absent_refusal sentences n order line room = cond (places_there order n line (listed_count sentences order line room)) 0 18
 

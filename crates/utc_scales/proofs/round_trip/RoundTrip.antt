@@ -18,7 +18,7 @@ use Rattle.utc_scales.specs.round_trip.Ranges.{HalfDaySplit}
 use Rattle.utc_scales.specs.round_trip.UtcDays.{H}
 use Rattle.utc_scales.specs.round_trip.RoundTrip.{ThereAndBack}
 use Rattle.utc_scales.proofs.round_trip.Units.{h, L-h}
-use Rattle.utc_scales.proofs.round_trip.Picoseconds.{over, under}
+use Rattle.utc_scales.proofs.round_trip.Picoseconds.{picoseconds_back, over, under}
 use Rattle.utc_scales.proofs.round_trip.Parts.{parts-joined, first_part}
 use Rattle.utc_scales.proofs.round_trip.DaySeconds.{WholeTable, table-whole, fixed-whole}
 use Rattle.utc_scales.proofs.round_trip.Residuals.{end, back_again}
@@ -28,7 +28,7 @@ use Rattle.utc_scales.proofs.round_trip.Rounds.{date_seen, offset_seen, tai-near
 -- r is what comes back for b
 back-apart : {a b r : Float} {A bp bn rp rn : ℕ} → Val a A 0 L → Val b bp bn L → Val r rp rn L → (86400 * (rp + bn) ≤ 86400 * (rn + bp) + back_again * h)
     × (86400 * (rn + bp) ≤ 86400 * (rp + bn) + back_again * h)
-    → Apart 173 (julian a b) (julian a r)
+    → Apart picoseconds_back (julian a b) (julian a r)
 back-apart {a} {b} {r} {A} {bp} {bn} {rp} {rn} va vb vr k = record {
   p = A + bp;
   n = bn;
@@ -42,7 +42,7 @@ back-apart {a} {b} {r} {A} {bp} {bn} {rp} {rn} va vb vr k = record {
 
 -- ---- THE THEOREM
 pub back-within : {rows : List Row} (t : WholeTable rows) {d : JulianDate} (s : HalfDaySplit d)
-    → Apart 173 d (julian d.jd1 (found t (first_part s) s.held.1 s.second).at.seen.t)
+    → Apart picoseconds_back d (julian d.jd1 (found t (first_part s) s.held.1 s.second).at.seen.t)
 back-within t s =
     let v = first_part s in
     let w = found t v s.held.1 s.second in
@@ -50,7 +50,7 @@ back-within t s =
     back-apart v.val w.given z.val
     (end h L H (s.halves * H) w.bp w.bn z.tp z.tn (date_seen z) (offset_seen z) (tai-near z) w.at.residual)
 
-whole-there-and-back : {rows : List Row} → WholeTable rows → {d : JulianDate} → HalfDaySplit d → ThereAndBack rows 173 d
+whole-there-and-back : {rows : List Row} → WholeTable rows → {d : JulianDate} → HalfDaySplit d → ThereAndBack rows picoseconds_back d
 whole-there-and-back t {d} s =
     let w = found t (first_part s) s.held.1 s.second in
     let z = w.at.seen in
@@ -62,11 +62,12 @@ whole-there-and-back t {d} s =
       apart = back-within t s;
     }
 
--- by every table that is taken, and by the fixed one
-pub table-there-and-back : (t : AnnouncedRows) (rows : List Row) → table_of t ≡ answer rows → {d : JulianDate} → HalfDaySplit d → ThereAndBack rows 173 d
+-- within 173 picoseconds by every table that is taken, and by the fixed one
+pub table-there-and-back : (t : AnnouncedRows) (rows : List Row) → table_of t ≡ answer rows → {d : JulianDate} → HalfDaySplit d
+    → ThereAndBack rows picoseconds_back d
 table-there-and-back t rows e s = whole-there-and-back (table-whole t rows e) s
 
-pub there-and-back-173 : {d : JulianDate} → HalfDaySplit d → ThereAndBack fixed 173 d
+pub there-and-back-173 : {d : JulianDate} → HalfDaySplit d → ThereAndBack fixed picoseconds_back d
 there-and-back-173 s = whole-there-and-back fixed-whole s
 
 -- REQUEST 14: within a nanosecond
