@@ -1,11 +1,13 @@
 -- Document 01's sixteen starred cases as a table: a call with its inputs, and what the paper says that it gives. Written from the starred lines of document 01,
 -- "Stamps on each side", in their order. Assumes nothing.
 use Rattle.std.specs.Prelude.{ℕ, ◌-◌, ◌^◌, false, List, [], ◌∷◌, map, ℤ, pos, neg_ℤ, Float}
+use Prim.Native.Char.{code}
+use Prim.Native.String.{String}
+use Prim.Native.String as Native
 use Rattle.std.specs.Float.{binary64}
 use Rattle.std.specs.Float.Ieee.{round, neg}
 use Rattle.refusals.specs.Outcome.{Outcome, answer, refusal}
 use Rattle.constants.specs.Constants.{decimal}
-use Rattle.utc.specs.text.Ascii.{ascii_bytes}
 use Rattle.worked_cases.specs.Calls.{Call, calendar-to-julian, julian-to-calendar, get_tai_utc_offset, utc, to_iso8601}
 use Rattle.worked_cases.specs.Calls.{UtcCall, utc-from-calendar, Value, parts, date_fields, float, bytes, call_outcome}
 
@@ -30,6 +32,11 @@ year_below0 n = neg_ℤ (pos n)
 -- a / b, rounded once
 abbrev pub ratio_of : ℕ → ℕ → Float
 ratio_of a b = round binary64 false a b
+
+-- the bytes of a text
+abbrev pub ascii : String → List ℕ
+ascii Native.[] = []
+ascii (Native.◌∷◌ c s) = code c ∷ ascii s
 
 -- the fraction of the leap second at the end of 2016-12-31: "86400/86401 rounded once"
 unfoldable pub leap_second : Float
@@ -61,9 +68,9 @@ starred =
     (case (get_tai_utc_offset (pos 2017) (pos 1) (pos 1) (decimal 0 0)) (answer (float (decimal 370 1)))) ∷
     -- 13 and 14: the second 60.0 as a date and as text
     (case (utc (last_minute_of2016 (decimal 600 1))) (answer (parts (decimal 24577535 1) leap_second))) ∷
-    (case (to_iso8601 (last_minute_of2016 (decimal 600 1)) 23) (answer (bytes (ascii_bytes "2016-12-31T23:59:60.000")))) ∷
+    (case (to_iso8601 (last_minute_of2016 (decimal 600 1)) 23) (answer (bytes (ascii "2016-12-31T23:59:60.000")))) ∷
     -- 15: the second 61.0
     (case (utc (last_minute_of2016 (decimal 610 1))) (refusal 4)) ∷
     -- 16: the second 60.9996 as text
-    (case (to_iso8601 (last_minute_of2016 (decimal 609996 4)) 23) (answer (bytes (ascii_bytes "2017-01-01T00:00:00.000")))) ∷
+    (case (to_iso8601 (last_minute_of2016 (decimal 609996 4)) 23) (answer (bytes (ascii "2017-01-01T00:00:00.000")))) ∷
     []
