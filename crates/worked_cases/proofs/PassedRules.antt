@@ -29,13 +29,13 @@ use Rattle.leap_table.specs.offsets.Leap.{day_offsets, leap_of, leap_at_end_of_d
 use Rattle.leap_table.specs.offsets.Rule.{rule_by, rule_of, rule_at, rule_on, with_rule}
 use Rattle.time_of_day.specs.Milliseconds as Millis
 use Rattle.time_of_day.specs.TimeShown.{time_of, day_end, from_zero, shown_at, count_by, shown_by}
-use Rattle.utc.specs.text.Ascii.{ascii_bytes}
 use Rattle.utc.specs.text.Text.{year_text, utc_text}
 use Rattle.utc.specs.FromCalendar.{midnight_plus, utc_from_calendar}
 use Rattle.utc.specs.iso_texts.IsoText.{next_midnight_text_by, shown_text_by, day_text_by, day_text}
 use Rattle.utc.specs.iso_texts.ByRule.{text_by_rule, iso_text_by_rule}
 use Rattle.utc_scales.specs.laws.ShortTable.{short_table, short_rows, short_place}
 use Rattle.utc_scales.proofs.laws.ShortDay.{short-taken}
+use Rattle.worked_cases.specs.Cases.{ascii}
 use Rattle.worked_cases.proofs.ByDates.{to_calendar}
 
 abbrev bits : ℕ → Float
@@ -74,18 +74,18 @@ unfolding utc_from_calendar midnight_plus day_fraction time_in_day second_limit 
 from_fields = refl
 
 pub carried_from_2016 : onward (utc_from_calendar fixed (pos 2016) 12 31 23 59 (decimal 609996 4)) (λ d. iso_text_by_rule fixed d) ≡ answer
-    (ascii_bytes "2017-01-01T00:00:00.000", Whole 40)
+    (ascii "2017-01-01T00:00:00.000", Whole 40)
 unfolding computed_text round of_bits
 carried_from_2016 = went _ from_fields ∙ as_computed fixed second-60-9996 ∙ refl
 
 -- ---- the last float of 1971-12-31
 pub carried_from_1971 : iso_text_by_rule fixed (julian (decimal 24413165 1) (bits 0x3fef_ffff_ffff_ffff))
-    ≡ answer (ascii_bytes "1972-01-01T00:00:00.000", Drifting 13)
+    ≡ answer (ascii "1972-01-01T00:00:00.000", Drifting 13)
 unfolding computed_text round of_bits
 carried_from_1971 = as_computed fixed (julian (decimal 24413165 1) (bits 0x3fef_ffff_ffff_ffff)) ∙ refl
 
 -- ---- noon of 1959-06-15
-pub before-rows : iso_text_by_rule fixed (julian (decimal 24367345 1) (decimal 5 1)) ≡ answer (ascii_bytes "1959-06-15T12:00:00.000", Absent)
+pub before-rows : iso_text_by_rule fixed (julian (decimal 24367345 1) (decimal 5 1)) ≡ answer (ascii "1959-06-15T12:00:00.000", Absent)
 unfolding computed_text round of_bits
 before-rows = as_computed fixed (julian (decimal 24367345 1) (decimal 5 1)) ∙ refl
 
@@ -94,10 +94,10 @@ abbrev announced_text : JulianDate → Outcome (List ℕ × Rule)
 announced_text d = onward (table_of short_table) (λ rows. iso_text_by_rule rows d)
 
 pub carried_to_announced_row : announced_text (julian (decimal 24625015 1) (bits 0x3fef_ffff_ffff_ffff)) ≡ answer
-    (ascii_bytes "2030-01-01T00:00:00.000", Whole (short_place - 1))
+    (ascii "2030-01-01T00:00:00.000", Whole (short_place - 1))
 unfolding computed_text round of_bits
 carried_to_announced_row = went _ short-taken ∙ as_computed short_rows (julian (decimal 24625015 1) (bits 0x3fef_ffff_ffff_ffff)) ∙ refl
 
-pub in_announced_row : announced_text (julian (decimal 24625025 1) (decimal 5 1)) ≡ answer (ascii_bytes "2030-01-01T12:00:00.000", Whole short_place)
+pub in_announced_row : announced_text (julian (decimal 24625025 1) (decimal 5 1)) ≡ answer (ascii "2030-01-01T12:00:00.000", Whole short_place)
 unfolding computed_text round of_bits
 in_announced_row = went _ short-taken ∙ as_computed short_rows (julian (decimal 24625025 1) (decimal 5 1)) ∙ refl

@@ -26,7 +26,6 @@ use Rattle.leap_table.specs.offsets.Offset.{seconds_of, by_row, offset_by, offse
 use Rattle.leap_table.specs.offsets.Leap.{day_offsets, leap_of, leap_at_end_of_day}
 use Rattle.time_of_day.specs.Milliseconds as Millis
 use Rattle.time_of_day.specs.TimeShown.{time_of, day_end, from_zero, shown_at, count_by, shown_by}
-use Rattle.utc.specs.text.Ascii.{ascii_bytes}
 use Rattle.utc.specs.text.Text.{year_text, utc_text}
 use Rattle.utc_scales.specs.laws.ShortTable.{short_table, short_rows}
 use Rattle.utc_scales.proofs.laws.ShortDay.{short-taken, short-leap}
@@ -34,6 +33,7 @@ use Rattle.utc.specs.FromCalendar.{midnight_plus, utc_from_calendar}
 use Rattle.utc.specs.UnixTime.{unix_day, second_of_unix_day, second_with_nanos, utc_new}
 use Rattle.utc.specs.iso_texts.IsoText.{next_midnight_text_by, shown_text_by, day_text_by, day_text, iso_text_by, iso_text}
 use Rattle.utc.proofs.laws.ShortDays.{short-day-refused, short-day-taken}
+use Rattle.worked_cases.specs.Cases.{ascii}
 use Rattle.worked_cases.proofs.ByDates.{to_calendar}
 
 abbrev bits : ℕ → Float
@@ -88,7 +88,7 @@ unfolding iso_text_by julian_to_calendar
 as_divided fraction = went _ short-taken ∙ (λ i. text_on (λ n. divided-date n i) fraction)
 
 -- at 23:59:58.5, and at the last float below 1.0: the text goes on to the next midnight from 86,398.9995 s on
-pub text-58-5 : text (bits 0x3fef_fff3_dd12_7aef) ≡ answer (ascii_bytes "2029-12-31T23:59:58.500")
+pub text-58-5 : text (bits 0x3fef_fff3_dd12_7aef) ≡ answer (ascii "2029-12-31T23:59:58.500")
 unfolding day_number_and_fraction divided_date onward
     valid_date next_of next days_in_month leap_size lengths mjd_of mjd_number civil_count leap_at_end_of_day leap_of day_offsets tai_utc_offset in_day offset_at
     offset_by by_row
@@ -99,7 +99,7 @@ unfolding day_number_and_fraction divided_date onward
     abs to_whole nearest_int round of_bits of_int add sub mul div neg lt le eq to_signed
 text-58-5 = as_divided (bits 0x3fef_fff3_dd12_7aef) ∙ refl
 
-pub text-at-end : text (bits 0x3fef_ffff_ffff_ffff) ≡ answer (ascii_bytes "2030-01-01T00:00:00.000")
+pub text-at-end : text (bits 0x3fef_ffff_ffff_ffff) ≡ answer (ascii "2030-01-01T00:00:00.000")
 unfolding day_number_and_fraction divided_date onward
     valid_date next_of next days_in_month leap_size lengths mjd_of mjd_number civil_count leap_at_end_of_day leap_of day_offsets tai_utc_offset in_day offset_at
     offset_by by_row

@@ -6,15 +6,14 @@ use Rattle.std.specs.Float.Ieee.{neg}
 use Rattle.refusals.specs.Outcome.{answer, refusal}
 use Rattle.constants.specs.Constants.{decimal}
 use Rattle.scales.specs.Conversions.{gps-tai, tcb-tdb}
-use Rattle.utc.specs.text.Ascii.{ascii_bytes}
 use Rattle.worked_cases.specs.Calls.{utc-from-calendar, utc-new, utc_parts, convert, utc-to-ut1, block_stamps, parts, date_fields, float, bytes}
 use Rattle.worked_cases.specs.Calls.{calendar-to-julian, julian-to-calendar, get_tai_utc_offset, utc, to_iso8601, nearest-int}
-use Rattle.worked_cases.specs.Cases.{Case, case, year_below0}
+use Rattle.worked_cases.specs.Cases.{Case, case, year_below0, ascii}
 
 unfoldable pub others : List Case
 others =
     -- Unix (-1, 0)
-    (case (to_iso8601 (utc-new (year_below0 1) 0) 23) (answer (bytes (ascii_bytes "1969-12-31T23:59:59.000")))) ∷
+    (case (to_iso8601 (utc-new (year_below0 1) 0) 23) (answer (bytes (ascii "1969-12-31T23:59:59.000")))) ∷
     -- 1961-07-31 ends in a step of -0.05 s
     (case (utc (utc-from-calendar (pos 1961) 7 31 23 59 (decimal 5996 2))) (refusal 4)) ∷
     -- casts to 64 bits saturate (docs/DIFFERENCES.md)
@@ -23,8 +22,8 @@ others =
     -- huge finite TCB parts: 1.7e308 twice
     (case (convert tcb-tdb (decimal (17 * 10 ^ 307) 0) (decimal (17 * 10 ^ 307) 0)) (answer (parts (inf true) (decimal (17 * 10 ^ 307) 0)))) ∷
     -- the listing's stamps
-    (case (to_iso8601 (utc_parts (decimal 24515450 1) (decimal 0 0)) 23) (answer (bytes (ascii_bytes "2000-01-01T12:00:00.000")))) ∷
-    (case (to_iso8601 (utc_parts (decimal 24000005 1) (decimal 515440 1)) 23) (answer (bytes (ascii_bytes "2000-01-01T00:00:00.000")))) ∷
+    (case (to_iso8601 (utc_parts (decimal 24515450 1) (decimal 0 0)) 23) (answer (bytes (ascii "2000-01-01T12:00:00.000")))) ∷
+    (case (to_iso8601 (utc_parts (decimal 24000005 1) (decimal 515440 1)) 23) (answer (bytes (ascii "2000-01-01T00:00:00.000")))) ∷
     (case (to_iso8601 (utc_parts nan (decimal 0 0)) 23) (refusal 6)) ∷
     -- the examples of refusals 1 to 14
     (case (calendar-to-julian (year_below0 4800) (pos 12) (pos 31)) (refusal 1)) ∷
