@@ -8,16 +8,7 @@
 #include <stdio.h>
 #include <stdlib.h>
 
-enum { MOST = 3000, AROUND = 32 };
-
-static uint64_t state;
-
-static uint64_t chance(void)
-{
-    state ^= state << 13;
-    state ^= state >> 7;
-    return state ^= state << 17;
-}
+#include "chance.h"
 
 /* a text of a run of this kind, 0 to 3, and its length */
 static uint8_t make(uint8_t *text, int kind, size_t i, uint64_t first)

@@ -8,16 +8,7 @@
 #include <stdio.h>
 #include <stdlib.h>
 
-enum { MOST = 3000, AROUND = 32 };
-
-static uint64_t state;
-
-static uint64_t chance(void)
-{
-    state ^= state << 13;
-    state ^= state >> 7;
-    return state ^= state << 17;
-}
+#include "chance.h"
 
 static double part(void)
 {
