@@ -85,8 +85,8 @@ def module_of(path, root):
 
 
 def functions():
-    """Every public function of the crates by the name that a caller writes: CRATE::MODULE::TYPE::FUNCTION, and CRATE::FUNCTION for C, which knows no module. Those of
-    capi_c are capi's: tools/exports writes them."""
+    """Every public function of the crates by the name that a caller writes: CRATE::MODULE::TYPE::FUNCTION, and CRATE::FUNCTION for C, which knows no module. A method of
+    a trait is one, by the name of its type. Those of capi_c are capi's: tools/exports writes them."""
     found = []
     sources = sorted(os.path.relpath(path, ROOT) for path in glob.glob(os.path.join(ROOT, "crates/*/src/**/*.rt"), recursive=True))
     sources = [path for path in sources if not path.startswith("crates/capi_c/")]
@@ -96,15 +96,15 @@ def functions():
             for inner in [start + name.strip() for name in (group or one).split(",") if name.strip()]:
                 again["::".join(module_of(path, "src") + [inner])] = "::".join(module_of(path, "src") + [inner.split("::")[-1]])
     for path in sources:
-        kind = ""
+        kind, promised = "", False
         for line in read(path).split("\n"):
-            opened = re.match(r"impl (\w+)", line)
-            named = re.match(r'( *)pub (extern "C" )?fn (\w+)', line)
+            opened = re.match(r"impl (?:(\w+) for )?(\w+)", line)
+            named = re.match(r'( *)(pub )?(extern "C" )?fn (\w+)', line)
             if opened:
-                kind = opened[1]
-            if named:
-                words = module_of(path, "src")[:1] if named[2] else module_of(path, "src") + ([kind] if named[1] else [])
-                whole = "::".join(words + [named[3]])
+                promised, kind = bool(opened[1]), opened[2]
+            if named and (named[2] or named[1] and promised):
+                words = module_of(path, "src")[:1] if named[3] else module_of(path, "src") + ([kind] if named[1] else [])
+                whole = "::".join(words + [named[4]])
                 found.append(again.get(whole, whole))
     return found
 

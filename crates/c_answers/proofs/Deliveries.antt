@@ -11,6 +11,8 @@ use mir.Syntax.{w32, w64}
 use mir.Val.{Fits, SFits, to_z, of_z}
 use mir.Facts.{to_z-of_z, to_z_pos}
 use borrow.Author.Tests.{lt-ltb, le-leb, lt-leb}
+use Rattle.refusals.specs.declared.Refusal.TheVariants as R
+use Rattle.refusals.specs.Refusal.{refusal_number}
 use Rattle.refusals.specs.Outcome.{Outcome, answer, refusal, onward}
 use Rattle.utc.specs.text.Answer.{text_written, buffer_after}
 use Rattle.utc.specs.iso_texts.TextCall.{written, buffer_holds}
@@ -43,8 +45,8 @@ module _ (k : ℕ) (f : Fits w32 k) where
   minus_is = to_z-of_z {w = w64} minus-fits ∙ less
 
 -- ---- bytes put into a buffer
-pub too_short : (t l : List ℕ) (r : ℤ) → length l < length t → r ≡ code (refusal 11) → Delivered (answer t) l r l
-unfolding written onward text_written buffer_holds buffer_after
+pub too_short : (t l : List ℕ) (r : ℤ) → length l < length t → r ≡ code (refusal (refusal_number R.NoRoom)) → Delivered (answer t) l r l
+unfolding written onward text_written buffer_holds buffer_after refusal_number
 too_short t l r h e =
     let w : written (answer t) (length l) ≡ refusal 11 = simp (lt-leb _ _ h) in
     record { returned = e ∙ sym (ap code w); holds = simp (lt-leb _ _ h) }
@@ -63,6 +65,11 @@ copied t l out n e few eo h =
 -- ---- an outcome handed on: the code of the call below is read back from its bits
 pub code-back : {r : ℤ} → mag r < 2 ^ 63 → to_z w64 (of_z w64 r) ≡ r
 code-back {r} ok = to_z-of_z {w = w64} {z = r} (record { sfits = ok })
+
+-- the refusal of what does not fit
+pub no_room : (t : List ℕ) {l : List ℕ} {r : ℤ} → mag r < 2 ^ 63 → length l < length t → r ≡ code (refusal (refusal_number R.NoRoom))
+    → Delivered (answer t) l (to_z w64 (of_z w64 r)) l
+no_room t {l} ok h e = too_short t l _ h (code-back ok ∙ e)
 
 back : {o : Outcome (List ℕ)} {l out : List ℕ} {r : ℤ} → mag r < 2 ^ 63 → Delivered o l r out → Delivered o l (to_z w64 (of_z w64 r)) out
 back {o} {l} {out} ok p = subst (λ (x : ℤ). Delivered o l x out) (sym (code-back ok)) p

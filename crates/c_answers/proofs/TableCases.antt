@@ -1,6 +1,6 @@
 -- A table's closed cases in a literal row behind 2017's, as they stand while that is the last row: `table.Laws` and `AnswerCases` have them by whatever row is
 -- the last. Computed. Assumes nothing.
-use Prim.Native.Nat.{ℕ, ◌+◌}
+use Prim.Native.Nat.{ℕ}
 use mathlib.Core.Path.{◌≡◌, refl}
 use mathlib.Core.List.{List, [], ◌∷◌, ◌++◌}
 use lib.IntN.{pos}

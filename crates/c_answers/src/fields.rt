@@ -8,7 +8,9 @@ ghost use Rattle.c_answers.specs.Fields.{four_bytes, date_bytes, float_bytes, ju
 use super::{put, refused};
 use calendar::CalendarDate;
 use julian::{CalendarFields, JulianDate};
+use refusals::Refusal;
 
+// kept: the same line as `year_word` of replay, which does not stand on c_answers.
 pub(crate) fn year_pattern(year: i32) -> u64
     ensures { result ≡ pattern_of year }
 {
@@ -18,19 +20,12 @@ pub(crate) fn year_pattern(year: i32) -> u64
 fn three_numbers(a: u64, b: u32, c: u32) -> [u8; 12]
     ensures { result ≡ four_bytes a ++ (four_bytes b ++ four_bytes c) }
 {
+    let first = a.to_le_bytes();
+    let second = b.to_le_bytes();
+    let third = c.to_le_bytes();
     [
-        (a % 256) as u8,
-        (a / 0x100 % 256) as u8,
-        (a / 0x1_0000 % 256) as u8,
-        (a / 0x100_0000 % 256) as u8,
-        (b % 256) as u8,
-        (b / 0x100 % 256) as u8,
-        (b / 0x1_0000 % 256) as u8,
-        (b / 0x100_0000 % 256) as u8,
-        (c % 256) as u8,
-        (c / 0x100 % 256) as u8,
-        (c / 0x1_0000 % 256) as u8,
-        (c / 0x100_0000 % 256) as u8,
+        first[0], first[1], first[2], first[3], second[0], second[1], second[2], second[3],
+        third[0], third[1], third[2], third[3],
     ]
 }
 
@@ -44,15 +39,10 @@ pub fn put_date(date: CalendarDate, out: &mut [u8]) -> i64
 fn two_numbers(a: u32, b: u32) -> [u8; 8]
     ensures { result ≡ four_bytes a ++ four_bytes b }
 {
+    let first = a.to_le_bytes();
+    let second = b.to_le_bytes();
     [
-        (a % 256) as u8,
-        (a / 0x100 % 256) as u8,
-        (a / 0x1_0000 % 256) as u8,
-        (a / 0x100_0000 % 256) as u8,
-        (b % 256) as u8,
-        (b / 0x100 % 256) as u8,
-        (b / 0x1_0000 % 256) as u8,
-        (b / 0x100_0000 % 256) as u8,
+        first[0], first[1], first[2], first[3], second[0], second[1], second[2], second[3],
     ]
 }
 
@@ -73,23 +63,11 @@ pub fn put_float(x: f64, out: &mut [u8]) -> i64
 pub(crate) fn two_patterns(a: u64, b: u64) -> [u8; 16]
     ensures { result ≡ eight_bytes a ++ eight_bytes b }
 {
+    let first = a.to_le_bytes();
+    let second = b.to_le_bytes();
     [
-        (a % 256) as u8,
-        (a / 0x100 % 256) as u8,
-        (a / 0x1_0000 % 256) as u8,
-        (a / 0x100_0000 % 256) as u8,
-        (a / 0x1_0000_0000 % 256) as u8,
-        (a / 0x100_0000_0000 % 256) as u8,
-        (a / 0x1_0000_0000_0000 % 256) as u8,
-        (a / 0x100_0000_0000_0000 % 256) as u8,
-        (b % 256) as u8,
-        (b / 0x100 % 256) as u8,
-        (b / 0x1_0000 % 256) as u8,
-        (b / 0x100_0000 % 256) as u8,
-        (b / 0x1_0000_0000 % 256) as u8,
-        (b / 0x100_0000_0000 % 256) as u8,
-        (b / 0x1_0000_0000_0000 % 256) as u8,
-        (b / 0x100_0000_0000_0000 % 256) as u8,
+        first[0], first[1], first[2], first[3], first[4], first[5], first[6], first[7], second[0],
+        second[1], second[2], second[3], second[4], second[5], second[6], second[7],
     ]
 }
 
@@ -104,7 +82,7 @@ pub fn put_calendar(shown: CalendarFields, out: &mut [u8]) -> i64
     ensures { Delivered (answer (calendar_bytes shown)) out.old result out.new }
 {
     if out.len() < 20 {
-        return refused(refusals::NO_ROOM);
+        return refused(Refusal::NoRoom);
     }
     put_date(shown.date, out);
     put_float(shown.fraction, &mut out[12..]);

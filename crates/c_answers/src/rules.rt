@@ -8,7 +8,10 @@ use crate::fields::{put_float, put_julian, put_two_numbers};
 use crate::refused;
 use julian::JulianDate;
 use leap_table::offsets::Rule;
+use refusals::Refusal;
 
+// kept: two functions and no `From`: these are numbers of the C interface, not what a rule is.
+#[tactic(auto, unfolding(crate::specs::rules::RuleFields::rule_number))]
 fn rule_number(rule: Rule) -> u32
     ensures { result ≡ rule_number rule }
 {
@@ -19,6 +22,7 @@ fn rule_number(rule: Rule) -> u32
     }
 }
 
+#[tactic(auto, unfolding(crate::specs::rules::RuleFields::row_pattern))]
 fn row_pattern(rule: Rule) -> u32
     ensures { result ≡ row_pattern rule }
 {
@@ -35,11 +39,12 @@ pub fn put_rule(rule: Rule, out: &mut [u8]) -> i64
     put_two_numbers(rule_number(rule), row_pattern(rule), out)
 }
 
+// kept: this and put_julian_by_rule: one body would take what puts the value as a closure, whose contract has more lines than the body.
 pub fn put_offset_by_rule(seconds: f64, rule: Rule, out: &mut [u8]) -> i64
     ensures { Delivered (answer (offset_rule_bytes (seconds, rule))) out.old result out.new }
 {
     if out.len() < 16 {
-        return refused(refusals::NO_ROOM);
+        return refused(Refusal::NoRoom);
     }
     put_float(seconds, out);
     put_rule(rule, &mut out[8..]);
@@ -50,7 +55,7 @@ pub fn put_julian_by_rule(date: JulianDate, rule: Rule, out: &mut [u8]) -> i64
     ensures { Delivered (answer (julian_rule_bytes (date, rule))) out.old result out.new }
 {
     if out.len() < 24 {
-        return refused(refusals::NO_ROOM);
+        return refused(Refusal::NoRoom);
     }
     put_julian(date, out);
     put_rule(rule, &mut out[16..]);

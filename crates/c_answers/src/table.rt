@@ -2,27 +2,22 @@
 pub mod arrays;
 
 ghost use Rattle.std.specs.Prelude.{◌≡◌, ℕ, ◌+◌, ◌*◌, ◌<◌, ◌≤◌, ◌&&◌, eqb, pos, get_or, length};
+ghost use Rattle.refusals.specs.Outcome.{seen};
 ghost use Rattle.numerals.specs.little_endian.LittleEndian.{i32_at};
-ghost use Rattle.leap_table.specs.rows.Announced.{least, rows_of, table_of, unless_refused};
+ghost use Rattle.leap_table.specs.rows.Announced.{rows_of, table_of};
 ghost use Rattle.c_answers.specs.table.TableBytes.{of_length, table_bytes};
 
 use leap_table::rows::AnnouncedRows;
+use refusals::Refusal;
 
-// The first `size` of 16 numbers from `at` on; the places past them are not read, and 0.
-fn numbers_at(bytes: &[u8], at: usize, size: usize) -> [i32; 16]
-    requires { (at < 100) × (size ≤ 16) }
-    ensures { (i : ℕ) → i < size → get_or result i (pos 0) ≡ i32_at bytes.now (at + 4 * i) }
+// The 16 numbers from `at` on.
+fn numbers_at(bytes: &[u8], at: usize) -> [i32; 16]
+    requires { at < 100 }
+    ensures { (i : ℕ) → i < 16 → get_or result i (pos 0) ≡ i32_at bytes.now (at + 4 * i) }
 {
     let mut numbers = [0; 16];
-    arrays::put_numbers(bytes, at, size, &mut numbers);
+    arrays::put_numbers(bytes, at, &mut numbers);
     numbers
-}
-
-// How many places are read.
-pub(crate) fn places_of(size: u32) -> usize
-    ensures { (result ≡ least size 16) × (result ≤ 16) }
-{
-    if size <= 16 { size as usize } else { 16 }
 }
 
 // Whether two sizes lend no rows. Such a table is neither copied nor tested row by row.
@@ -35,7 +30,7 @@ pub(crate) fn lend_none(first: u32, second: u32) -> bool
     second == 0
 }
 
-// The rows that the bytes hold, as far as their first size goes; bytes of another length than 136 are not read.
+// The rows that the bytes hold; bytes of another length than 136 are not read, and of two sizes of 0 nothing but the sizes.
 pub fn announced_rows_at(bytes: &[u8]) -> AnnouncedRows
     ensures { of_length (length bytes.now) (table_of result) ≡ table_bytes bytes.now }
 {
@@ -47,9 +42,8 @@ pub fn announced_rows_at(bytes: &[u8]) -> AnnouncedRows
     if lend_none(months_size, seconds_size) {
         return leap_table::rows::no_rows();
     }
-    let size = places_of(months_size);
-    let months = numbers_at(bytes, 8, size);
-    let seconds = numbers_at(bytes, 72, size);
+    let months = numbers_at(bytes, 8);
+    let seconds = numbers_at(bytes, 72);
     AnnouncedRows {
         months_size,
         seconds_size,
@@ -58,15 +52,15 @@ pub fn announced_rows_at(bytes: &[u8]) -> AnnouncedRows
     }
 }
 
-// The number by which a table in so many bytes is refused, 0 if it is not: 14 the length, then those of the table.
-pub fn table_number(length: usize, rows: AnnouncedRows) -> u32
-    ensures { unless_refused result (rows_of rows) ≡ of_length length (table_of rows) }
+// Whether a table in so many bytes is taken: 14 the length, then the refusals of the table.
+pub fn judge_table(length: usize, rows: AnnouncedRows) -> Result<(), Refusal>
+    ensures { seen (λ _. rows_of rows) result ≡ of_length length (table_of rows) }
 {
     if length != 136 {
-        return refusals::LENGTH_WRONG;
+        return Err(Refusal::LengthWrong);
     }
     if lend_none(rows.months_size, rows.seconds_size) {
-        return 0;
+        return Ok(());
     }
-    leap_table::rows::table_refusal(rows)
+    leap_table::rows::judge_table(&rows)
 }

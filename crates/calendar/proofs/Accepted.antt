@@ -11,14 +11,14 @@ use mir.Syntax.{w32}
 use mir.Val.{SFits, to_z, of_z}
 use mir.Facts.{to_z-of_z}
 use borrow.Author.Tests.{ltb-true, ltb-false, lt-ltb, le-ltb}
-use Rattle.refusals.specs.Outcome.{Outcome, answer, refusal}
+use Rattle.std.specs.Prelude.{Result, Ok, Err}
+use Rattle.refusals.specs.declared.Refusal.{Refusal}
+use Rattle.refusals.specs.Refusal.{refusal_number}
+use Rattle.refusals.specs.Outcome.{Outcome, answer, refusal, outcome}
 use Rattle.calendar.specs.Calendar.{leap_year, lengths, month_length, days_in_month}
 use Rattle.calendar.specs.Refusals.{valid_date}
-use Rattle.calendar.specs.Answers.{check_outcome}
 use Rattle.calendar.specs.InCalendar.{InCalendar}
 use Rattle.calendar.specs.declared.CalendarDate.{CalendarDate}
-use Rattle.calendar.specs.declared.DateCheck.{DateCheck}
-use Rattle.calendar.specs.declared.DateCheck.TheVariants as Check
 use Rattle.calendar.proofs.Months.{numbers, months}
 use Rattle.calendar.proofs.Signs.{at_least_one, read-date}
 
@@ -40,6 +40,9 @@ unfolding days_in_month lengths
 below_one y (pos zero) e = refl
 below_one y (pos (suc n)) e = absurd (omega (arith, ltb-true (suc n) 1 e))
 below_one y (negsuc n) e = refl
+
+-- what days_in_month is found by
+pub ruleset days_found = (below_one, month-days)
 
 -- a number is a month exactly if it has days
 has-days : (b : Bool) (m : ℕ) → 1 ≤ m → m ≤ 12 → 1 ≤ lengths b m
@@ -156,12 +159,15 @@ pub read-two : (y m : ℤ) → SFits w32 y → SFits w32 m → days_in_month (to
 read-two y m f g = λ i. days_in_month (to_z-of_z f i) (to_z-of_z g i)
 
 -- what the check says, at a call
-module _ (y m d : ℤ) (f : SFits w32 y) (g : SFits w32 m) (h : SFits w32 d) (r : DateCheck)
-    (e : check_outcome r ≡ valid_date (to_z w32 (of_z w32 y)) (to_z w32 (of_z w32 m)) (to_z w32 (of_z w32 d))) where
-  pub is-valid : r ≡ Check.Valid → valid_date y m d ≡ answer tt
-  unfolding check_outcome
-  is-valid p = sym (ap check_outcome (sym p) ∙ e ∙ read-date valid_date y m d f g h)
+module _ (y m d : ℤ) (f : SFits w32 y) (g : SFits w32 m) (h : SFits w32 d) (r : Result Unit Refusal)
+    (e : outcome r ≡ valid_date (to_z w32 (of_z w32 y)) (to_z w32 (of_z w32 m)) (to_z w32 (of_z w32 d))) where
+  pub is-valid : r ≡ Ok tt → valid_date y m d ≡ answer tt
+  unfolding outcome
+  is-valid p = sym (ap outcome (sym p) ∙ e ∙ read-date valid_date y m d f g h)
 
-  pub is-refused : (k : ℕ) → r ≡ Check.Refused k → valid_date y m d ≡ refusal k
-  unfolding check_outcome
-  is-refused k p = sym (ap check_outcome (sym p) ∙ e ∙ read-date valid_date y m d f g h)
+  pub is-refused : (k : Refusal) → r ≡ Err k → valid_date y m d ≡ refusal (refusal_number k)
+  unfolding outcome
+  is-refused k p = sym (ap outcome (sym p) ∙ e ∙ read-date valid_date y m d f g h)
+
+  pub by_check : r ≡ Ok tt → Accepted y m d
+  by_check p = date-accepted y m d (is-valid p)

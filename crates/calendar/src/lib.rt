@@ -1,14 +1,17 @@
 // The calendar of ISO 8601 by whole numbers: which dates there are, the next day, and day numbers both ways. From scales/common.rs's calendar half, the
 // integers of `calendar_to_julian`, and `gregorian_date`.
+// kept: year, month and day stand one by one and signed, as C hands them (ct_validate_calendar_date, ct_next_calendar_day): they may be no date.
 #![tactic(auto)]
 
 ghost use Rattle.std.specs.Prelude.{◌≡◌, false, ◌<◌, ◌≤◌, pos, negsuc, ◌+ℤ◌, ◌-ℤ◌};
+ghost use Rattle.refusals.specs.Outcome.{outcome};
 ghost use Rattle.std.specs.Int.Signed.{lt_z};
 ghost use Rattle.calendar.specs.Calendar.{leap_year, month_length, days_in_month};
 ghost use Rattle.calendar.specs.Refusals.{valid_date, next_of};
 ghost use Rattle.calendar.specs.DayCount.{march_count, civil_count, mjd_of};
 ghost use Rattle.calendar.specs.Gregorian.{gregorian_date, shifted_date};
-ghost use Rattle.calendar.specs.Answers.{check_outcome, mjd_outcome, next_outcome};
+
+use refusals::Refusal;
 
 // A date of the proleptic Gregorian calendar.
 #[derive(Clone, Copy)]
@@ -18,28 +21,8 @@ pub struct CalendarDate {
     pub day: u32,
 }
 
-// Whether a year, month and day are a date, or the number of the refusal.
-#[derive(Clone, Copy)]
-pub enum DateCheck {
-    Valid,
-    Refused(u32),
-}
-
-// The next date, or the number of the refusal.
-#[derive(Clone, Copy)]
-pub enum NextDay {
-    Date(CalendarDate),
-    Refused(u32),
-}
-
-// The Modified Julian Date of a date at midnight, or the number of the refusal.
-#[derive(Clone, Copy)]
-pub enum MjdAnswer {
-    Mjd(i64),
-    Refused(u32),
-}
-
 // Whether the year has a 29 February; year 0 and those below it follow the same rule.
+#[tactic(auto, using(crate::proofs::Signs::rem_zero), unfolding(crate::specs::Calendar::leap_size))]
 pub fn is_leap_year(year: i32) -> bool
     ensures { result ≡ leap_year year }
 {
@@ -47,6 +30,7 @@ pub fn is_leap_year(year: i32) -> bool
 }
 
 // The days of month 1 to 12; 0 for any other.
+#[tactic(auto, unfolding(crate::specs::Calendar::lengths))]
 fn month_length(year: i32, month: u32) -> u32
     ensures { result ≡ month_length year month }
 {
@@ -61,6 +45,7 @@ fn month_length(year: i32, month: u32) -> u32
 }
 
 // The days of a month; 0 where the Rust says that there is no such month.
+#[tactic(auto, using(crate::proofs::Accepted::days_found))]
 pub fn days_in_month(year: i32, month: i32) -> u32
     ensures { result ≡ days_in_month year month }
 {
@@ -71,23 +56,23 @@ pub fn days_in_month(year: i32, month: i32) -> u32
 }
 
 // Refusals in order: 1 the year, 2 the month, 3 the day.
-pub fn validate_calendar_date(year: i32, month: i32, day: i32) -> DateCheck
-    ensures { check_outcome result ≡ valid_date year month day }
+pub fn validate_calendar_date(year: i32, month: i32, day: i32) -> Result<(), Refusal>
+    ensures { outcome result ≡ valid_date year month day }
 {
     if year < -4799 {
-        return DateCheck::Refused(refusals::YEAR_BEFORE_FIRST);
+        return Err(Refusal::YearBeforeFirst);
     }
     let last = days_in_month(year, month);
     if last == 0 {
-        return DateCheck::Refused(refusals::MONTH_NOT_IN_YEAR);
+        return Err(Refusal::MonthNotInYear);
     }
     if day < 1 {
-        return DateCheck::Refused(refusals::DAY_NOT_IN_MONTH);
+        return Err(Refusal::DayNotInMonth);
     }
     if last < day as u32 {
-        return DateCheck::Refused(refusals::DAY_NOT_IN_MONTH);
+        return Err(Refusal::DayNotInMonth);
     }
-    DateCheck::Valid
+    Ok(())
 }
 
 // The year + 4800: from here the arithmetic is unsigned.
@@ -107,6 +92,7 @@ fn march_count(y: u64, m: u64, d: u64) -> u64
 }
 
 // The same count by the months of the calendar: January and February end the March year before.
+#[tactic(auto, unfolding(crate::specs::DayCount::civil_count))]
 fn civil_count(y: u64, month: u32, day: u32) -> u64
     requires { (1 ≤ y) × (y < 4294967296) × (1 ≤ month) × (month ≤ 12) × (day ≤ 31) }
     ensures { (result ≡ civil_count y month day) × (result < 4611686018427387904) }
@@ -127,17 +113,11 @@ fn count_to_mjd(n: u64) -> i64
 }
 
 // The integer of the Rust's `calendar_to_julian`.
-pub fn modified_julian_day(year: i32, month: i32, day: i32) -> MjdAnswer
-    ensures { mjd_outcome result ≡ mjd_of year month day }
+pub fn modified_julian_day(year: i32, month: i32, day: i32) -> Result<i64, Refusal>
+    ensures { outcome result ≡ mjd_of year month day }
 {
-    match validate_calendar_date(year, month, day) {
-        DateCheck::Refused(number) => MjdAnswer::Refused(number),
-        DateCheck::Valid => MjdAnswer::Mjd(count_to_mjd(civil_count(
-            raised_year(year),
-            month as u32,
-            day as u32,
-        ))),
-    }
+    validate_calendar_date(year, month, day)?;
+    Ok(count_to_mjd(civil_count(raised_year(year), month as u32, day as u32)))
 }
 
 // The day number + 68569.
@@ -193,32 +173,30 @@ pub fn gregorian_date(jd: i64) -> CalendarDate
 }
 
 // Refusals in order: 1, 2, 3, then 5 after the last day of year 2147483647.
-pub fn next_calendar_day(year: i32, month: i32, day: i32) -> NextDay
-    ensures { next_outcome result ≡ next_of year month day }
+pub fn next_calendar_day(year: i32, month: i32, day: i32) -> Result<CalendarDate, Refusal>
+    ensures { outcome result ≡ next_of year month day }
 {
-    if let DateCheck::Refused(number) = validate_calendar_date(year, month, day) {
-        return NextDay::Refused(number);
-    }
+    validate_calendar_date(year, month, day)?;
     let m = month as u32;
     let d = day as u32;
     if d < days_in_month(year, month) {
-        return NextDay::Date(CalendarDate {
+        return Ok(CalendarDate {
             year,
             month: m,
             day: d + 1,
         });
     }
     if m < 12 {
-        return NextDay::Date(CalendarDate {
+        return Ok(CalendarDate {
             year,
             month: m + 1,
             day: 1,
         });
     }
     if 2147483646 < year {
-        return NextDay::Refused(refusals::NO_NEXT_DAY);
+        return Err(Refusal::NoNextDay);
     }
-    NextDay::Date(CalendarDate {
+    Ok(CalendarDate {
         year: year + 1,
         month: 1,
         day: 1,

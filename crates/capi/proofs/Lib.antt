@@ -1,4 +1,4 @@
--- The laws that the proofs of the C interface cite: a table that is lent, by value and as two arrays, a text, and one with its rule in two buffers, the number
+-- The laws that the proofs of the C interface cite: a table that is lent, by value and by reference, a text, and one with its rule in two buffers, the number
 -- of a block's stamps, a part of a listing, a walk, three runs in a line, ticks, the places of a run, a run, and its texts.
 pub mod Tables
 pub mod Arrays

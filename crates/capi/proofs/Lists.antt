@@ -1,18 +1,29 @@
 -- A table that was read from a text, put into two buffers: what is written, step by step. Assumes nothing.
 use Prim.Native.Nat.{ℕ, ◌+◌, ◌≤◌, ◌<◌}
 use native.Mathlib.Numerals.{add-one}
+use native.Mathlib.Omega.{arith}
 use mathlib.Core.Path.{◌≡◌, refl, sym, ap, subst, ◌∙◌}
 use mathlib.Core.List.{List}
 use lib.IntN.{ℤ, pos}
 use lib.ListN.{length, get_or}
-use borrow.Author.Tests.{eq-eqb, ne_eqb, lt-ltb, le-ltb}
-use Rattle.refusals.specs.Outcome.{answer, refusal}
+use mir.Syntax.{w64}
+use mir.Val.{to_z}
+use mir.Facts.{to_z_pos}
+use borrow.Author.Tests.{ne_eqb, lt-ltb, le-ltb}
+use Rattle.std.specs.Prelude.{Ok, Err, min}
+use Rattle.std.proofs.lemmas.Bool.Decides.{nat_tests}
+use Rattle.refusals.specs.declared.Refusal.TheVariants as R
+use Rattle.refusals.specs.Refusal.{refusal_number}
+use Rattle.refusals.specs.Outcome.{refusal}
+use Rattle.refusals.proofs.Handed.{number_low}
 use Rattle.numerals.specs.little_endian.LittleEndian.{with_u32, with_nth32}
 use Rattle.leap_table.specs.declared.rows.AnnouncedRows.{AnnouncedRows}
-use Rattle.leap_table.specs.rows.Announced.{natural}
-use Rattle.leap_lists.specs.declared.ListAnswer.{ListAnswer}
+use Rattle.leap_table.specs.rows.Announced.{natural, least}
+use Rattle.leap_lists.specs.declared.ListRead.{ListRead}
+use Rattle.leap_lists.specs.declared.ListFault.{ListFault}
+use Rattle.leap_lists.specs.Reading.{ListAnswer, list_told, refused_at}
 use Rattle.c_answers.specs.Delivery.{code}
-use Rattle.capi.specs.ListDelivery.{put_to, with_table, rows_read, where_read, TableRead}
+use Rattle.capi.specs.ListDelivery.{put_to, with_table, fault_line, rows_read, where_read, TableRead}
 
 -- none of the numbers, and one more
 pub put-none : (l : List ℕ) (from : ℕ) (ns : List ℤ) → l ≡ put_to l from ns 0
@@ -32,46 +43,49 @@ put_all t l a b c d p q r s =
     s ∙ ap (λ (x : List ℕ). put_to x 18 t.seconds 16) (r ∙ ap (λ (x : List ℕ). put_to x 2 t.months 16)
     (q ∙ ap (λ (x : List ℕ). with_nth32 x 1 t.seconds_size) p))
 
--- ---- the tests of the call
-module _ (a : ListAnswer) (m n : ℕ) where
-  number-first : (a.number ≡ 0 → ⊥) → rows_read a m n ≡ refusal a.number
-  unfolding rows_read
-  number-first h = rw (ne_eqb _ _ h)
+-- ---- the call, by what the reader answered: the list that was read, or the line at fault
+module _ {a : ListAnswer} {t k : List ℕ} {r : ℤ} where
+  -- what holds of the answer told holds of the one that the contract speaks of
+  as_told : {found : ListAnswer} {t' k' : List ℕ} → found ≡ a → TableRead found t k r t' k' → TableRead a t k r t' k'
+  as_told {found} {t'} {k'} e d = subst (λ (x : ListAnswer). TableRead x t k r t' k') e d
 
-  table-first : a.number ≡ 0 → m < 136 → rows_read a m n ≡ refusal 11
-  unfolding rows_read
-  table-first z h = rw (eq-eqb _ _ z, lt-ltb _ _ h)
+  pub not_read : (f : ListFault) → list_told (Err f) ≡ a → r ≡ code (refusal (refusal_number f.refusal)) → TableRead a t k r t k
+  unfolding list_told refused_at rows_read where_read
+  not_read f e g =
+      let no = ne_eqb (refusal_number f.refusal) 0 (λ z. let low = number_low f.refusal in omega (arith, low, z)) in
+      as_told e (record { returned = rw (no, g); table_holds = rw no; known_holds = rw no })
 
-  known_next : a.number ≡ 0 → 136 ≤ m → n < 4 → rows_read a m n ≡ refusal 11
-  unfolding rows_read
-  known_next z h l = rw (eq-eqb _ _ z, le-ltb _ _ h, lt-ltb _ _ l)
+  pub short-table : (l : ListRead) → list_told (Ok l) ≡ a → length t < 136 → r ≡ code (refusal (refusal_number R.NoRoom)) → TableRead a t k r t k
+  unfolding list_told rows_read where_read refusal_number
+  short-table l e s g =
+      let low = lt-ltb _ _ s in
+      as_told e (record { returned = rw (low, g); table_holds = rw low; known_holds = rw low })
 
-  all_right : a.number ≡ 0 → 136 ≤ m → 4 ≤ n → rows_read a m n ≡ answer a.table.months_size
-  unfolding rows_read
-  all_right z h l = rw (eq-eqb _ _ z, le-ltb _ _ h, le-ltb _ _ l)
+  pub short-known : (l : ListRead) → list_told (Ok l) ≡ a → 136 ≤ length t → length k < 4 → r ≡ code (refusal (refusal_number R.NoRoom)) → TableRead a t k r t k
+  unfolding list_told rows_read where_read refusal_number
+  short-known l e m s g =
+      let high = le-ltb _ _ m in
+      let low = lt-ltb _ _ s in
+      as_told e (record { returned = rw (high, low, g); table_holds = rw (high, low); known_holds = rw (high, low) })
 
--- ---- the call
-module _ (a : ListAnswer) (t k : List ℕ) (r : ℤ) where
-  refused-with : (n : ℕ) → rows_read a (length t) (length k) ≡ refusal n → r ≡ code (refusal n) → TableRead a t k r t k
-  unfolding where_read
-  refused-with n e g = record { returned = g ∙ ap code (sym e); table_holds = rw e; known_holds = rw e }
+  pub both_put : (l : ListRead) {t' k' : List ℕ} → list_told (Ok l) ≡ a → 136 ≤ length t → 4 ≤ length k → t' ≡ with_table t l.table
+      → k' ≡ with_u32 k l.known_until → r ≡ pos l.table.months_size → TableRead a t k r t' k'
+  unfolding list_told rows_read where_read code
+  both_put l e m n p q g =
+      let high = le-ltb _ _ m in
+      let more = le-ltb _ _ n in
+      as_told e (record { returned = rw (high, more, g); table_holds = rw (high, more, p); known_holds = rw (high, more, q) })
 
-  pub not_read : (a.number ≡ 0 → ⊥) → r ≡ code (refusal a.number) → TableRead a t k r t k
-  not_read h g = refused-with a.number (number-first a (length t) (length k) h) g
+-- ---- the line at fault
+pub no_line : {a : ListAnswer} (l : ListRead) → list_told (Ok l) ≡ a → pos 0 ≡ fault_line a
+unfolding list_told fault_line
+no_line l e = ap fault_line e
 
-  pub short-table : a.number ≡ 0 → length t < 136 → r ≡ code (refusal 11) → TableRead a t k r t k
-  short-table z h g = refused-with 11 (table-first a (length t) (length k) z h) g
-
-  pub short-known : a.number ≡ 0 → 136 ≤ length t → length k < 4 → r ≡ code (refusal 11) → TableRead a t k r t k
-  short-known z h l g = refused-with 11 (known_next a (length t) (length k) z h l) g
-
-  pub both_put : (t' k' : List ℕ) → a.number ≡ 0 → 136 ≤ length t → 4 ≤ length k → t' ≡ with_table t a.table → k' ≡ with_u32 k a.known_until
-      → r ≡ pos a.table.months_size → TableRead a t k r t' k'
-  unfolding where_read code
-  both_put t' k' z h l p q g =
-      let e = all_right a (length t) (length k) z h l in
-      record { returned = g ∙ ap code (sym e); table_holds = rw e p; known_holds = rw e q }
-
--- by the answer that the call of the reader ensures
-pub as_told : {found a : ListAnswer} {t k t' k' : List ℕ} {r : ℤ} → found ≡ a → TableRead found t k r t' k' → TableRead a t k r t' k'
-as_told {found} {a} {t} {k} {t'} {k'} {r} e d = subst (λ (x : ListAnswer). TableRead x t k r t' k') e d
+pub at_line : {a : ListAnswer} (f : ListFault) {n : ℕ} → list_told (Err f) ≡ a → n ≡ min f.line 9223372036854775807 → to_z w64 n ≡ fault_line a
+unfolding list_told refused_at fault_line
+at_line f {n} e p =
+    let few : n ≤ 9223372036854775807 = grind (arith, nat_tests, p) in
+    to_z_pos w64 {n = n} (omega (arith, few)) ∙ ap pos (p ∙ is-least f.line 9223372036854775807) ∙ ap fault_line e
+  where
+    is-least : (m n : ℕ) → min m n ≡ least m n
+    is-least m n = grind (arith, nat_tests)

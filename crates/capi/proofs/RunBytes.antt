@@ -11,14 +11,16 @@ use mir.Syntax.{w64}
 use mir.Val.{to_z, of_z}
 use mir.Facts.{to_z_pos}
 use borrow.Author.Tests.{le-leb, lt-leb}
-use Rattle.refusals.specs.Outcome.{answer, refusal}
+use Rattle.std.specs.Prelude.{Result, Ok, Err}
+use Rattle.refusals.specs.declared.Refusal.{Refusal}
+use Rattle.refusals.specs.declared.Refusal.TheVariants as R
+use Rattle.refusals.specs.Refusal.{refusal_number}
+use Rattle.refusals.specs.Outcome.{answer, refusal, outcome, seen}
+use Rattle.refusals.proofs.Handed.{answered}
 use Rattle.numerals.specs.little_endian.LittleEndian.{eight_bytes, with_nth64}
 use Rattle.numerals.proofs.little_endian.Puts.{put-64-is}
 use Rattle.leap_table.specs.rows.Table.{Row}
-use Rattle.leap_table.specs.rows.Announced.{unless_refused}
-use Rattle.runs.specs.declared.by_formula.RunAnswer.{RunAnswer}
-use Rattle.runs.specs.declared.by_formula.RunAnswer.TheVariants.{Converted, Refused}
-use Rattle.runs.specs.by_formula.Run.{RunCall, run_outcome, run_call}
+use Rattle.runs.specs.by_formula.Run.{RunCall, run_call}
 use Rattle.line_listing.specs.declared.taken.RunSize.{RunSize}
 use Rattle.line_listing.specs.taken.Run.{run_blocks, blocks_bytes}
 use Rattle.line_listing.specs.taken.Call.{size_of, taken_by, taken_call}
@@ -26,36 +28,44 @@ use Rattle.line_listing.proofs.taken.Blocks.{blocks_fit}
 use Rattle.line_listing.proofs.taken.Steps.{table-refused, table_taken, call-count}
 use Rattle.c_answers.specs.table.TableBytes.{table_bytes}
 use Rattle.c_answers.specs.Delivery.{code}
+use Rattle.c_answers.proofs.table.Laws.{not-refused, refused_by, taken_by as rows-taken}
 use Rattle.c_answers.proofs.Deliveries.{code-back}
 use Rattle.capi.specs.RunDelivery.{RunDelivered}
 use Rattle.capi.specs.RunSizeDelivery.{size_bytes, SizeDelivered}
 use Rattle.capi.proofs.Runs.{all-converted, all-refused}
 
--- the rows and the number n that the code reads in the bytes t; the scale, the run and the three buffers
-module _ (t : List ℕ) (rows : List Row) (n : ℕ) (judged : unless_refused n rows ≡ table_bytes t) (scale : ℕ) (s b1 b2 b3 : List ℕ) where
+-- what the code reads in the bytes t: a table with these rows; the scale, the run and the three buffers
+module _ (t : List ℕ) (rows : List Row) (lent : Result Unit Refusal) (judged : seen (λ (u : Unit). rows) lent ≡ table_bytes t) (scale : ℕ)
+    (s b1 b2 b3 : List ℕ) where
   abbrev asked : RunCall
   asked = taken_call (table_bytes t) scale s b1 b2 b3
 
-  pub take_table_refused : {r : ℤ} → mag r < 2 ^ 63 → (n ≡ 0 → ⊥) → r ≡ code (refusal n) → RunDelivered asked (to_z w64 (of_z w64 r)) b1 b2 b3
-  take_table_refused {r} ok h c = all-refused asked (Refused n) (table-refused (table_bytes t) rows n judged scale s b1 b2 b3 h) n ok (λ i. Refused n) c
+  pub take_table_refused : {r : ℤ} → mag r < 2 ^ 63 → (k : Refusal) → lent ≡ Err k → r ≡ code (refusal (refusal_number k))
+      → RunDelivered asked (to_z w64 (of_z w64 r)) b1 b2 b3
+  unfolding outcome
+  take_table_refused {r} ok k h c =
+      all-refused asked (Err k) (table-refused (table_bytes t) (refusal_number k) (refused_by (λ (u : Unit). rows) lent judged k h) scale s b1 b2 b3)
+      k ok (λ i. Err k) c
 
-  module _ (h : n ≡ 0) {out1 out2 numbers : List ℕ} (res : RunAnswer)
-      (e : run_call (run_outcome res) out1 out2 numbers ≡ taken_by rows scale (run_blocks s).sizes s b1 b2 b3) where
-    goes : run_call (run_outcome res) out1 out2 numbers ≡ asked
-    goes = e ∙ table_taken (table_bytes t) rows n judged scale s b1 b2 b3 h
+  module _ (h : (k : Refusal) → lent ≡ Err k → ⊥) {out1 out2 numbers : List ℕ} (res : Result ℕ Refusal)
+      (e : run_call (outcome res) out1 out2 numbers ≡ taken_by rows scale (run_blocks s).sizes s b1 b2 b3) where
+    goes : run_call (outcome res) out1 out2 numbers ≡ asked
+    goes = e ∙ table_taken (table_bytes t) rows (rows-taken (λ (u : Unit). rows) lent judged tt (not-refused lent h)) scale s b1 b2 b3
 
-    pub take_counted : (j : ℕ) → res ≡ Converted j → j ≤ length s
-    unfolding run_outcome
-    take_counted j i = call-count rows scale s b1 b2 b3 j (sym (ap run_outcome i) ∙ ap (λ (x : RunCall). x.answer) e)
+    pub take_counted : (j : ℕ) → res ≡ Ok j → j ≤ length s
+    take_counted j i = call-count rows scale s b1 b2 b3 j (sym (answered i) ∙ ap (λ (x : RunCall). x.answer) e)
 
-    pub take_converted : (j : ℕ) → res ≡ Converted j → j < 2 ^ 63 → RunDelivered asked (to_z w64 j) out1 out2 numbers
+    pub take_converted : (j : ℕ) → res ≡ Ok j → j < 2 ^ 63 → RunDelivered asked (to_z w64 j) out1 out2 numbers
     take_converted = all-converted asked res goes
 
-    pub take_refused : {r : ℤ} (j : ℕ) → mag r < 2 ^ 63 → res ≡ Refused j → r ≡ code (refusal j) → RunDelivered asked (to_z w64 (of_z w64 r)) out1 out2 numbers
+    pub take_refused : {r : ℤ} (j : Refusal) → mag r < 2 ^ 63 → res ≡ Err j → r ≡ code (refusal (refusal_number j))
+        → RunDelivered asked (to_z w64 (of_z w64 r)) out1 out2 numbers
     take_refused j ok i c = all-refused asked res goes j ok i c
 
 -- ---- how large a run is
-pub size-short : (z : RunSize) (l : List ℕ) {r : ℤ} → length l < 32 → mag r < 2 ^ 63 → r ≡ code (refusal 11) → SizeDelivered z l (to_z w64 (of_z w64 r)) l
+pub size-short : (z : RunSize) (l : List ℕ) {r : ℤ} → length l < 32 → mag r < 2 ^ 63 → r ≡ code (refusal (refusal_number R.NoRoom))
+    → SizeDelivered z l (to_z w64 (of_z w64 r)) l
+unfolding refusal_number
 size-short z l {r} h ok c = record { returned = rw (lt-leb 32 (length l) h) (code-back ok ∙ c); holds = rw (lt-leb 32 (length l) h) }
 
 -- four numbers, one after the other

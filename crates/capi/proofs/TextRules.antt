@@ -12,19 +12,22 @@ use mir.Syntax.{w64}
 use mir.Val.{SFits, to_z, of_z}
 use mir.Facts.{to_z_pos}
 use borrow.Author.Tests.{le-leb, lt-leb, leb-true}
+use Rattle.std.specs.Prelude.{Result, Ok, Err}
+use Rattle.refusals.specs.declared.Refusal.{Refusal}
+use Rattle.refusals.specs.declared.Refusal.TheVariants as R
+use Rattle.refusals.specs.Refusal.{refusal_number}
 use Rattle.refusals.specs.Outcome.{Outcome, answer, refusal, onward}
+use Rattle.refusals.proofs.Handed.{answered, handed}
 use Rattle.julian.specs.declared.JulianDate.{JulianDate}
 use Rattle.leap_table.specs.declared.offsets.Rule.{Rule}
 use Rattle.leap_table.specs.rows.Table.{Row}
 use Rattle.leap_table.specs.offsets.Rule.{with_rule, forget}
 use Rattle.leap_table.proofs.offsets.Rules.{rule_in}
 use Rattle.utc.specs.text.Answer.{text_written, buffer_after}
-use Rattle.utc.specs.declared.iso_texts.TextByRule.{TextByRule}
-use Rattle.utc.specs.declared.iso_texts.TextByRule.TheVariants.{Written, Refused}
 use Rattle.utc.specs.declared.iso_texts.NamedForm.{NamedForm}
 use Rattle.utc.specs.iso_texts.TextCall.{buffer_holds}
 use Rattle.utc.specs.iso_texts.Named.{form_named}
-use Rattle.utc.specs.iso_texts.ByRule.{text_by_rule, text_by_rule_outcome, written_by_rule, TextRuleCall}
+use Rattle.utc.specs.iso_texts.ByRule.{text_by_rule, written_by_rule, TextRuleCall}
 use Rattle.utc.proofs.iso_texts.TextRules.{text-forgets}
 use Rattle.utc.proofs.laws.NamedTexts.{named-text-few}
 use Rattle.c_answers.specs.Delivery.{code, Delivered}
@@ -48,14 +51,14 @@ unfolding written_by_rule no_room onward
 eleven-reported (refusal j) m n rule e = absurd (let z : ◌≡◌ {A = ℕ} 0 1 = cc in let no : ⊥ = omega arith in no)
 eleven-reported (answer t) m n rule e = refl
 
-module _ (o : Outcome (List ℕ × Rule)) {l out : List ℕ} {res : TextByRule} (p : TextRuleCall o l res out) where
-  pub no_room_refused : {k : ℕ} {r : ℤ} → mag r < 2 ^ 63 → res ≡ Refused k → r ≡ code (refusal k) → to_z w64 (of_z w64 r) ≡ code (no_room o)
-  unfolding text_by_rule_outcome
-  no_room_refused {k} ok is c = code-back ok ∙ c ∙ ap code (nothing-reported o (length l) k (sym p.says ∙ ap text_by_rule_outcome is))
+module _ (o : Outcome (List ℕ × Rule)) {l out : List ℕ} {res : Result (ℕ × Rule) Refusal} (p : TextRuleCall o l res out) where
+  pub no_room_refused : {k : Refusal} {r : ℤ} → mag r < 2 ^ 63 → res ≡ Err k → r ≡ code (refusal (refusal_number k)) → to_z w64 (of_z w64 r) ≡ code (no_room o)
+  no_room_refused {k} ok is c = code-back ok ∙ c ∙ ap code (nothing-reported o (length l) (refusal_number k) (sym p.says ∙ handed is))
 
-  pub no_room_written : {n : ℕ} {rule : Rule} {r : ℤ} → mag r < 2 ^ 63 → res ≡ Written n rule → r ≡ code (refusal 11) → to_z w64 (of_z w64 r) ≡ code (no_room o)
-  unfolding text_by_rule_outcome
-  no_room_written {n} {rule} ok is c = code-back ok ∙ c ∙ ap code (eleven-reported o (length l) n rule (sym p.says ∙ ap text_by_rule_outcome is))
+  pub no_room_written : {n : ℕ} {rule : Rule} {r : ℤ} → mag r < 2 ^ 63 → res ≡ Ok (n, rule) → r ≡ code (refusal (refusal_number R.NoRoom))
+      → to_z w64 (of_z w64 r) ≡ code (no_room o)
+  unfolding refusal_number
+  no_room_written {n} {rule} ok is c = code-back ok ∙ c ∙ ap code (eleven-reported o (length l) n rule (sym p.says ∙ answered is))
 
 -- ---- two buffers: the rule has no room, and both stay as they were
 abbrev eleven-for : List ℕ × Rule → Outcome (List ℕ × List ℕ)
@@ -141,12 +144,11 @@ not_fitted (answer t) l n k e = go (leb (length t.0) (length l)) refl e
     go true p q = absurd (let z : ◌≡◌ {A = ℕ} 0 1 = cc in let no : ⊥ = omega arith in no)
     go false p q = let z : ◌≡◌ {A = ℕ} 11 k = cc in (rw p (ap refusal z), rw p)
 
-module _ (o : Outcome (List ℕ × Rule)) (few : (t : List ℕ) → forget o ≡ answer t → length t ≤ 64) {l out : List ℕ} {res : TextByRule}
+module _ (o : Outcome (List ℕ × Rule)) (few : (t : List ℕ) → forget o ≡ answer t → length t ≤ 64) {l out : List ℕ} {res : Result (ℕ × Rule) Refusal}
     (p : TextRuleCall o l res out) where
-  module _ {n : ℕ} {rule : Rule} (is : res ≡ Written n rule) where
+  module _ {n : ℕ} {rule : Rule} (is : res ≡ Ok (n, rule)) where
     fit : Fitted o (length l) n rule
-    unfolding text_by_rule_outcome
-    fit = fitted o (length l) n rule (sym p.says ∙ ap text_by_rule_outcome is)
+    fit = fitted o (length l) n rule (sym p.says ∙ answered is)
 
     small : n ≤ 64
     unfolding forget onward
@@ -186,11 +188,11 @@ module _ (o : Outcome (List ℕ × Rule)) (few : (t : List ℕ) → forget o ≡
           holds_second = sym (ap (λ (x : Outcome (List ℕ × List ℕ)). buffer_holds (onward x (λ q. answer q.1)) []) e);
         }
 
-  pub two-refused : {k : ℕ} {r : ℤ} (b' : List ℕ) → mag r < 2 ^ 63 → res ≡ Refused k → r ≡ code (refusal k)
+  pub two-refused : {k : Refusal} {r : ℤ} (b' : List ℕ) → mag r < 2 ^ 63 → res ≡ Err k → r ≡ code (refusal (refusal_number k))
       → DeliveredTwo (ruled (length b') o) l b' (to_z w64 (of_z w64 r)) out b'
-  unfolding text_by_rule_outcome onward buffer_holds
+  unfolding onward buffer_holds
   two-refused {k} b' ok is c =
-      let (e, f) = not_fitted o l (length b') k (sym p.says ∙ ap text_by_rule_outcome is) in
+      let (e, f) = not_fitted o l (length b') (refusal_number k) (sym p.says ∙ handed is) in
       record {
         returned = code-back ok ∙ c ∙ sym (ap (λ (x : Outcome (List ℕ × List ℕ)). code (onward x (λ q. answer (length q.0)))) e);
         holds = p.holds ∙ f ∙ sym (ap (λ (x : Outcome (List ℕ × List ℕ)). buffer_holds (onward x (λ q. answer q.0)) l) e);

@@ -12,10 +12,12 @@ use mir.Syntax.{w64}
 use mir.Val.{to_z, of_z}
 use mir.Facts.{to_z_pos}
 use borrow.Author.Tests.{leb-true}
+use Rattle.std.specs.Prelude.{Result, Ok, Err}
+use Rattle.refusals.specs.declared.Refusal.{Refusal}
+use Rattle.refusals.specs.Refusal.{refusal_number}
 use Rattle.refusals.specs.Outcome.{Outcome, answer, refusal, onward}
-use Rattle.utc.specs.declared.text.TextAnswer.{TextAnswer}
-use Rattle.utc.specs.declared.text.TextAnswer.TheVariants.{Written, Refused}
-use Rattle.utc.specs.text.Answer.{text_outcome, text_written}
+use Rattle.refusals.proofs.Handed.{answered, handed}
+use Rattle.utc.specs.text.Answer.{text_written}
 use Rattle.utc.specs.iso_texts.TextCall.{written, TextCall}
 use Rattle.c_answers.specs.Delivery.{code, Delivered}
 use Rattle.c_answers.proofs.Deliveries.{code-back}
@@ -33,18 +35,16 @@ fits_in (answer t) m n e = go (leb (length t) m) (leb-true (length t) m) e
         refl_true = cc
     go false h p = absurd (let z : ◌≡◌ {A = ℕ} 0 1 = cc in let no : ⊥ = omega arith in no)
 
-module _ {o : Outcome (List ℕ)} {l out : List ℕ} {res : TextAnswer} (p : TextCall o l res out) where
-  pub text-count : (n : ℕ) → res ≡ Written n → n ≤ length l
-  unfolding text_outcome
-  text-count n i = fits_in o (length l) n (sym p.says ∙ ap text_outcome i)
+module _ {o : Outcome (List ℕ)} {l out : List ℕ} {res : Result ℕ Refusal} (p : TextCall o l res out) where
+  pub text-count : (n : ℕ) → res ≡ Ok n → n ≤ length l
+  text-count n i = fits_in o (length l) n (sym p.says ∙ answered i)
 
-  pub text-put : (n : ℕ) → res ≡ Written n → n < 2 ^ 63 → Delivered o l (to_z w64 n) out
-  unfolding text_outcome code
-  text-put n i h = record { returned = to_z_pos w64 {n = n} h ∙ ap code (sym (ap text_outcome i) ∙ p.says); holds = p.holds }
+  pub text-put : (n : ℕ) → res ≡ Ok n → n < 2 ^ 63 → Delivered o l (to_z w64 n) out
+  unfolding code
+  text-put n i h = record { returned = to_z_pos w64 {n = n} h ∙ ap code (sym (answered i) ∙ p.says); holds = p.holds }
 
-  pub text_refused : {r : ℤ} (n : ℕ) → mag r < 2 ^ 63 → res ≡ Refused n → r ≡ code (refusal n) → Delivered o l (to_z w64 (of_z w64 r)) out
-  unfolding text_outcome
-  text_refused n ok i e = record { returned = code-back ok ∙ e ∙ ap code (sym (ap text_outcome i) ∙ p.says); holds = p.holds }
+  pub text_refused : {r : ℤ} (k : Refusal) → mag r < 2 ^ 63 → res ≡ Err k → r ≡ code (refusal (refusal_number k)) → Delivered o l (to_z w64 (of_z w64 r)) out
+  text_refused k ok i e = record { returned = code-back ok ∙ e ∙ ap code (sym (handed i) ∙ p.says); holds = p.holds }
 
 -- handed on by another call
 pub delivered_on : {o o' : Outcome (List ℕ)} {l out : List ℕ} {r : ℤ} → mag r < 2 ^ 63 → o ≡ o' → Delivered o l r out → Delivered o' l

@@ -6,7 +6,7 @@ use Rattle.refusals.specs.Outcome.{Outcome, answer, refusal}
 use Rattle.numerals.specs.little_endian.LittleEndian.{with_u32, with_nth32}
 use Rattle.leap_table.specs.declared.rows.AnnouncedRows.{AnnouncedRows}
 use Rattle.leap_table.specs.rows.Announced.{natural, least}
-use Rattle.leap_lists.specs.declared.ListAnswer.{ListAnswer}
+use Rattle.leap_lists.specs.Reading.{ListAnswer}
 use Rattle.c_answers.specs.Delivery.{code}
 
 -- the first n of some numbers, as numbers of four bytes from place `from` on

@@ -9,16 +9,17 @@ ghost use Rattle.c_answers.specs.Delivery.{code, Delivered};
 ghost use Rattle.capi.specs.ListingPart.{listing_part, first_listing, second_listing};
 
 use c_answers::refused;
-use c_answers::table::{announced_rows_at, table_number};
-use stamps::{BlockAnswer, Reporting};
+use c_answers::table::{announced_rows_at, judge_table};
+use refusals::Refusal;
+use stamps::Reporting;
 
 #[unsafe(no_mangle)]
 pub extern "C" fn ct_block_stamps(block: &[u8]) -> i64
     ensures { result ≡ code (block_of block.now) }
 {
     match stamps::block_stamps(block) {
-        BlockAnswer::Stamps(n) => n as i64,
-        BlockAnswer::Refused(number) => refused(number),
+        Ok(n) => n as i64,
+        Err(refusal) => refused(refusal),
     }
 }
 
@@ -37,18 +38,18 @@ fn deliver_part(
         out.old result out.new }
 {
     let rows = announced_rows_at(table);
-    let number = table_number(table.len(), rows);
-    if number != 0 {
-        return refused(number);
+    if let Err(refusal) = judge_table(table.len(), rows) {
+        return refused(refusal);
     }
     if out.len() < room {
-        return refused(refusals::NO_ROOM);
+        return refused(Refusal::NoRoom);
     }
-    let part = stamps::next_part_by_rows(reporting, block, line as usize, rows, out);
+    let part = stamps::next_part_by_rows(reporting, block, line as usize, &rows, out);
     let n = part.written;
     n as i64
 }
 
+#[tactic(auto, unfolding(stamps::specs::Listing::line_room, stamps::specs::Widths::Wide))]
 #[unsafe(no_mangle)]
 pub extern "C" fn ct_listing_part(block: &[u8], line: u32, table: &[u8], out: &mut [u8]) -> i64
     ensures { Delivered (first_listing table.now block.now line (length out.old)) out.old result

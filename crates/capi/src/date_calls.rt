@@ -1,7 +1,7 @@
 // Julian dates: from the calendar and back, and the calls that refuse nothing but a short buffer.
 ghost use Rattle.std.specs.Prelude.{◌≡◌};
-ghost use Rattle.refusals.specs.Outcome.{answer};
-ghost use Rattle.julian.specs.JulianDate.{julian, julian_outcome, rounded_sum, add_days, add_seconds, difference};
+ghost use Rattle.refusals.specs.Outcome.{answer, outcome};
+ghost use Rattle.julian.specs.JulianDate.{julian, rounded_sum, add_days, add_seconds, difference};
 ghost use Rattle.julian.specs.Calendar.{calendar_to_julian, julian_to_calendar, from_calendar};
 ghost use Rattle.julian.specs.UnixTime.{from_unix_time};
 ghost use Rattle.julian.specs.JulianYear.{to_julian_year, from_julian_year};
@@ -10,14 +10,15 @@ ghost use Rattle.c_answers.specs.Delivery.{truth, in_bytes, Delivered};
 ghost use Rattle.c_answers.specs.Fields.{julian_bytes, calendar_bytes};
 
 use c_answers::{fields, refused};
-use julian::{JulianAnswer, JulianDate};
+use julian::JulianDate;
+use refusals::Refusal;
 
-fn put_date(found: JulianAnswer, out: &mut [u8]) -> i64
-    ensures { Delivered (in_bytes julian_bytes (julian_outcome found)) out.old result out.new }
+pub(crate) fn put_date(found: Result<JulianDate, Refusal>, out: &mut [u8]) -> i64
+    ensures { Delivered (in_bytes julian_bytes (outcome found)) out.old result out.new }
 {
     match found {
-        JulianAnswer::Date(date) => fields::put_julian(date, out),
-        JulianAnswer::Refused(number) => refused(number),
+        Ok(date) => fields::put_julian(date, out),
+        Err(refusal) => refused(refusal),
     }
 }
 
@@ -99,11 +100,7 @@ pub extern "C" fn ct_from_julian_year(year: f64, out: &mut [u8]) -> i64
 pub extern "C" fn ct_equal(jd1: f64, jd2: f64, other1: f64, other2: f64) -> i64
     ensures { result ≡ truth (equal (julian jd1 jd2) (julian other1 other2)) }
 {
-    if JulianDate::new(jd1, jd2).eq(JulianDate::new(other1, other2)) {
-        1
-    } else {
-        0
-    }
+    i64::from(JulianDate::new(jd1, jd2) == JulianDate::new(other1, other2))
 }
 
 #[unsafe(no_mangle)]

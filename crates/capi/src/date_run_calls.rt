@@ -1,11 +1,11 @@
 // The dates of a run of UTC texts in one call.
+// kept: an `if let` after `read_table` and no `?`, and three buffers of one run (C interface).
 ghost use Rattle.parsing.specs.run_dates.RunDates.{dates_of_texts};
 ghost use Rattle.c_answers.specs.table.TableBytes.{table_bytes};
 ghost use Rattle.capi.specs.RunDelivery.{RunDelivered};
 
 use c_answers::refused;
 use c_answers::table::arrays;
-use runs::by_formula::RunAnswer;
 
 #[unsafe(no_mangle)]
 pub extern "C" fn ct_dates_of_texts(
@@ -19,18 +19,12 @@ pub extern "C" fn ct_dates_of_texts(
     ensures { RunDelivered (dates_of_texts (table_bytes table.now) texts.now lengths.now out1.old
         out2.old numbers.old) result out1.new out2.new numbers.new }
 {
-    let mut months = [0; 16];
-    let mut seconds = [0; 16];
-    let lent = arrays::read_table(table, &mut months, &mut seconds);
-    let number = lent.number;
-    if number != 0 {
-        return refused(number);
+    let mut rows = leap_table::rows::no_rows();
+    if let Err(refusal) = arrays::read_table(table, &mut rows) {
+        return refused(refusal);
     }
-    let size = lent.size;
-    match parsing::run_dates::dates_of_texts_by_arrays(
-        texts, lengths, size, &months, &seconds, out1, out2, numbers,
-    ) {
-        RunAnswer::Converted(n) => n as i64,
-        RunAnswer::Refused(number) => refused(number),
+    match parsing::run_dates::dates_of_texts_by_rows(texts, lengths, &rows, out1, out2, numbers) {
+        Ok(n) => n as i64,
+        Err(refusal) => refused(refusal),
     }
 }

@@ -1,4 +1,7 @@
 // The calls for C: numbers and byte slices only. include/celestial_time.h declares each call and says what it answers.
+// kept: in all of them a refusal is matched and no `?` hands it on, and a form or a scale comes as a number, since a call answers the code that C reads.
+// Where the answer is a count, in seventeen of them, both arms stand in the call: a function for them would ask that the count fits an i64, which each call
+// shows by a fact of its own.
 #![tactic(auto)]
 
 pub mod block_calls;

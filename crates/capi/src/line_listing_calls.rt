@@ -1,32 +1,35 @@
 // The listing of three recorders in parts.
+// kept: records, parts, numbers and order in slices beside each other (C interface).
 ghost use Rattle.std.specs.Prelude.{◌≡◌, length};
+ghost use Rattle.refusals.specs.Outcome.{number_said};
 ghost use Rattle.c_answers.specs.table.TableBytes.{table_bytes};
 ghost use Rattle.capi.specs.LineListingDelivery.{asked_refusal, part_asked, PartDelivered};
 
 use crate::summary_calls::run_at;
 use c_answers::refused;
 use c_answers::table::arrays;
-use line_listing::lines::PartAnswer;
 use numerals::little_endian::{put_nth_u64, u64_at};
+use refusals::Refusal;
 
-// The refusal of the arguments, or 0.
-fn asked_refusal(
+// Whether the arguments go together.
+#[tactic(auto, unfolding(crate::specs::LineListingDelivery::asked_refusal, refusals::specs::Outcome::number_said, refusals::specs::Refusal::refusal_number))]
+fn judge_asked(
     reasons: u32,
     runs: &[u8],
     size1: usize,
     size2: usize,
     n: usize,
     cursor: usize,
-) -> u32
-    ensures { result ≡ asked_refusal reasons runs.now size1 size2 n cursor }
+) -> Result<(), Refusal>
+    ensures { number_said result ≡ asked_refusal reasons runs.now size1 size2 n cursor }
 {
     if reasons > 1 {
-        return refusals::OUT_OF_LIMIT;
+        return Err(Refusal::OutOfLimit);
     }
     if cursor != 16 {
-        return refusals::LENGTH_WRONG;
+        return Err(Refusal::LengthWrong);
     }
-    crate::summary_calls::runs_refusal(runs, size1, size2, n)
+    crate::summary_calls::judge_runs(runs, size1, size2, n)
 }
 
 #[unsafe(no_mangle)]
@@ -45,28 +48,23 @@ pub extern "C" fn ct_line_listing_part(
         cursor.old (length out.old) (table_bytes table.now)) cursor.old out.old result cursor.new
         out.new }
 {
-    let mut months = [0; 16];
-    let mut seconds = [0; 16];
-    let lent = arrays::read_table(table, &mut months, &mut seconds);
-    let number = lent.number;
-    if number != 0 {
-        return refused(number);
+    let mut rows = leap_table::rows::no_rows();
+    if let Err(refusal) = arrays::read_table(table, &mut rows) {
+        return refused(refusal);
     }
-    let other = asked_refusal(
+    if let Err(refusal) = judge_asked(
         reasons,
         runs,
         jd1.len(),
         jd2.len(),
         numbers.len(),
         cursor.len(),
-    );
-    if other != 0 {
-        return refused(other);
+    ) {
+        return refused(refusal);
     }
-    let size = lent.size;
     let line = u64_at(cursor, 0) as usize;
     let textless = u64_at(cursor, 8) as usize;
-    match line_listing::listing::listing_part_by_arrays(
+    match line_listing::listing::listing_part_by_rows(
         reasons == 1,
         run_at(runs, 0),
         run_at(runs, 32),
@@ -79,13 +77,11 @@ pub extern "C" fn ct_line_listing_part(
         order,
         line,
         textless,
-        size,
-        &months,
-        &seconds,
+        &rows,
         out,
     ) {
-        PartAnswer::Refused(last) => refused(last),
-        PartAnswer::Lines(part) => {
+        Err(refusal) => refused(refusal),
+        Ok(part) => {
             put_nth_u64(cursor, 0, part.line as u64);
             put_nth_u64(cursor, 1, part.textless as u64);
             part.written as i64

@@ -1,12 +1,12 @@
 // The stamps of up to three recorders in one order. The two work areas, four bytes for each stamp each, are written too, and what is left in them means
 // nothing.
+// kept: parts and numbers in slices beside each other, counts beside them (C interface).
 ghost use Rattle.std.specs.Prelude.{length};
 ghost use Rattle.line_up.specs.LineUp.{lined_up};
 ghost use Rattle.line_listing.specs.order.Order.{lines_in_order};
 ghost use Rattle.capi.specs.LineDelivery.{LineDelivered};
 
 use c_answers::refused;
-use line_up::LineUpAnswer;
 
 #[unsafe(no_mangle)]
 pub extern "C" fn ct_line_up(
@@ -32,8 +32,8 @@ pub extern "C" fn ct_line_up(
         tails,
         ranks,
     ) {
-        LineUpAnswer::Ordered(n) => n as i64,
-        LineUpAnswer::Refused(number) => refused(number),
+        Ok(n) => n as i64,
+        Err(refusal) => refused(refusal),
     }
 }
 
@@ -61,7 +61,7 @@ pub extern "C" fn ct_lines_in_order(
         work1,
         work2,
     ) {
-        LineUpAnswer::Ordered(n) => n as i64,
-        LineUpAnswer::Refused(number) => refused(number),
+        Ok(n) => n as i64,
+        Err(refusal) => refused(refusal),
     }
 }

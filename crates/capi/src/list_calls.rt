@@ -1,20 +1,20 @@
 // Announced leap rows that are read from a text, as the table that other calls are lent.
+// kept: a `match` after `read` and no `?`, and an expiry in a buffer of its own (C interface).
 ghost use Rattle.std.specs.Prelude.{◌≡◌, ◌<◌};
 ghost use Rattle.leap_lists.specs.Reading.{read_of};
 ghost use Rattle.capi.specs.ListDelivery.{put_to, with_table, fault_line, TableRead};
 
 use c_answers::refused;
 use leap_table::rows::AnnouncedRows;
+use refusals::Refusal;
 
 // Sixteen numbers as numbers of four bytes, from place `from` on.
 fn put_numbers(numbers: &[i32; 16], from: usize, out: &mut [u8])
     requires { from < 100 }
     ensures { out.new ≡ put_to out.old from numbers.now 16 }
 {
-    let mut i = 0;
-    while i < 16 {
+    for i in 0..16 {
         numerals::little_endian::put_nth_u32(out, from + i, leap_table::rows::natural(numbers[i]));
-        i += 1;
     }
 }
 
@@ -32,15 +32,12 @@ fn put_table(table: AnnouncedRows, out: &mut [u8])
 pub extern "C" fn ct_read_table(text: &[u8], table: &mut [u8], known: &mut [u8]) -> i64
     ensures { TableRead (read_of text.now) table.old known.old result table.new known.new }
 {
-    let found = leap_lists::read(text);
-    if found.number != 0 {
-        return refused(found.number);
-    }
-    if table.len() < 136 {
-        return refused(refusals::NO_ROOM);
-    }
-    if known.len() < 4 {
-        return refused(refusals::NO_ROOM);
+    let found = match leap_lists::read(text) {
+        Ok(found) => found,
+        Err(fault) => return refused(fault.refusal),
+    };
+    if table.len() < 136 || known.len() < 4 {
+        return refused(Refusal::NoRoom);
     }
     let rows = found.table;
     put_table(rows, table);
@@ -53,9 +50,8 @@ pub extern "C" fn ct_read_table(text: &[u8], table: &mut [u8], known: &mut [u8])
 pub extern "C" fn ct_table_fault(text: &[u8]) -> i64
     ensures { result ≡ fault_line (read_of text.now) }
 {
-    let line = leap_lists::read(text).line;
-    if line <= 9_223_372_036_854_775_807 {
-        return line as i64;
+    match leap_lists::read(text) {
+        Ok(_) => 0,
+        Err(fault) => fault.line.min(9_223_372_036_854_775_807) as i64,
     }
-    9_223_372_036_854_775_807
 }

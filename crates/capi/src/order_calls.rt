@@ -7,16 +7,16 @@ ghost use Rattle.capi.specs.OrderNumber.{numbered};
 
 use c_answers::refused;
 use julian::JulianDate;
-use julian::order::OrderAnswer;
+use std::cmp::Ordering;
 
 #[unsafe(no_mangle)]
 pub extern "C" fn ct_compare(jd1: f64, jd2: f64, other1: f64, other2: f64) -> i64
     ensures { result ≡ code (numbered (comparison (julian jd1 jd2) (julian other1 other2))) }
 {
     match julian::order::compare(JulianDate::new(jd1, jd2), JulianDate::new(other1, other2)) {
-        OrderAnswer::Before => 0,
-        OrderAnswer::Equal => 1,
-        OrderAnswer::After => 2,
-        OrderAnswer::Refused(number) => refused(number),
+        Ok(Ordering::Less) => 0,
+        Ok(Ordering::Equal) => 1,
+        Ok(Ordering::Greater) => 2,
+        Err(refusal) => refused(refusal),
     }
 }

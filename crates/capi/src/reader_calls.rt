@@ -1,7 +1,8 @@
 // Text that others wrote, read: its six fields, and of UTC text the date too.
+// kept: an `if let` after `read_table` and no `?` (C interface).
 ghost use Rattle.std.specs.Prelude.{false};
-ghost use Rattle.refusals.specs.Outcome.{answer, onward};
-ghost use Rattle.parsing.specs.Parsed.{parsed_outcome, parsed_utc_outcome, parsed, parsed_utc};
+ghost use Rattle.refusals.specs.Outcome.{answer, onward, outcome};
+ghost use Rattle.parsing.specs.Parsed.{parsed, parsed_utc};
 ghost use Rattle.c_answers.specs.table.TableBytes.{table_bytes};
 ghost use Rattle.c_answers.specs.Delivery.{in_bytes, Delivered};
 ghost use Rattle.capi.specs.ReaderFields.{parsed_bytes, parsed_utc_bytes};
@@ -10,14 +11,15 @@ use c_answers::fields::{put_date, put_float, put_julian, put_two_numbers};
 use c_answers::refused;
 use c_answers::table::arrays;
 use calendar::CalendarDate;
-use parsing::{ParsedAnswer, ParsedDateTime, ParsedUtc, ParsedUtcAnswer};
+use parsing::{ParsedDateTime, ParsedUtc};
+use refusals::Refusal;
 
 // Year, month and day, then hour and minute, then the second, one behind the other.
 fn put_fields(fields: ParsedDateTime, out: &mut [u8]) -> i64
     ensures { Delivered (answer (parsed_bytes fields)) out.old result out.new }
 {
     if out.len() < 28 {
-        return refused(refusals::NO_ROOM);
+        return refused(Refusal::NoRoom);
     }
     let date = CalendarDate {
         year: fields.year,
@@ -35,7 +37,7 @@ fn put_fields_and_date(read: ParsedUtc, out: &mut [u8]) -> i64
     ensures { Delivered (answer (parsed_utc_bytes read)) out.old result out.new }
 {
     if out.len() < 44 {
-        return refused(refusals::NO_ROOM);
+        return refused(Refusal::NoRoom);
     }
     let fields = read.fields;
     let date = read.date;
@@ -44,21 +46,22 @@ fn put_fields_and_date(read: ParsedUtc, out: &mut [u8]) -> i64
     44
 }
 
-fn put_parsed(found: ParsedAnswer, out: &mut [u8]) -> i64
-    ensures { Delivered (in_bytes parsed_bytes (parsed_outcome found)) out.old result out.new }
+// kept: nine such matches in this crate, each with a writer of its own: a function for all would take the writer as a closure, whose contract is longer.
+fn put_parsed(found: Result<ParsedDateTime, Refusal>, out: &mut [u8]) -> i64
+    ensures { Delivered (in_bytes parsed_bytes (outcome found)) out.old result out.new }
 {
     match found {
-        ParsedAnswer::Fields(fields) => put_fields(fields, out),
-        ParsedAnswer::Refused(number) => refused(number),
+        Ok(fields) => put_fields(fields, out),
+        Err(refusal) => refused(refusal),
     }
 }
 
-fn put_parsed_utc(found: ParsedUtcAnswer, out: &mut [u8]) -> i64
-    ensures { Delivered (in_bytes parsed_utc_bytes (parsed_utc_outcome found)) out.old result out.new }
+fn put_parsed_utc(found: Result<ParsedUtc, Refusal>, out: &mut [u8]) -> i64
+    ensures { Delivered (in_bytes parsed_utc_bytes (outcome found)) out.old result out.new }
 {
     match found {
-        ParsedUtcAnswer::Read(read) => put_fields_and_date(read, out),
-        ParsedUtcAnswer::Refused(number) => refused(number),
+        Ok(read) => put_fields_and_date(read, out),
+        Err(refusal) => refused(refusal),
     }
 }
 
@@ -74,16 +77,9 @@ pub extern "C" fn ct_utc_from_iso8601(text: &[u8], table: &[u8], out: &mut [u8])
     ensures { Delivered (in_bytes parsed_utc_bytes (onward (table_bytes table.now) (λ rows. parsed_utc rows text.now)))
         out.old result out.new }
 {
-    let mut months = [0; 16];
-    let mut seconds = [0; 16];
-    let lent = arrays::read_table(table, &mut months, &mut seconds);
-    let number = lent.number;
-    if number != 0 {
-        return refused(number);
+    let mut rows = leap_table::rows::no_rows();
+    if let Err(refusal) = arrays::read_table(table, &mut rows) {
+        return refused(refusal);
     }
-    let size = lent.size;
-    put_parsed_utc(
-        parsing::from_str_by_arrays(text, size, &months, &seconds),
-        out,
-    )
+    put_parsed_utc(parsing::from_str_by_rows(text, &rows), out)
 }

@@ -5,14 +5,13 @@ ghost use Rattle.c_answers.specs.Delivery.{Delivered};
 
 use c_answers::refused;
 use reasons::Values;
-use utc::text::TextAnswer;
 
 fn deliver_reason(number: u32, values: Values, out: &mut [u8]) -> i64
     ensures { Delivered (sentence number values) out.old result out.new }
 {
     match reasons::put_reason(number, values, out) {
-        TextAnswer::Written(n) => n as i64,
-        TextAnswer::Refused(other) => refused(other),
+        Ok(n) => n as i64,
+        Err(refusal) => refused(refusal),
     }
 }
 

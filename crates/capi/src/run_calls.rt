@@ -6,7 +6,6 @@ ghost use Rattle.capi.specs.RunDelivery.{RunDelivered};
 
 use c_answers::refused;
 use c_answers::table::arrays;
-use runs::by_formula::RunAnswer;
 
 #[unsafe(no_mangle)]
 pub extern "C" fn ct_convert_run(
@@ -22,19 +21,13 @@ pub extern "C" fn ct_convert_run(
     ensures { RunDelivered (converted_run (table_bytes table.now) from to jd1.now jd2.now out1.old
         out2.old numbers.old) result out1.new out2.new numbers.new }
 {
-    let mut months = [0; 16];
-    let mut seconds = [0; 16];
-    let lent = arrays::read_table(table, &mut months, &mut seconds);
-    let number = lent.number;
-    if number != 0 {
-        return refused(number);
+    let mut rows = leap_table::rows::no_rows();
+    if let Err(refusal) = arrays::read_table(table, &mut rows) {
+        return refused(refusal);
     }
-    let size = lent.size;
-    match runs::convert_run_by_arrays(
-        from, to, jd1, jd2, size, &months, &seconds, out1, out2, numbers,
-    ) {
-        RunAnswer::Converted(n) => n as i64,
-        RunAnswer::Refused(number) => refused(number),
+    match runs::convert_run_by_rows(from, to, jd1, jd2, &rows, out1, out2, numbers) {
+        Ok(n) => n as i64,
+        Err(refusal) => refused(refusal),
     }
 }
 
@@ -53,7 +46,7 @@ pub extern "C" fn ct_formula_run(
         numbers.old) result out1.new out2.new numbers.new }
 {
     match runs::by_formula::formula_run(from, to, jd1, jd2, offsets, out1, out2, numbers) {
-        RunAnswer::Converted(n) => n as i64,
-        RunAnswer::Refused(number) => refused(number),
+        Ok(n) => n as i64,
+        Err(refusal) => refused(refusal),
     }
 }

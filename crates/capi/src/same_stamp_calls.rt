@@ -22,9 +22,5 @@ pub extern "C" fn ct_same_stamp(
         jd1: other1,
         jd2: other2,
     };
-    if julian::same_stamps::same_stamp(one, two) {
-        1
-    } else {
-        0
-    }
+    i64::from(julian::same_stamps::same_stamp(one, two))
 }

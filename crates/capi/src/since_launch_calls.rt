@@ -8,7 +8,6 @@ ghost use Rattle.capi.specs.MillisDelivery.{MillisDelivered};
 
 use c_answers::refused;
 use julian::JulianDate;
-use since_launch::{MillisAnswer, RunMillis};
 
 #[unsafe(no_mangle)]
 pub extern "C" fn ct_milliseconds(from1: f64, from2: f64, jd1: f64, jd2: f64) -> i64
@@ -19,8 +18,8 @@ pub extern "C" fn ct_milliseconds(from1: f64, from2: f64, jd1: f64, jd2: f64) ->
         jd2: from2,
     };
     match since_launch::milliseconds(from, JulianDate { jd1, jd2 }) {
-        MillisAnswer::Millis(millis) => millis as i64,
-        MillisAnswer::Refused(number) => refused(number),
+        Ok(millis) => millis as i64,
+        Err(refusal) => refused(refusal),
     }
 }
 
@@ -41,7 +40,7 @@ pub extern "C" fn ct_milliseconds_of_run(
         jd2: from2,
     };
     match since_launch::milliseconds_of_run(from, jd1, jd2, millis, numbers) {
-        RunMillis::Written(n) => n as i64,
-        RunMillis::Refused(number) => refused(number),
+        Ok(n) => n as i64,
+        Err(refusal) => refused(refusal),
     }
 }

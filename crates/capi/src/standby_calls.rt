@@ -1,26 +1,22 @@
 // The bill for a crew's standby.
-ghost use Rattle.refusals.specs.Outcome.{onward};
+// kept: the seven numbers of each time one by one, not as a struct (C interface).
+ghost use Rattle.refusals.specs.Outcome.{onward, outcome};
 ghost use Rattle.standby.specs.Bills.{standby_bill};
-ghost use Rattle.standby.specs.Answers.{bill_outcome};
 ghost use Rattle.c_answers.specs.table.TableBytes.{table_bytes};
 ghost use Rattle.c_answers.specs.Delivery.{in_bytes, Delivered};
 ghost use Rattle.capi.specs.BillBytes.{bill_bytes, utc_time};
 
-use c_answers::table::{announced_rows_at, table_number};
+use c_answers::table::{announced_rows_at, judge_table};
 use c_answers::{refused, wide_fields};
-use standby::{BillAnswer, UtcTime};
+use refusals::Refusal;
+use standby::{Bill, UtcTime};
 
-fn put_bill(found: BillAnswer, out: &mut [u8]) -> i64
-    ensures { Delivered (in_bytes bill_bytes (bill_outcome found)) out.old result out.new }
+fn put_bill(found: Result<Bill, Refusal>, out: &mut [u8]) -> i64
+    ensures { Delivered (in_bytes bill_bytes (outcome found)) out.old result out.new }
 {
     match found {
-        BillAnswer::Billed(bill) => wide_fields::put_three_patterns(
-            bill.quarters,
-            bill.first,
-            bill.second,
-            out,
-        ),
-        BillAnswer::Refused(number) => refused(number),
+        Ok(bill) => wide_fields::put_three_patterns(bill.quarters, bill.first, bill.second, out),
+        Err(refusal) => refused(refusal),
     }
 }
 
@@ -39,9 +35,8 @@ fn bill_call(
         out.new }
 {
     let rows = announced_rows_at(table);
-    let number = table_number(table.len(), rows);
-    if number != 0 {
-        return refused(number);
+    if let Err(refusal) = judge_table(table.len(), rows) {
+        return refused(refusal);
     }
     put_bill(
         standby::standby_bill(start, end, rate, first_metres, second_metres, rows),

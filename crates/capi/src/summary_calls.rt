@@ -1,18 +1,20 @@
 // The summary of three lined up runs, and what an analyst must look at.
+// kept: records, parts and numbers in slices beside each other, in both calls (C interface). Both read the table and the records in lines of their own: they
+// take the table by value, and a function for them would leave each call its `match`.
 ghost use Rattle.std.specs.Prelude.{◌≡◌, ◌+◌, ◌≤◌, eqb, length};
-ghost use Rattle.refusals.specs.Outcome.{onward};
+ghost use Rattle.refusals.specs.Outcome.{onward, number_said};
 ghost use Rattle.c_answers.specs.table.TableBytes.{table_bytes};
 ghost use Rattle.c_answers.specs.Delivery.{code, Delivered};
 ghost use Rattle.capi.specs.SummaryDelivery.{run_record, eight_for_each, runs_refusal, summary_of, look_at};
 
 use c_answers::refused;
-use c_answers::table::{announced_rows_at, table_number};
+use c_answers::table::{announced_rows_at, judge_table};
 use line_listing::head::RunEnd;
-use line_listing::summary::LookAnswer;
 use numerals::little_endian::{u32_at, u64_at};
-use utc::text::TextAnswer;
+use refusals::Refusal;
 
 // The record of a run, from `at` on.
+#[tactic(auto, unfolding(crate::specs::SummaryDelivery::run_record))]
 pub(crate) fn run_at(runs: &[u8], at: usize) -> RunEnd
     requires { at ≤ 64 }
     ensures { result ≡ run_record runs.now at }
@@ -27,50 +29,33 @@ pub(crate) fn run_at(runs: &[u8], at: usize) -> RunEnd
     }
 }
 
+#[tactic(auto, unfolding(crate::specs::SummaryDelivery::eight_for_each))]
 fn eight_each(size: usize, n: usize) -> bool
     ensures { result ≡ eight_for_each size n }
 {
-    if size % 8 != 0 {
-        return false;
-    }
-    size / 8 == n
+    size % 8 == 0 && size / 8 == n
 }
 
 // Whether three numbers are n together.
 fn sum_is(a: u64, b: u64, c: u64, n: u64) -> bool
     ensures { result ≡ eqb (a + b + c) n }
 {
-    if n < a {
-        return false;
-    }
-    if n - a < b {
-        return false;
-    }
-    c == n - a - b
+    a <= n && b <= n - a && c == n - a - b
 }
 
-// The refusal of the records and the lengths of the lists, or 0.
-pub(crate) fn runs_refusal(runs: &[u8], size1: usize, size2: usize, n: usize) -> u32
-    ensures { result ≡ runs_refusal runs.now size1 size2 n }
+// Whether there are three records, and the lengths of the lists go with them.
+#[tactic(auto, unfolding(crate::specs::SummaryDelivery::runs_refusal, refusals::specs::Outcome::number_said, refusals::specs::Refusal::refusal_number))]
+pub(crate) fn judge_runs(runs: &[u8], size1: usize, size2: usize, n: usize) -> Result<(), Refusal>
+    ensures { number_said result ≡ runs_refusal runs.now size1 size2 n }
 {
     if runs.len() != 96 {
-        return refusals::LENGTH_WRONG;
+        return Err(Refusal::LengthWrong);
     }
-    if !eight_each(size1, n) {
-        return refusals::SIZES_DIFFER;
+    let (first, second, third) = (u64_at(runs, 0), u64_at(runs, 32), u64_at(runs, 64));
+    if !eight_each(size1, n) || !eight_each(size2, n) || !sum_is(first, second, third, n as u64) {
+        return Err(Refusal::SizesDiffer);
     }
-    if !eight_each(size2, n) {
-        return refusals::SIZES_DIFFER;
-    }
-    if !sum_is(
-        u64_at(runs, 0),
-        u64_at(runs, 32),
-        u64_at(runs, 64),
-        n as u64,
-    ) {
-        return refusals::SIZES_DIFFER;
-    }
-    0
+    Ok(())
 }
 
 #[unsafe(no_mangle)]
@@ -87,13 +72,11 @@ pub extern "C" fn ct_line_summary(
         (summary_of known runs.now jd1.now jd2.now numbers.now)) out.old result out.new }
 {
     let rows = announced_rows_at(table);
-    let number = table_number(table.len(), rows);
-    if number != 0 {
-        return refused(number);
+    if let Err(refusal) = judge_table(table.len(), rows) {
+        return refused(refusal);
     }
-    let other = runs_refusal(runs, jd1.len(), jd2.len(), numbers.len());
-    if other != 0 {
-        return refused(other);
+    if let Err(refusal) = judge_runs(runs, jd1.len(), jd2.len(), numbers.len()) {
+        return refused(refusal);
     }
     match line_listing::summary::put_summary(
         jd1,
@@ -108,8 +91,8 @@ pub extern "C" fn ct_line_summary(
         known,
         out,
     ) {
-        TextAnswer::Written(n) => n as i64,
-        TextAnswer::Refused(last) => refused(last),
+        Ok(n) => n as i64,
+        Err(refusal) => refused(refusal),
     }
 }
 
@@ -126,13 +109,11 @@ pub extern "C" fn ct_line_look(
         (look_at known runs.now jd1.now jd2.now numbers.now)) }
 {
     let rows = announced_rows_at(table);
-    let number = table_number(table.len(), rows);
-    if number != 0 {
-        return refused(number);
+    if let Err(refusal) = judge_table(table.len(), rows) {
+        return refused(refusal);
     }
-    let other = runs_refusal(runs, jd1.len(), jd2.len(), numbers.len());
-    if other != 0 {
-        return refused(other);
+    if let Err(refusal) = judge_runs(runs, jd1.len(), jd2.len(), numbers.len()) {
+        return refused(refusal);
     }
     match line_listing::summary::look(
         jd1,
@@ -146,7 +127,7 @@ pub extern "C" fn ct_line_look(
         rows,
         known,
     ) {
-        LookAnswer::Look(n) => n as i64,
-        LookAnswer::Refused(last) => refused(last),
+        Ok(n) => n as i64,
+        Err(refusal) => refused(refusal),
     }
 }

@@ -5,10 +5,11 @@ ghost use Rattle.capi.specs.TextsDelivery.{form_numbered, texts_by_number, Texts
 
 use c_answers::refused;
 use c_answers::table::arrays;
+use refusals::Refusal;
 use utc::iso_texts::NamedForm;
-use utc::run_texts::RunTextsAnswer;
 
 // The form of text of a number, and that with expanded years for any number above 1.
+#[tactic(auto, unfolding(crate::specs::TextsDelivery::form_numbered))]
 fn form_of(n: u32) -> NamedForm
     ensures { result ≡ form_numbered n }
 {
@@ -34,29 +35,23 @@ pub extern "C" fn ct_texts_of_run(
     ensures { TextsDelivered (texts_by_number text_form (table_bytes table.now) jd1.now jd2.now texts.old
         lengths.old numbers.old) result texts.new lengths.new numbers.new }
 {
-    let mut months = [0; 16];
-    let mut seconds = [0; 16];
-    let lent = arrays::read_table(table, &mut months, &mut seconds);
-    let number = lent.number;
-    if number != 0 {
-        return refused(number);
+    let mut rows = leap_table::rows::no_rows();
+    if let Err(refusal) = arrays::read_table(table, &mut rows) {
+        return refused(refusal);
     }
     if text_form > 2 {
-        return refused(refusals::OUT_OF_LIMIT);
+        return refused(Refusal::OutOfLimit);
     }
-    let size = lent.size;
-    match utc::run_texts::texts_of_run_by_arrays(
+    match utc::run_texts::texts_of_run_by_rows(
         form_of(text_form),
         jd1,
         jd2,
-        size,
-        &months,
-        &seconds,
+        &rows,
         texts,
         lengths,
         numbers,
     ) {
-        RunTextsAnswer::Written(n) => n as i64,
-        RunTextsAnswer::Refused(number) => refused(number),
+        Ok(n) => n as i64,
+        Err(refusal) => refused(refusal),
     }
 }

@@ -6,8 +6,6 @@ ghost use Rattle.c_answers.specs.Delivery.{Delivered};
 ghost use Rattle.capi.specs.PlacesDelivery.{PlacesDelivered};
 
 use c_answers::refused;
-use ticks::TicksAnswer;
-use ticks::places::PlacesAnswer;
 
 #[unsafe(no_mangle)]
 pub extern "C" fn ct_place_ticks(
@@ -20,8 +18,8 @@ pub extern "C" fn ct_place_ticks(
         out.old result out.new }
 {
     match ticks::place_ticks(pass_ticks, pass_millis, ticks, out) {
-        TicksAnswer::Written(n) => n as i64,
-        TicksAnswer::Refused(number) => refused(number),
+        Ok(n) => n as i64,
+        Err(refusal) => refused(refusal),
     }
 }
 
@@ -37,7 +35,7 @@ pub extern "C" fn ct_place_readings(
         numbers.old) result places.new numbers.new }
 {
     match ticks::places::place_readings(pass_millis, pass_places, millis, places, numbers) {
-        PlacesAnswer::Written(n) => n as i64,
-        PlacesAnswer::Refused(number) => refused(number),
+        Ok(n) => n as i64,
+        Err(refusal) => refused(refusal),
     }
 }

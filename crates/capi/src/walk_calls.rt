@@ -8,7 +8,7 @@ ghost use Rattle.capi.specs.WalkDelivery.{WalkDelivered};
 
 use c_answers::refused;
 use c_answers::table::announced_rows_at;
-use leap_table::walk::WalkAnswer;
+use refusals::Refusal;
 
 #[unsafe(no_mangle)]
 pub extern "C" fn ct_offsets_at_0h(dates: &[u8], table: &[u8], out: &mut [u8]) -> i64
@@ -16,11 +16,11 @@ pub extern "C" fn ct_offsets_at_0h(dates: &[u8], table: &[u8], out: &mut [u8]) -
         out.old result out.new }
 {
     if table.len() != 136 {
-        return refused(refusals::LENGTH_WRONG);
+        return refused(Refusal::LengthWrong);
     }
     let rows = announced_rows_at(table);
     match leap_table::walk::offsets_at_0h_bytes(dates, rows, out) {
-        WalkAnswer::Compared(n) => n as i64,
-        WalkAnswer::Refused(number) => refused(number),
+        Ok(n) => n as i64,
+        Err(refusal) => refused(refusal),
     }
 }

@@ -1,4 +1,4 @@
-// UTC as text by each of the three forms of text, with the rule of its day in a buffer of its own where one is lent. Each form of text has its own way from
+// UTC as text by each of the three forms of text, with the rule of its day in a buffer of its own where one is lent.
 ghost use Rattle.std.specs.Prelude.{length};
 ghost use Rattle.refusals.specs.Outcome.{onward};
 ghost use Rattle.julian.specs.JulianDate.{julian};

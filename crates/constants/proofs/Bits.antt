@@ -1,8 +1,8 @@
 -- The bits of each constant: a constant of the code reaches a proof as its bit pattern, and these laws put the definition in its place.
 use mathlib.Core.Path.{◌≡◌, refl}
-use lib.Ieee.{binary64, of_bits, round, neg, add, sub, div}
-use Rattle.constants.specs.Constants.{seconds_per_day, nanoseconds_per_second, days_per_julian_year, mjd_zero_point, j2000_jd, unix_epoch_jd}
-use Rattle.constants.specs.Constants.{gps_to_tai_offset_seconds, tt_tai_offset, tcg_rate_lg, tcb_rate_lb, tdb_offset1977, mjd1977_jan1, tcg_reference_epoch}
+use lib.Ieee.{binary64, of_bits, round, add, sub, div}
+use Rattle.constants.specs.Constants.{seconds_per_day, nanoseconds_per_second, mjd_zero_point, unix_epoch_jd}
+use Rattle.constants.specs.Constants.{gps_to_tai_offset_seconds, tt_tai_offset, tcg_rate_lg, tcb_rate_lb, mjd1977_jan1, tcg_reference_epoch}
 use Rattle.constants.specs.Constants.{tcg_rate_ratio, tcb_rate_ratio, ratio}
 
 pub seconds-per-day : of_bits binary64 0x40f5_1800_0000_0000 ≡ seconds_per_day
@@ -48,3 +48,18 @@ tcg-rate-ratio = refl
 pub tcb-rate-ratio : of_bits binary64 0x3e50_a609_4e4e_8272 ≡ tcb_rate_ratio
 unfolding tcb_rate_ratio ratio tcb_rate_lb sub div round of_bits
 tcb-rate-ratio = refl
+
+-- all, as a function names them at its mark
+pub ruleset numbers = (
+  seconds-per-day,
+  nanoseconds-per-second,
+  mjd-zero-point,
+  unix-epoch-jd,
+  gps-to-tai-offset-seconds,
+  tt-tai-offset,
+  tcg-rate-lg,
+  tcb-rate-lb,
+  tcg-reference-epoch,
+  tcg-rate-ratio,
+  tcb-rate-ratio,
+)

@@ -2,6 +2,8 @@
 ghost use Rattle.std.specs.Prelude.{◌≡◌, ◌&&◌, eqb};
 
 // The scales by number, in document 01's order. Any other number is a scale of its own.
+// kept: numbers and no enum: a recorded stamp may have any (julian::same_stamps), and the calls of runs take every number, refuse the others by 18, and their
+// theorems (runs/specs/laws) speak of numbers.
 pub const UTC: u32 = 0;
 
 pub const TAI: u32 = 1;

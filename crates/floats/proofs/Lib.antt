@@ -5,7 +5,6 @@ pub mod Ranges
 pub mod Halves
 pub mod Below
 pub mod Casts
-pub mod Patterns
 pub mod Cases
 pub mod UnitSums
 pub mod NearestWholes

@@ -109,8 +109,8 @@ ordered {u = u} same (zeros e) = behind e u
 ordered {w = w} (zeros e) same = before e w
 ordered (zeros e) (zeros f) = before e (fin true 0 f) ∙ behind f (fin false 0 e)
 
-pub larger-in-size : (x y : Float) → lt (size y) (size x) ≡ lt (abs y) (abs x)
-larger-in-size x y = ordered (size_is y) (size_is x)
+pub in_size_larger : (x y : Float) → lt (size y) (size x) ≡ lt (abs y) (abs x)
+in_size_larger x y = ordered (size_is y) (size_is x)
 
 compared : {u v w z : Float} → Sized u v → Sized w z → le u w ≡ le v z
 compared same same = refl

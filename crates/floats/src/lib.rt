@@ -1,5 +1,6 @@
 // Roundings to a whole number, casts and tests by a float's bits.
 // Each takes every f64. A NaN has no pattern here (there is one NaN), so what reads the bits asks for it first, by `x != x`.
+// kept: std's abs, trunc, floor, ceil and round have the same values, but without shifts and masks: 12 machine instructions for 7, and 45 to 52 for 19 to 32.
 #![tactic(auto)]
 
 ghost use Rattle.std.specs.Prelude.{◌≡◌, from_bits, to_bits};
@@ -39,6 +40,7 @@ pub fn fabs(x: f64) -> f64
 }
 
 // |x| but for the sign of a zero, in one comparison.
+#[tactic(auto, unfolding(crate::specs::Size::size))]
 fn size_of(x: f64) -> f64
     ensures { result ≡ size x }
 {
@@ -47,6 +49,7 @@ fn size_of(x: f64) -> f64
 }
 
 // Whether |x| >= |y|. No comparison sees the sign of a zero.
+#[tactic(auto, using(crate::proofs::Sizes::in_size))]
 pub fn at_least_in_size(x: f64, y: f64) -> bool
     ensures { result ≡ le (abs y) (abs x) }
 {
@@ -54,6 +57,7 @@ pub fn at_least_in_size(x: f64, y: f64) -> bool
 }
 
 // Whether |x| > |y|.
+#[tactic(auto, using(crate::proofs::Sizes::in_size_larger))]
 pub fn larger_in_size(x: f64, y: f64) -> bool
     ensures { result ≡ lt (abs y) (abs x) }
 {
@@ -88,6 +92,7 @@ pub fn floor(x: f64) -> f64
 }
 
 // x up to a whole number.
+#[tactic(auto, using(crate::proofs::Below::turned))]
 pub fn ceil(x: f64) -> f64
     ensures { result ≡ to_whole upward x }
 {
@@ -117,6 +122,7 @@ pub fn round(x: f64) -> f64
 }
 
 // The Rust's nearest_int, in its order of operations.
+#[tactic(auto, using(crate::proofs::Cases::literals), unfolding(crate::specs::Whole::nearest_int))]
 pub fn nearest_int(a: f64) -> f64
     ensures { result ≡ nearest_int a }
 {
@@ -131,6 +137,7 @@ pub fn nearest_int(a: f64) -> f64
 
 // The Rust's nearest_int with its `as i64`. A part of a date is mostly between -0.5 and 2^52. From 0.5 on, the sum of a + 0.5 and 2^52 has no digit below the
 // unit: with 2^52 taken off again a whole number next to a + 0.5 is left, and where that is above it, the one before is the floor.
+#[tactic(auto, unfolding(crate::specs::NearestWhole::nearest_whole))]
 pub fn nearest_whole(a: f64) -> NearestWhole
     ensures { result ≡ nearest_whole a }
 {
@@ -164,6 +171,7 @@ pub fn nearest_whole(a: f64) -> NearestWhole
 }
 
 // Whether x is neither an infinity nor a NaN, whose difference from itself is a NaN.
+// kept: std's own method has this body and no other code, but over it must-fail/nothing_finite would be open: it is shown with the difference written here.
 pub fn is_finite(x: f64) -> bool
     ensures { result ≡ finite x }
 {
@@ -174,33 +182,19 @@ pub fn is_finite(x: f64) -> bool
 pub fn saturating_i64(x: f64) -> i64
     ensures { result ≡ to_signed 63 x }
 {
-    if x >= -9223372036854775808.0 {
-        if x < 9223372036854775808.0 {
-            std::num::truncating_f64_to_i64(x)
-        } else {
-            i64::MAX
-        }
-    } else {
-        if x < 0.0 { i64::MIN } else { 0 }
-    }
+    std::num::saturating_f64_to_i64(x)
 }
 
 // The float of a bit pattern; a NaN for every NaN's pattern.
 pub fn from_bits(n: u64) -> f64
     ensures { result ≡ from_bits binary64 n }
 {
-    if n % 0x8000_0000_0000_0000 > 0x7ff0_0000_0000_0000 {
-        return 0.0 / 0.0;
-    }
-    f64::from_bits(n)
+    std::num::f64_from_bits_with_nan(n)
 }
 
 // The bit pattern of a float; 7ff8000000000000 for a NaN.
 pub fn to_bits(x: f64) -> u64
     ensures { result ≡ to_bits binary64 x }
 {
-    if x != x {
-        return 0x7ff8_0000_0000_0000;
-    }
-    f64::to_bits(x)
+    std::num::f64_to_bits_with_nan(x)
 }

@@ -4,38 +4,23 @@ use Prim.Native.Nat.{ℕ, ◌+◌}
 use native.Mathlib.Omega.{arith}
 use mathlib.Core.Bool.{Bool, true, false, ◌&&◌}
 use lib.Dec.{T, eqb, eqb→eq, lit≤}
-use lib.Ieee.{Float, binary64, round, eq}
+use lib.Ieee.{Float, binary64, round}
 use borrow.Author.Tests.{eq-eqb}
 use Rattle.rounding.specs.Value.{Signed, Val, Rounds, L}
 use Rattle.rounding.proofs.Value.{add_rounds, rounds-move, val-unique, val-finite, val-finite-true, L-is, L-pos}
 use Rattle.rounding.proofs.Own.{val-rep}
 use Rattle.floats.proofs.Fields.{same_test}
 use Rattle.rounding.proofs.Compare.{eq_val}
+use Rattle.julian.specs.declared.ExactSum.{ExactSum}
+use Rattle.julian.specs.Finite.{both_finite}
+use Rattle.julian.specs.Equality.{same_pair}
 use Rattle.rounding.proofs.Exact.{rounds-exact}
 use Rattle.rounding.proofs.Sizes.{under-size}
 use Rattle.rounding.proofs.TwoSumFloat.{two-sum-under}
 use Rattle.rounding.proofs.TwoSumFinite.{two-sum-finite}
 use Rattle.julian.specs.declared.JulianDate.{JulianDate}
-use Rattle.julian.specs.declared.ExactSum.{ExactSum}
-use Rattle.julian.specs.Finite.{both_finite}
-use Rattle.julian.specs.Equality.{two_sum_error, exact_sum, sums, FiniteSums, same_pair, equal}
+use Rattle.julian.specs.Equality.{two_sum_error, exact_sum, sums, FiniteSums, equal}
 use Rattle.julian.specs.Worth.{Worth, SmallParts}
-
--- ---- the two cases of the test, for sums that are handed in
-
-pub equal-finite : (d e : JulianDate) (s t : ExactSum) → s ≡ sums d → t ≡ sums e → both_finite s.sum t.sum ≡ true
-    → same_pair s.sum s.error t.sum t.error ≡ equal d e
-unfolding equal
-equal-finite d e s t p q h =
-    let k : both_finite (sums d).sum (sums e).sum ≡ true = rw (p, q) at h in
-    rw (p, q, k)
-
-pub equal-parts : (d e : JulianDate) (s t : ExactSum) → s ≡ sums d → t ≡ sums e → both_finite s.sum t.sum ≡ false
-    → same_pair d.jd1 d.jd2 e.jd1 e.jd2 ≡ equal d e
-unfolding equal
-equal-parts d e s t p q h =
-    let k : both_finite (sums d).sum (sums e).sum ≡ false = rw (p, q) at h in
-    rw k
 
 -- ---- one number has one nearest float, as far as its value goes
 
@@ -147,3 +132,19 @@ equal-sums d e P N Q M s t v w =
 -- document 01: "Two with parts under 2^52 in size are equal exactly if their exact sums are"
 pub equal-exactly : (d e : JulianDate) (P N Q M : ℕ) → SmallParts d → SmallParts e → Worth d P N L → Worth e Q M L → equal d e ≡ eqb (P + M) (Q + N)
 equal-exactly d e P N Q M s t v w = equal-sums d e P N Q M (small-sums d s) (small-sums e t) v w
+
+-- ---- the two cases of the test, for sums that are handed in
+
+pub equal-finite : (d e : JulianDate) (s t : ExactSum) → s ≡ sums d → t ≡ sums e → both_finite s.sum t.sum ≡ true
+    → same_pair s.sum s.error t.sum t.error ≡ equal d e
+unfolding equal
+equal-finite d e s t p q h =
+    let k : both_finite (sums d).sum (sums e).sum ≡ true = rw (p, q) at h in
+    rw (p, q, k)
+
+pub equal-parts : (d e : JulianDate) (s t : ExactSum) → s ≡ sums d → t ≡ sums e → both_finite s.sum t.sum ≡ false
+    → same_pair d.jd1 d.jd2 e.jd1 e.jd2 ≡ equal d e
+unfolding equal
+equal-parts d e s t p q h =
+    let k : both_finite (sums d).sum (sums e).sum ≡ false = rw (p, q) at h in
+    rw k

@@ -4,17 +4,15 @@
 use Rattle.std.specs.Prelude.{ℕ, ℤ, pos, Float}
 use Rattle.std.specs.Float.{binary64}
 use Rattle.std.specs.Float.Ieee.{of_int}
-use Rattle.refusals.specs.Outcome.{Outcome, answer, refusal, onward}
+use Rattle.refusals.specs.Outcome.{Outcome, answer, onward}
 use Rattle.floats.specs.Whole.{nought}
 use Rattle.constants.specs.Constants.{mjd_zero_point}
 use Rattle.calendar.specs.declared.CalendarDate.{CalendarDate}
 use Rattle.calendar.specs.DayCount.{mjd_of}
 use Rattle.calendar.specs.Gregorian.{gregorian_date}
 use Rattle.julian.specs.day_number.Answer.{day_number_and_fraction}
-use Rattle.julian.specs.declared.CalendarAnswer.TheVariants as Answer
 use Rattle.julian.specs.declared.JulianDate.{JulianDate}
 use Rattle.julian.specs.declared.CalendarFields.{CalendarFields}
-use Rattle.julian.specs.declared.CalendarAnswer.{CalendarAnswer}
 use Rattle.julian.specs.JulianDate.{julian, rounded_sum}
 use Rattle.julian.specs.DayFraction.{day_fraction}
 
@@ -32,11 +30,6 @@ from_calendar y m d hour minute second = onward (calendar_to_julian y (pos m) (p
 
 abbrev pub fields : CalendarDate → Float → CalendarFields
 fields date fraction = record { date = date; fraction = fraction }
-
--- document 01's answer: calendar fields, or a refusal number
-unfoldable pub calendar_outcome : CalendarAnswer → Outcome CalendarFields
-calendar_outcome (Answer.Fields f) = answer f
-calendar_outcome (Answer.Refused number) = refusal number
 
 -- the date of the day number, and the fraction; 6 is handed on
 unfoldable pub julian_to_calendar : Float → Float → Outcome CalendarFields

@@ -7,13 +7,6 @@ use Rattle.std.specs.Float.Ieee.Scale.{finite}
 use Rattle.refusals.specs.Outcome.{Outcome, answer, refusal}
 use Rattle.floats.specs.Whole.{nought}
 use Rattle.constants.specs.Constants.{decimal, seconds_per_day}
-use Rattle.julian.specs.declared.FractionAnswer.TheVariants as Answer
-use Rattle.julian.specs.declared.FractionAnswer.{FractionAnswer}
-
--- document 01's answer: a fraction as a float, or a refusal number
-unfoldable pub fraction_outcome : FractionAnswer → Outcome Float
-fraction_outcome (Answer.Fraction x) = answer x
-fraction_outcome (Answer.Refused number) = refusal number
 
 -- what the second is below; `leap` is the day's length less 86,400 s
 unfoldable pub second_limit : ℕ → ℕ → Float → Float

@@ -3,13 +3,7 @@
 use Rattle.std.specs.Prelude.{Bool, cond, ◌&&◌, Float}
 use Rattle.std.specs.Float.Ieee.Scale.{finite}
 use Rattle.refusals.specs.Outcome.{Outcome, answer, refusal}
-use Rattle.julian.specs.declared.OffsetAnswer.TheVariants as Answer
 use Rattle.julian.specs.declared.JulianDate.{JulianDate}
-use Rattle.julian.specs.declared.OffsetAnswer.{OffsetAnswer}
-
-unfoldable pub offset_outcome : OffsetAnswer → Outcome Float
-offset_outcome (Answer.Offset x) = answer x
-offset_outcome (Answer.Refused number) = refusal number
 
 abbrev pub both_finite : Float → Float → Bool
 both_finite a b = finite a && finite b

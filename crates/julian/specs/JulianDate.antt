@@ -3,21 +3,13 @@
 use Rattle.std.specs.Prelude.{Float}
 use Rattle.std.specs.Float.{binary64}
 use Rattle.std.specs.Float.Ieee.{add, sub, div}
-use Rattle.refusals.specs.Outcome.{Outcome, answer, refusal}
 use Rattle.floats.specs.Whole.{to_whole, cut}
 use Rattle.constants.specs.Constants.{seconds_per_day}
-use Rattle.julian.specs.declared.JulianAnswer.TheVariants as Answer
 use Rattle.julian.specs.declared.JulianDate.{JulianDate}
-use Rattle.julian.specs.declared.JulianAnswer.{JulianAnswer}
 
 -- the date with these parts
 abbrev pub julian : Float → Float → JulianDate
 julian a b = record { jd1 = a; jd2 = b }
-
--- document 01's answer: a date as floats, or a refusal number
-unfoldable pub julian_outcome : JulianAnswer → Outcome JulianDate
-julian_outcome (Answer.Date d) = answer d
-julian_outcome (Answer.Refused number) = refusal number
 
 -- the sum of the parts, rounded once
 unfoldable pub rounded_sum : JulianDate → Float

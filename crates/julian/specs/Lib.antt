@@ -4,6 +4,7 @@ pub mod UnixTime
 pub mod JulianYear
 pub mod Finite
 pub mod Equality
+pub mod Equivalence
 pub mod DayFraction
 pub mod Calendar
 -- The words of the theorems: no contract cites them.

@@ -1,22 +1,18 @@
 // The day and the fraction of a date, whichever way it is divided into two parts. From the Rust's utc_tai/calendar.rs but for its calendar.
 ghost use Rattle.std.specs.Prelude.{◌≡◌, true, ◌≤◌, pos, ◌+ℤ◌, ◌-ℤ◌};
+ghost use Rattle.refusals.specs.Outcome.{outcome};
 ghost use Rattle.julian.specs.day_number.DayNumber as S;
-ghost use Rattle.julian.specs.day_number.Answer.{day_outcome, day_number_and_fraction};
+ghost use Rattle.julian.specs.day_number.Answer.{day_number_and_fraction};
 ghost use Rattle.julian.specs.day_number.Sums.{Sums};
 ghost use Rattle.floats.specs.NearestWhole.{nearest_whole};
+
+use refusals::Refusal;
 
 // A civil day by its Julian Day number, and the fraction of it since its midnight, from 0.0 to below 1.0.
 #[derive(Clone, Copy)]
 pub struct DayNumber {
     pub day: i64,
     pub fraction: f64,
-}
-
-// The day and the fraction, or a refusal by number.
-#[derive(Clone, Copy)]
-pub enum DayAnswer {
-    Day(DayNumber),
-    Refused(u32),
 }
 
 // A compensated sum and its correction.
@@ -57,9 +53,9 @@ struct Normalized {
 }
 
 // The least and the greatest rounded sum of a date's parts.
-const DJMIN: f64 = -68569.5;
+pub const DJMIN: f64 = -68569.5;
 
-const DJMAX: f64 = 1e9;
+pub const DJMAX: f64 = 1e9;
 
 const DBL_EPSILON: f64 = 2.220446049250313e-16;
 
@@ -71,6 +67,7 @@ fn check_julian_range(dj: f64) -> bool
 }
 
 // What the rounded sum `temp` of the two lost.
+#[tactic(auto, unfolding(crate::specs::day_number::DayNumber::compensation))]
 fn compensation(sum: f64, frac: f64, temp: f64) -> f64
     ensures { result ≡ S.compensation sum frac temp }
 {
@@ -82,6 +79,7 @@ fn compensation(sum: f64, frac: f64, temp: f64) -> f64
 }
 
 // One turn of the Rust's loop: the fraction added, and a whole day carried.
+#[tactic(auto, using(floats::proofs::Cases::literals), unfolding(crate::specs::day_number::DayNumber::add_fraction))]
 fn add_fraction(carry: u64, kahan: Kahan, frac: f64) -> Summed
     requires { carry ≤ 1 }
     ensures { result ≡ S.add_fraction carry kahan frac }
@@ -108,6 +106,7 @@ fn add_fraction(carry: u64, kahan: Kahan, frac: f64) -> Summed
 }
 
 // Starting the sum at 0.5 moves the day boundary from noon to midnight.
+#[tactic(auto, using(floats::proofs::Cases::literals), unfolding(crate::specs::day_number::DayNumber::sum_fractions))]
 fn sum_fractions(first: f64, second: f64) -> Summed
     ensures { result ≡ S.sum_fractions first second }
 {
@@ -121,6 +120,7 @@ fn sum_fractions(first: f64, second: f64) -> Summed
 }
 
 // One day more in the sum, where its fraction is below 0.0.
+#[tactic(auto, using(floats::proofs::Cases::literals), unfolding(crate::specs::day_number::DayNumber::borrow_day))]
 fn borrow_day(kahan: Kahan) -> Borrowed
     ensures { result ≡ S.borrow_day kahan }
 {
@@ -164,6 +164,7 @@ fn carry_day(kahan: Kahan, fraction: f64) -> Carried
 }
 
 // Brings the compensated sum into [0, 1).
+#[tactic(auto, using(floats::proofs::Cases::literals), unfolding(crate::specs::day_number::DayNumber::normalize_fraction))]
 fn normalize_fraction(kahan: Kahan) -> Normalized
     ensures { result ≡ S.normalize_fraction kahan }
 {
@@ -258,12 +259,12 @@ fn day_in_range(jd1: f64, jd2: f64) -> DayNumber
 }
 
 // The day and the fraction of any two floats, or 6 where their rounded sum is outside the range.
-pub fn day_number_and_fraction(jd1: f64, jd2: f64) -> DayAnswer
-    ensures { day_outcome result ≡ day_number_and_fraction jd1 jd2 }
+pub fn day_number_and_fraction(jd1: f64, jd2: f64) -> Result<DayNumber, Refusal>
+    ensures { outcome result ≡ day_number_and_fraction jd1 jd2 }
 {
     if check_julian_range(jd1 + jd2) {
-        DayAnswer::Day(day_in_range(jd1, jd2))
+        Ok(day_in_range(jd1, jd2))
     } else {
-        DayAnswer::Refused(refusals::DATE_OUT_OF_RANGE)
+        Err(Refusal::DateOutOfRange)
     }
 }

@@ -1,7 +1,9 @@
 // Two-part Julian dates: from the calendar and Unix time and back, equality, difference, each operation in the Rust's order.
+// kept: the fields of a date and a time stand one by one, as C hands them (ct_calendar_to_julian, ct_from_calendar).
 #![tactic(auto)]
 
 ghost use Rattle.std.specs.Prelude.{◌≡◌};
+ghost use Rattle.refusals.specs.Outcome.{outcome};
 ghost use Rattle.floats.specs.Whole.{nought};
 ghost use Rattle.constants.specs.Constants.{j2000_jd, unix_epoch_jd};
 ghost use Rattle.julian.specs.JulianDate as D;
@@ -11,6 +13,10 @@ ghost use Rattle.julian.specs.Equality as E;
 ghost use Rattle.julian.specs.DayFraction as F;
 ghost use Rattle.julian.specs.Finite as N;
 ghost use Rattle.julian.specs.Calendar as C;
+ghost use Rattle.julian.specs.Equivalence.{equal_laws};
+
+use refusals::Refusal;
+use std::ops::Sub;
 
 pub mod day_number;
 pub mod order;
@@ -25,39 +31,11 @@ pub struct JulianDate {
     pub jd2: f64,
 }
 
-// A date, or the number of the refusal.
-#[derive(Clone, Copy)]
-pub enum JulianAnswer {
-    Date(JulianDate),
-    Refused(u32),
-}
-
-// The fraction of a day, or the number of the refusal.
-#[derive(Clone, Copy)]
-pub enum FractionAnswer {
-    Fraction(f64),
-    Refused(u32),
-}
-
-// An offset, or the number of the refusal.
-#[derive(Clone, Copy)]
-pub enum OffsetAnswer {
-    Offset(f64),
-    Refused(u32),
-}
-
 // A calendar date, and the part of its day that has passed.
 #[derive(Clone, Copy)]
 pub struct CalendarFields {
     pub date: calendar::CalendarDate,
     pub fraction: f64,
-}
-
-// A date and fraction, or the number of the refusal.
-#[derive(Clone, Copy)]
-pub enum CalendarAnswer {
-    Fields(CalendarFields),
-    Refused(u32),
 }
 
 // A rounded sum, and what the rounding lost.
@@ -78,12 +56,14 @@ impl JulianDate {
         JulianDate { jd1, jd2 }
     }
 
+    #[tactic(auto, using(floats::proofs::Cases::literals))]
     pub fn from_f64(jd: f64) -> JulianDate
         ensures { result ≡ D.julian jd nought }
     {
         JulianDate::new(jd, 0.0)
     }
 
+    // kept: no plainer: beside unix_epoch, each one line and a name that users know; one call of both would take the number that they are to give.
     pub fn j2000() -> JulianDate
         ensures { result ≡ D.julian j2000_jd nought }
     {
@@ -116,6 +96,7 @@ impl JulianDate {
     }
 
     // Whole days are carried into jd1. Left in jd2 they would grow it until small steps round away.
+    #[tactic(auto, unfolding(crate::specs::JulianDate::add_days, crate::specs::JulianDate::uncarried))]
     pub fn add_days(self, days: f64) -> JulianDate
         ensures { result ≡ D.add_days self days }
     {
@@ -152,28 +133,12 @@ impl JulianDate {
         hour: u8,
         minute: u8,
         second: f64,
-    ) -> JulianAnswer
-        ensures { D.julian_outcome result ≡ C.from_calendar year month day hour minute second }
+    ) -> Result<JulianDate, Refusal>
+        ensures { outcome result ≡ C.from_calendar year month day hour minute second }
     {
-        match calendar_to_julian(year, month as i32, day as i32) {
-            JulianAnswer::Refused(number) => JulianAnswer::Refused(number),
-            JulianAnswer::Date(midnight) => midnight.at_time(day_fraction(
-                hour, minute, second, 0.0,
-            )),
-        }
-    }
-
-    // The rounded sum of the parts in jd1, and the fraction in jd2.
-    fn at_time(self, fraction: FractionAnswer) -> JulianAnswer
-        ensures { D.julian_outcome result ≡ C.at_time self (F.fraction_outcome fraction) }
-    {
-        match fraction {
-            FractionAnswer::Refused(number) => JulianAnswer::Refused(number),
-            FractionAnswer::Fraction(jd2) => JulianAnswer::Date(JulianDate::new(
-                self.jd1 + self.jd2,
-                jd2,
-            )),
-        }
+        let midnight = calendar_to_julian(year, month as i32, day as i32)?;
+        let fraction = day_fraction(hour, minute, second, 0.0)?;
+        Ok(JulianDate::new(midnight.to_f64(), fraction))
     }
 
     // Subtracting J2000 from jd1 before adding jd2 keeps jd2's low bits, as eraEpj does.
@@ -191,11 +156,16 @@ impl JulianDate {
             + (year - 2000.0) * constants::DAYS_PER_JULIAN_YEAR;
         JulianDate::new(JulianDate::MJD_ZERO_POINT, mjd)
     }
+}
 
-    // For parts under 2^52 in size, whether the two exact sums are one number, however it is split; for other parts the Rust's own test.
-    pub fn eq(self, other: JulianDate) -> bool
-        ensures { result ≡ E.equal self other }
-    {
+// For parts under 2^52 in size, whether the two exact sums are one number, however it is split; for other parts the Rust's own test.
+impl PartialEq for JulianDate {
+    ghost eq = { E.equal };
+
+    ghost laws = { equal_laws };
+
+    #[tactic(auto, unfolding(crate::specs::Equality::equal, crate::specs::Equality::sums))]
+    fn eq(&self, other: &JulianDate) -> bool {
         let one = exact_sum(self.jd1, self.jd2);
         let two = exact_sum(other.jd1, other.jd2);
         if both_finite(one.sum, two.sum) {
@@ -205,43 +175,38 @@ impl JulianDate {
             same_pair(self.jd1, self.jd2, other.jd1, other.jd2)
         }
     }
+}
 
-    // The difference in days. Subtracting part by part keeps the precision of a short interval between two large dates.
-    pub fn sub(self, other: JulianDate) -> f64
-        ensures { result ≡ D.difference self other }
-    {
+// The difference in days. Subtracting part by part keeps the precision of a short interval between two large dates.
+impl Sub for JulianDate {
+    type Output = f64;
+
+    ghost sub_gives = { λ a b r. r ≡ D.difference a b };
+
+    #[tactic(auto, unfolding(crate::specs::JulianDate::difference))]
+    fn sub(self, other: JulianDate) -> f64 {
         (self.jd1 - other.jd1) + (self.jd2 - other.jd2)
     }
 }
 
 // (2400000.5, the Modified Julian Date) of a date's midnight. Refusals in order: 1 the year, 2 the month, 3 the day.
-pub fn calendar_to_julian(year: i32, month: i32, day: i32) -> JulianAnswer
-    ensures { D.julian_outcome result ≡ C.calendar_to_julian year month day }
+pub fn calendar_to_julian(year: i32, month: i32, day: i32) -> Result<JulianDate, Refusal>
+    ensures { outcome result ≡ C.calendar_to_julian year month day }
 {
-    match calendar::modified_julian_day(year, month, day) {
-        calendar::MjdAnswer::Refused(number) => JulianAnswer::Refused(number),
-        calendar::MjdAnswer::Mjd(mjd) => JulianAnswer::Date(JulianDate::new(
-            JulianDate::MJD_ZERO_POINT,
-            mjd as f64,
-        )),
-    }
+    let mjd = calendar::modified_julian_day(year, month, day)?;
+    Ok(JulianDate::new(JulianDate::MJD_ZERO_POINT, mjd as f64))
 }
 
 // The calendar date of the day, and the fraction of the day that has passed; 6 where the rounded sum of the parts is outside -68569.5
 // to 1e9, or a NaN.
-pub fn julian_to_calendar(jd1: f64, jd2: f64) -> CalendarAnswer
-    ensures { C.calendar_outcome result ≡ C.julian_to_calendar jd1 jd2 }
+pub fn julian_to_calendar(jd1: f64, jd2: f64) -> Result<CalendarFields, Refusal>
+    ensures { outcome result ≡ C.julian_to_calendar jd1 jd2 }
 {
-    match crate::day_number::day_number_and_fraction(jd1, jd2) {
-        crate::day_number::DayAnswer::Refused(number) => CalendarAnswer::Refused(number),
-        crate::day_number::DayAnswer::Day(found) => {
-            let date = calendar::gregorian_date(found.day);
-            CalendarAnswer::Fields(CalendarFields {
-                date,
-                fraction: found.fraction,
-            })
-        }
-    }
+    let found = crate::day_number::day_number_and_fraction(jd1, jd2)?;
+    Ok(CalendarFields {
+        date: calendar::gregorian_date(found.day),
+        fraction: found.fraction,
+    })
 }
 
 // Knuth's two-sum.
@@ -256,17 +221,19 @@ pub fn exact_sum(a: f64, b: f64) -> ExactSum
 
 // The part of the day that has passed; 4 where the time is not in the day. `leap` is how much longer than 86,400 s the day is, and
 // the extra time goes into the seconds of its last minute; a day whose leap is not finite has no times.
-pub fn day_fraction(hour: u8, minute: u8, second: f64, leap: f64) -> FractionAnswer
-    ensures { F.fraction_outcome result ≡ F.day_fraction hour minute second leap }
+#[tactic(auto, unfolding(crate::specs::DayFraction::day_fraction, refusals::specs::Outcome::outcome, refusals::specs::Refusal::refusal_number))]
+pub fn day_fraction(hour: u8, minute: u8, second: f64, leap: f64) -> Result<f64, Refusal>
+    ensures { outcome result ≡ F.day_fraction hour minute second leap }
 {
     if !time_in_day(hour, minute, second, leap) {
-        return FractionAnswer::Refused(refusals::TIME_NOT_IN_DAY);
+        return Err(Refusal::TimeNotInDay);
     }
     let seconds_into_day = 60.0 * ((60 * (hour as u32) + minute as u32) as f64) + second;
-    FractionAnswer::Fraction(seconds_into_day / (constants::SECONDS_PER_DAY_F64 + leap))
+    Ok(seconds_into_day / (constants::SECONDS_PER_DAY_F64 + leap))
 }
 
 // A second that is a NaN is in no day.
+#[tactic(auto, using(floats::proofs::Cases::literals), unfolding(crate::specs::DayFraction::time_in_day))]
 fn time_in_day(hour: u8, minute: u8, second: f64, leap: f64) -> bool
     ensures { result ≡ F.time_in_day hour minute second leap }
 {
@@ -308,21 +275,21 @@ fn same_pair(a: f64, b: f64, c: f64, d: f64) -> bool
 }
 
 // The date, where both parts are finite; else 9.
-pub fn finite_jd(jd: JulianDate) -> JulianAnswer
-    ensures { D.julian_outcome result ≡ N.finite_jd jd }
+pub fn finite_jd(jd: JulianDate) -> Result<JulianDate, Refusal>
+    ensures { outcome result ≡ N.finite_jd jd }
 {
     if both_finite(jd.jd1, jd.jd2) {
-        return JulianAnswer::Date(jd);
+        return Ok(jd);
     }
-    JulianAnswer::Refused(refusals::PART_NOT_FINITE)
+    Err(Refusal::PartNotFinite)
 }
 
 // The offset, where it is finite; else 10.
-pub fn finite_arg(value: f64) -> OffsetAnswer
-    ensures { N.offset_outcome result ≡ N.finite_arg value }
+pub fn finite_arg(value: f64) -> Result<f64, Refusal>
+    ensures { outcome result ≡ N.finite_arg value }
 {
     if floats::is_finite(value) {
-        return OffsetAnswer::Offset(value);
+        return Ok(value);
     }
-    OffsetAnswer::Refused(refusals::OFFSET_NOT_FINITE)
+    Err(Refusal::OffsetNotFinite)
 }

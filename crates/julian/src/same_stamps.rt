@@ -10,6 +10,7 @@ pub struct Stamp {
     pub jd2: u64,
 }
 
+// kept: field by field, and no derived `==`: must-fail/scale_left_out and wrong/first_part_twice each turn one of the tests, and keep their meaning.
 pub fn same_stamp(a: Stamp, b: Stamp) -> bool
     ensures { result ≡ same a b }
 {

@@ -4,7 +4,7 @@ use native.Mathlib.Omega.{arith}
 use native.Mathlib.Nat.{pow-suc}
 use mathlib.Core.Path.{◌≡◌, refl, sym, ap, ◌∙◌}
 use mathlib.Core.List.{List, [], ◌∷◌, ◌++◌, map, append-nil}
-use mathlib.Core.Bool.{Bool, true, false, cond}
+use mathlib.Core.Bool.{true, false, cond}
 use lib.ListN.{length, length-append}
 use lib.Dec.{eqb}
 use lib.IntN.{pos}
@@ -16,14 +16,13 @@ use Rattle.calendar.proofs.Accepted.{short}
 use Rattle.leap_lists.specs.declared.held.Held.{Held}
 use Rattle.leap_lists.specs.declared.lines.Line.{Line}
 use Rattle.leap_lists.specs.declared.lines.Line.TheVariants as K
-use Rattle.leap_lists.specs.declared.ListAnswer.{ListAnswer}
 use Rattle.leap_lists.specs.lines.Scan.{line_blank}
-use Rattle.leap_lists.specs.lines.Months.{first_month, all_months, month_days, days_from}
+use Rattle.leap_lists.specs.lines.Months.{first_month, month_days, days_from}
 use Rattle.leap_lists.specs.lines.Lines.{line_says}
 use Rattle.leap_lists.specs.Held.{line_fault, with_line}
 use Rattle.leap_lists.specs.Texts.{on_first, lines_of}
-use Rattle.leap_lists.specs.Reading.{refused_at, answered, read_from}
-use Rattle.leap_lists.specs.Grammar.{OnlyBlanks, none, LineEnd, Says, month, ntp, expiry}
+use Rattle.leap_lists.specs.Reading.{ListAnswer, refused_at, answered, read_from}
+use Rattle.leap_lists.specs.Grammar.{OnlyBlanks, none, LineEnd, month, ntp, expiry}
 use Rattle.leap_lists.specs.Writer.{last_digits, month_line, ntp_line, expiry_line, lines_text}
 use Rattle.leap_lists.proofs.Grammar.{says-read}
 

@@ -1,28 +1,25 @@
 -- Closed cases of the reader: lines outside the grammar, lines of every kind, the library's own rows in both forms, and texts that are refused with each number
 -- and the line at fault. Computed. Assumes nothing.
 use mathlib.Core.Path.{◌≡◌, refl}
-use mathlib.Core.Bool.{Bool, true, false, cond, ◌&&◌}
+use mathlib.Core.Bool.{Bool, true, cond, ◌&&◌}
 use mathlib.Core.List.{List, [], ◌∷◌, ◌++◌, map}
 use Prim.Native.Nat.{ℕ, zero, suc, ◌+◌, ◌-◌, ◌*◌, ◌/◌}
 use Prim.Native.Char.{code}
 use Prim.Native.String.{String}
 use Prim.Native.String as Native
-use lib.ListN.{length, drop, get_or, replicate}
-use lib.Dec.{eqb}
-use lib.IntN.{ℤ, pos}
+use lib.ListN.{drop, get_or, replicate}
+use lib.IntN.{pos}
 use Rattle.numerals.specs.digits.Decimal.{is_digit, digits_in, digits_of}
 use Rattle.calendar.specs.Calendar.{leap_size, lengths}
 use Rattle.leap_table.specs.rows.Table.{Row, fixed, reached, month_number, none, last_month, last_seconds}
 use Rattle.leap_table.specs.offsets.WholeSeconds.{whole_seconds}
-use Rattle.leap_lists.specs.declared.ListAnswer.{ListAnswer}
-use Rattle.leap_lists.specs.declared.lines.Line.{Line}
 use Rattle.leap_lists.specs.declared.lines.Line.TheVariants as K
 use Rattle.leap_lists.specs.lines.Scan.{line_blank, behind_blanks, first_digits, ended, number_then, last_number}
 use Rattle.leap_lists.specs.lines.Months.{month_days, month_after, month_from}
 use Rattle.leap_lists.specs.lines.Lines.{row_with, month_row, ntp_row, row_behind, row_of, expiry_of, line_from, line_says}
 use Rattle.leap_lists.specs.Held.{seconds_from, library_row, none_held, later_fault, line_fault, with_line}
 use Rattle.leap_lists.specs.Texts.{on_first, lines_of}
-use Rattle.leap_lists.specs.Reading.{answered, refused_at, read_from, read_of}
+use Rattle.leap_lists.specs.Reading.{ListAnswer, answered, refused_at, read_from, read_of}
 use Rattle.leap_lists.specs.Writer.{last_digits, month_line, lines_text}
 
 -- the bytes of a text that is written out here

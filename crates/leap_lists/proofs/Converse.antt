@@ -8,10 +8,9 @@ use mathlib.Core.Bool.{Bool, true, false, cond, ◌&&◌}
 use lib.ListN.{length, drop, get_or}
 use lib.Dec.{eqb, leb, ltb}
 use borrow.Author.Tests.{eqb-true, eqb-false, leb-true, ltb-true, ltb-false}
-use Rattle.numerals.specs.digits.Decimal.{number, is_digit, AllDigits, Digits}
+use Rattle.numerals.specs.digits.Decimal.{number, is_digit, AllDigits}
 use Rattle.numerals.proofs.digits.Decimal.{digit_bounds}
-use Rattle.leap_lists.specs.declared.lines.Last.{Last}
-use Rattle.leap_lists.specs.declared.lines.Last.TheVariants as L
+use Rattle.std.specs.Prelude.{Option, None, Some}
 use Rattle.leap_lists.specs.declared.lines.Line.{Line}
 use Rattle.leap_lists.specs.declared.lines.Line.TheVariants as K
 use Rattle.leap_lists.specs.lines.Scan.{line_blank, behind_blanks, first_digits, ended, number_then, last_number}
@@ -78,9 +77,9 @@ record Ending (most : ℕ) (s : List ℕ) (n : ℕ) : Type 0 where
   pub is : n ≡ number digits
   pub end : LineEnd most digits s
 
-abbrev worth : Last → ℕ
-worth (L.Number n) = suc n
-worth L.Nothing = 0
+abbrev worth : Option ℕ → ℕ
+worth (Some n) = suc n
+worth None = 0
 
 module _ (most : ℕ) (s : List ℕ) where
   rest : List ℕ
@@ -119,23 +118,23 @@ module _ (most : ℕ) (s : List ℕ) where
       }
 
   said : line_blank false (get_or s 0 0) ≡ true → (ltb 0 (length (first_digits most rest)) && ended (behind_blanks true behind)) ≡ true
-      → last_number most s ≡ L.Number (number (first_digits most rest))
+      → last_number most s ≡ Some (number (first_digits most rest))
   unfolding last_number number_then rest behind
   said h g = rw (h, g)
 
   no_number : line_blank false (get_or s 0 0) ≡ true → (ltb 0 (length (first_digits most rest)) && ended (behind_blanks true behind)) ≡ false
-      → last_number most s ≡ L.Nothing
+      → last_number most s ≡ None
   unfolding last_number number_then rest behind
   no_number h g = rw (h, g)
 
-  no_gap : line_blank false (get_or s 0 0) ≡ false → last_number most s ≡ L.Nothing
+  no_gap : line_blank false (get_or s 0 0) ≡ false → last_number most s ≡ None
   unfolding last_number
   no_gap h = rw h
 
-  ending : (n : ℕ) → last_number most s ≡ L.Number n → Ending most s n
+  ending : (n : ℕ) → last_number most s ≡ Some n → Ending most s n
   ending n e = either (line_blank false (get_or s 0 0)) refl
     where
-      not_nothing : last_number most s ≡ L.Nothing → ⊥
+      not_nothing : last_number most s ≡ None → ⊥
       not_nothing h = let v : 0 ≡ suc n = sym (ap worth h) ∙ ap worth e in omega arith
 
       second : (b : Bool) → (ltb 0 (length (first_digits most rest)) && ended (behind_blanks true behind)) ≡ b
@@ -157,10 +156,10 @@ record RowEnd (m : ℕ) (s : List ℕ) (l : Line) : Type 0 where
   pub is : l ≡ K.Row m (number digits)
   pub end : LineEnd 9 digits s
 
-row-by : (m : ℕ) (s : List ℕ) (x : Last) → last_number 9 s ≡ x → (l : Line) → row_by m x ≡ l → (l ≡ K.Outside → ⊥) → RowEnd m s l
-row-by m s (L.Number n) e l r k =
+row-by : (m : ℕ) (s : List ℕ) (x : Option ℕ) → last_number 9 s ≡ x → (l : Line) → row_by m x ≡ l → (l ≡ K.Outside → ⊥) → RowEnd m s l
+row-by m s (Some n) e l r k =
     let g = ending 9 s n e in record { digits = g.digits; is = sym r ∙ ap (K.Row m) g.is; end = g.end }
-row-by m s L.Nothing e l r k = absurd (k (sym r))
+row-by m s None e l r k = absurd (k (sym r))
 
 row-with : (m : ℕ) (s : List ℕ) (l : Line) → row_with m s ≡ l → (l ≡ K.Outside → ⊥) → RowEnd m s l
 unfolding row_with
@@ -202,11 +201,11 @@ begun (suc most) m day k = either (eqb day 0) refl (begun most (m + 1) (day - mo
 
 -- ---- behind the blanks b
 module _ (b : List ℕ) (h : OnlyBlanks true b) where
-  of_expiry : (s : List ℕ) (x : Last) → last_number 12 s ≡ x → (l : Line) → expiry_by x ≡ l → (l ≡ K.Outside → ⊥) → Says (b ++ (35 ∷ (64 ∷ s))) l
-  of_expiry s (L.Number n) e l r k =
+  of_expiry : (s : List ℕ) (x : Option ℕ) → last_number 12 s ≡ x → (l : Line) → expiry_by x ≡ l → (l ≡ K.Outside → ⊥) → Says (b ++ (35 ∷ (64 ∷ s))) l
+  of_expiry s (Some n) e l r k =
       let g = ending 12 s n e in
       subst (Says (b ++ (35 ∷ (64 ∷ s)))) (ap (λ (i : ℕ). K.Expiry (i / 86400 + 15020)) (sym g.is) ∙ r) (expiry b s g.digits h g.end)
-  of_expiry s L.Nothing e l r k = absurd (k (sym r))
+  of_expiry s None e l r k = absurd (k (sym r))
 
   -- a month: the digits y before the hyphen, and z behind it
   module _ (y z : List ℕ) (a : AllDigits y) (l : Line) (k : l ≡ K.Outside → ⊥) where

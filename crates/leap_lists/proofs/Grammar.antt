@@ -1,25 +1,23 @@
 -- A line of the grammar is read as what it says. Assumes nothing.
 use Prim.Native.Nat.{ℕ, zero, suc, ◌+◌, ◌-◌, ◌*◌, ◌/◌, ◌%◌, ◌≤◌, ◌<◌}
 use native.Mathlib.Omega.{arith}
-use mathlib.Core.Path.{◌≡◌, refl, sym, ap, ◌∙◌, subst}
+use mathlib.Core.Path.{◌≡◌, refl, sym, ap, ◌∙◌}
 use mathlib.Core.List.{List, [], ◌∷◌, ◌++◌}
-use mathlib.Core.Bool.{Bool, true, false, cond, and-false}
+use mathlib.Core.Bool.{Bool, true, false, and-false}
 use lib.ListN.{length, drop, get_or}
 use lib.Seq.{drop-append_seam}
-use lib.Dec.{eqb, ltb}
-use borrow.Author.Tests.{eq-eqb, ne_eqb, le-leb, lt-ltb, le-ltb}
+use borrow.Author.Tests.{eq-eqb, ne_eqb, le-leb, lt-ltb}
 use Rattle.numerals.specs.digits.Decimal.{number, is_digit, AllDigits, Digits}
 use Rattle.numerals.proofs.digits.Decimal.{digit_bounds, digit_within}
 use Rattle.calendar.specs.Calendar.{leap_year, lengths}
 use Rattle.calendar.proofs.Months.{months}
 use lib.IntN.{pos}
-use Rattle.leap_lists.specs.declared.lines.Last.{Last}
-use Rattle.leap_lists.specs.declared.lines.Last.TheVariants as L
+use Rattle.std.specs.Prelude.{Some}
 use Rattle.leap_lists.specs.declared.lines.Line.{Line}
 use Rattle.leap_lists.specs.declared.lines.Line.TheVariants as K
 use Rattle.leap_lists.specs.lines.Scan.{line_blank, behind_blanks, first_digits, ended, number_then, last_number}
 use Rattle.leap_lists.specs.lines.Months.{first_month, all_months, month_days, month_after, month_from, days_from}
-use Rattle.leap_lists.specs.lines.Lines.{row_by, row_with, month_row, row_from, ntp_row, row_behind, row_of, expiry_by, expiry_of, line_from, line_says}
+use Rattle.leap_lists.specs.lines.Lines.{row_by, row_with, month_row, row_from, ntp_row, row_behind, row_of, expiry_of, line_from, line_says}
 use Rattle.leap_lists.specs.Grammar.{OnlyBlanks, Comment, none, some, LineEnd, Says, nothing, month, ntp, expiry}
 use Rattle.leap_lists.proofs.lines.Runs.{none_first, none_left}
 use Rattle.leap_lists.proofs.lines.Months.{here, onward}
@@ -102,7 +100,7 @@ module _ (most : ℕ) (f e : List ℕ) (k : LineEnd most f e) where
   pub gap-there : line_blank false (get_or e 0 0) ≡ true
   gap-there = ap (λ (s : List ℕ). line_blank false (get_or s 0 0)) k.is ∙ gap-first k.gap _ k.gap_blank k.gap_some
 
-  pub ending-read : last_number most e ≡ L.Number (number f)
+  pub ending-read : last_number most e ≡ Some (number f)
   unfolding last_number number_then
   ending-read =
       let d : first_digits most (f ++ (k.after ++ k.comment)) ≡ f =
@@ -152,7 +150,7 @@ as_expiry : (x : List ℕ) → line_from (35 ∷ (64 ∷ x)) ≡ expiry_of x
 unfolding line_from ended
 as_expiry x = refl
 
-expiry-by : (e : List ℕ) (n : ℕ) → last_number 12 e ≡ L.Number n → expiry_of e ≡ K.Expiry (n / 86400 + 15020)
+expiry-by : (e : List ℕ) (n : ℕ) → last_number 12 e ≡ Some n → expiry_of e ≡ K.Expiry (n / 86400 + 15020)
 unfolding expiry_of
 expiry-by e n h = rw h
 

@@ -1,5 +1,5 @@
 -- The rows that are read from a text fit the 32 bits of an announced row: months end with December 9999, and seconds have at most nine digits. Assumes nothing.
-use Prim.Native.Nat.{ℕ, zero, suc, ◌+◌, ◌-◌, ◌*◌, ◌^◌, ◌≤◌, ◌<◌}
+use Prim.Native.Nat.{ℕ, zero, suc, ◌+◌, ◌^◌, ◌≤◌, ◌<◌}
 use native.Mathlib.Omega.{arith}
 use native.Mathlib.Nat.{pow-le-pow_right}
 use mathlib.Core.Path.{◌≡◌, refl, sym, ap, subst, ◌∙◌}
@@ -8,21 +8,18 @@ use mathlib.Core.Bool.{Bool, true, false, cond}
 use lib.Dec.{eqb, ltb}
 use lib.IntN.{ℤ, pos}
 use lib.ListN.{length, set, get_or, replicate}
-use borrow.Author.Tests.{eqb-true, eqb-false}
 use Rattle.numerals.specs.digits.Decimal.{number, AllDigits}
 use Rattle.numerals.proofs.digits.Decimal.{number-below}
 use Rattle.leap_table.specs.rows.Table.{last_month}
 use Rattle.leap_table.specs.rows.Announced.{natural}
-use Rattle.leap_lists.specs.declared.ListAnswer.{ListAnswer}
 use Rattle.leap_lists.specs.declared.held.Held.{Held}
 use Rattle.leap_lists.specs.declared.lines.Line.{Line}
 use Rattle.leap_lists.specs.declared.lines.Line.TheVariants as K
-use Rattle.leap_lists.specs.lines.Months.{first_month, all_months}
 use Rattle.leap_lists.specs.lines.Lines.{line_says}
-use Rattle.leap_lists.specs.Grammar.{LineEnd, Says, nothing, month, ntp, expiry}
+use Rattle.leap_lists.specs.Grammar.{Says, nothing, month, ntp, expiry}
 use Rattle.leap_lists.specs.Held.{InRange, none_held, line_fault, with_row, with_line}
 use Rattle.leap_lists.specs.Texts.{lines_of}
-use Rattle.leap_lists.specs.Reading.{answered, refused_at, read_from, read_of, no_places}
+use Rattle.leap_lists.specs.Reading.{ListAnswer, answered, refused_at, read_from, read_of, no_places}
 use Rattle.leap_lists.proofs.Converse.{read-says}
 
 few-digits : (k : ℕ) (d : List ℕ) → AllDigits d → length d ≤ k → number d < 10 ^ k

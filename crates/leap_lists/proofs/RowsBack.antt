@@ -1,24 +1,20 @@
 -- Rows that are written are read back, place by place, and with the library's own rows before them too. Assumes nothing.
-use Prim.Native.Nat.{ℕ, zero, suc, ◌+◌, ◌-◌, ◌/◌, ◌%◌, ◌≤◌, ◌<◌}
+use Prim.Native.Nat.{ℕ, zero, suc, ◌+◌, ◌/◌, ◌%◌, ◌≤◌, ◌<◌}
 use native.Mathlib.Omega.{arith}
-use native.Mathlib.Numerals.{add-one}
 use mathlib.Core.Path.{◌≡◌, refl, sym, ap, ◌∙◌}
 use mathlib.Core.List.{List, [], ◌∷◌, ◌++◌, map}
 use lib.ListN.{length, get_or, set, length-set}
 use lib.Seq.{get_or-set_same, get_or-set_other}
 use lib.IntN.{ℤ, pos}
-use borrow.Author.Tests.{le-ltb}
 use Rattle.numerals.specs.digits.Decimal.{AllDigits, digits_of}
 use Rattle.numerals.proofs.digits.Decimal.{digits-all}
 use Rattle.leap_table.specs.rows.Table.{last_month}
 use Rattle.leap_lists.specs.declared.held.Held.{Held}
-use Rattle.leap_lists.specs.declared.lines.Line.{Line}
 use Rattle.leap_lists.specs.declared.lines.Line.TheVariants as K
 use Rattle.leap_lists.specs.lines.Lines.{line_says}
-use Rattle.leap_lists.specs.Held.{none_held, library_row, later_fault, line_fault, with_row, with_line}
-use Rattle.leap_lists.specs.Texts.{lines_of}
+use Rattle.leap_lists.specs.Held.{none_held, line_fault, with_row, with_line}
 use Rattle.leap_lists.specs.Reading.{answered, read_from, read_of}
-use Rattle.leap_lists.specs.Writer.{last_digits, month_line, ntp_line, lines_text, LentRow, held_with, InTheirTurn, written_lines, OwnLine, AllOwn, put_from}
+use Rattle.leap_lists.specs.Writer.{last_digits, month_line, ntp_line, lines_text, LentRow, held_with, InTheirTurn, written_lines, AllOwn, put_from}
 use Rattle.leap_lists.proofs.Reading.{no_fault}
 use Rattle.leap_lists.proofs.held.Tests.{as_later, as_own, is_held, not_held}
 use Rattle.leap_lists.proofs.Back.{OneLine, AllLines, lines-back, last-all, month-line-read, ntp-line-read}

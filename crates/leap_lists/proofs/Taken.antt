@@ -2,30 +2,29 @@
 use Prim.Native.Nat.{ℕ, zero, suc, ◌+◌, ◌≤◌, ◌<◌}
 use native.Mathlib.Omega.{arith}
 use native.Mathlib.Numerals.{add-one}
-use mathlib.Core.Path.{◌≡◌, refl, sym, ap, ◌∙◌, subst}
+use mathlib.Core.Path.{◌≡◌, refl, ap, ◌∙◌}
 use mathlib.Core.List.{List, [], ◌∷◌}
 use mathlib.Core.Logic.{◌⊎◌, inl, inr}
 use mathlib.Core.Bool.{Bool, true, false, cond}
-use lib.ListN.{length, get_or, set, length-set, replicate}
+use lib.ListN.{length, get_or, set, length-set}
 use lib.Seq.{get_or-set_same, get_or-set_other}
 use lib.IntN.{ℤ, pos}
 use lib.Signed.{lt_z}
 use lib.Dec.{leb, ltb, eqb}
-use borrow.Author.Tests.{ltb-true, ltb-false, lt-ltb, leb-true, leb-false, eqb-true, eqb-false}
+use borrow.Author.Tests.{ltb-true, ltb-false, lt-ltb, leb-false, eqb-true, eqb-false}
 use Rattle.refusals.specs.Outcome.{answer}
 use Rattle.leap_table.specs.declared.rows.AnnouncedRows.{AnnouncedRows}
 use Rattle.leap_table.specs.rows.Table.{last_month, last_seconds}
-use Rattle.leap_table.specs.rows.Announced.{announced_table, rows_of, table_of, before, later_at, OneStep, StepAt, one_apart, Decision, sizes, order, step}
-use Rattle.leap_table.specs.rows.Announced.{taken}
+use Rattle.leap_table.specs.rows.Announced.{announced_table, rows_of, table_of, before, OneStep, one_apart, Decision, sizes, order, step}
+use Rattle.leap_table.specs.rows.Announced.{rows_of, taken}
 use Rattle.leap_table.proofs.rows.TableLaws.{near, table-decided}
-use Rattle.leap_lists.specs.declared.ListAnswer.{ListAnswer}
 use Rattle.leap_lists.specs.declared.held.Held.{Held}
 use Rattle.leap_lists.specs.declared.lines.Line.{Line}
 use Rattle.leap_lists.specs.declared.lines.Line.TheVariants as K
 use Rattle.leap_lists.specs.lines.Lines.{line_says}
 use Rattle.leap_lists.specs.Held.{none_held, library_row, later_fault, line_fault, with_row, with_line}
 use Rattle.leap_lists.specs.Texts.{lines_of}
-use Rattle.leap_lists.specs.Reading.{answered, refused_at, read_from, read_of}
+use Rattle.leap_lists.specs.Reading.{ListAnswer, answered, refused_at, read_from, read_of}
 
 -- what is held is rising and goes by one second, and its last row is the one that is told
 pub record Good (h : Held) : Type 0 where

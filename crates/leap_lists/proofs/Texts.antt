@@ -1,36 +1,54 @@
--- The lines of a text, the first apart from those behind it. Assumes nothing.
-use Prim.Native.Nat.{ℕ, suc, ◌+◌, ◌-◌, ◌<◌, ◌≤◌}
-use native.Mathlib.Omega.{arith}
-use mathlib.Core.Path.{◌≡◌, refl, sym, ap, ◌∙◌}
-use mathlib.Core.List.{List, [], ◌∷◌}
-use mathlib.Core.Bool.{Bool, true, false, cond}
-use lib.ListN.{length, take, drop, get_or, drop_of_length-le}
-use lib.Seq.{drop-drop}
-use lib.Dec.{eqb}
-use borrow.Author.Tests.{eq-eqb, ne_eqb}
-use Rattle.leap_lists.specs.Texts.{on_first, lines_of, first_line}
-use Rattle.leap_lists.proofs.lines.Runs.{byte_first}
+-- The lines of a text are what is between its newlines, but for an empty part behind the last. Assumes nothing.
+use Rattle.std.proofs.Common.{◌≡◌, ℕ, List, [], ◌∷◌, ◌++◌, Bool, true, false, cond, eqb, ◌⊎◌, inl, inr, refl, ap, ◌∙◌}
+use Rattle.std.specs.List.{slice_split, onto_first}
+use Rattle.leap_lists.specs.Texts.{on_first, lines_of}
+use Rattle.std.proofs.Common.{suc, ◌+◌, ◌≤◌, ◌<◌, length, take, drop, arith}
 
--- ---- the end of a line, one byte at a time
-newline_first : (c : ℕ) (cs : List ℕ) → c ≡ 10 → first_line (c ∷ cs) ≡ []
-unfolding first_line
-newline_first c cs e = rw (eq-eqb _ _ e)
+-- what is between newlines
+abbrev pub parts : List ℕ → List (List ℕ)
+parts t = slice_split (λ (b : ℕ). eqb b 10) t
 
-other_first : (c : ℕ) (cs : List ℕ) → (c ≡ 10 → ⊥) → first_line (c ∷ cs) ≡ c ∷ first_line cs
-unfolding first_line
-other_first c cs e = rw (ne_eqb _ _ e)
+same-first : (c : ℕ) (ls : List (List ℕ)) → onto_first c ls ≡ on_first c ls
+unfolding on_first
+same-first c [] = refl
+same-first c (l ∷ ls) = refl
 
-pub line-stops : (t : List ℕ) (i : ℕ) → i < length t → get_or t i 0 ≡ 10 → length (first_line (drop i t)) ≡ 0
-line-stops t i h e = ap (λ (s : List ℕ). length (first_line s)) (byte_first t i h) ∙ ap length (newline_first _ (drop (i + 1) t) e)
+pub parts-are : (t : List ℕ) → (parts t ≡ lines_of t) ⊎ (parts t ≡ lines_of t ++ ([] ∷ []))
+unfolding lines_of on_first
+parts-are [] = inr refl
+parts-are (c ∷ cs) = either (eqb c 10) (parts-are cs)
+  where
+    onto : (ls : List (List ℕ)) → (onto_first c (ls ++ ([] ∷ [])) ≡ on_first c ls) ⊎ (onto_first c (ls ++ ([] ∷ [])) ≡ on_first c ls ++ ([] ∷ []))
+    onto [] = inl refl
+    onto (l ∷ ls) = inr refl
 
-pub line_on : (t : List ℕ) (i : ℕ) → i < length t → (get_or t i 0 ≡ 10 → ⊥) → length (first_line (drop i t)) ≡ suc (length (first_line (drop (i + 1) t)))
-line_on t i h e = ap (λ (s : List ℕ). length (first_line s)) (byte_first t i h) ∙ ap length (other_first _ (drop (i + 1) t) e)
+    joined : (ls : List (List ℕ)) → ls ≡ lines_of cs ++ ([] ∷ []) → (x : (onto_first c (lines_of cs ++ ([] ∷ [])) ≡ on_first c (lines_of cs)) ⊎ (onto_first c
+        (lines_of cs ++ ([] ∷ [])) ≡ on_first c (lines_of cs) ++ ([] ∷ [])))
+        → (onto_first c ls ≡ on_first c (lines_of cs)) ⊎ (onto_first c ls ≡ on_first c (lines_of cs) ++ ([] ∷ []))
+    joined ls e (inl f) = inl (ap (onto_first c) e ∙ f)
+    joined ls e (inr f) = inr (ap (onto_first c) e ∙ f)
 
-pub line-out : (t : List ℕ) (i : ℕ) → length t ≤ i → length (first_line (drop i t)) ≡ 0
-unfolding first_line
-line-out t i h = rw (drop_of_length-le t h)
+    either : (b : Bool) → (parts cs ≡ lines_of cs) ⊎ (parts cs ≡ lines_of cs ++ ([] ∷ []))
+        → (cond b ([] ∷ parts cs) (onto_first c (parts cs)) ≡ cond b ([] ∷ lines_of cs) (on_first c (lines_of cs)))
+        ⊎ (cond b ([] ∷ parts cs) (onto_first c (parts cs)) ≡ cond b ([] ∷ lines_of cs) (on_first c (lines_of cs)) ++ ([] ∷ []))
+    either true (inl e) = inl (ap (λ (l : List (List ℕ)). [] ∷ l) e)
+    either true (inr e) = inr (ap (λ (l : List (List ℕ)). [] ∷ l) e)
+    either false (inl e) = inl (ap (onto_first c) e ∙ same-first c (lines_of cs))
+    either false (inr e) = joined (parts cs) e (onto (lines_of cs))
 
--- ---- a text is its first line and the lines behind it
+-- ---- a text from an index on: its first line, and the lines behind it
+-- what stands before the first newline
+unfoldable pub first_line : List ℕ → List ℕ
+first_line [] = []
+first_line (c ∷ cs) = cond (eqb c 10) [] (c ∷ first_line cs)
+
+-- r is where the line begins behind the one that ends at `end`; the end of the text where there is none
+pub record Behind (t : List ℕ) (end r : ℕ) : Type 0 where
+  pub rest : drop r t ≡ drop (end + 1) t
+  pub later : end < length t → end < r
+  pub not_before : end ≤ r
+  pub within : r ≤ length t
+
 pub first_part : (s : List ℕ) → take (length (first_line s)) s ≡ first_line s
 unfolding first_line
 first_part [] = refl

@@ -1,17 +1,17 @@
 -- A text is read where no line is at fault, and else refused at the first that is. Assumes nothing.
-use Prim.Native.Nat.{ℕ, zero, suc, ◌+◌, ◌≤◌, ◌<◌}
+use Prim.Native.Nat.{ℕ, zero, suc, ◌+◌, ◌<◌}
 use native.Mathlib.Omega.{arith}
-use mathlib.Core.Path.{◌≡◌, refl, sym, ap, ◌∙◌}
+use mathlib.Core.Path.{◌≡◌, refl, ap, ◌∙◌}
 use mathlib.Core.List.{List, [], ◌∷◌}
 use mathlib.Core.Bool.{Bool, true, false}
-use lib.ListN.{length, get_or}
+use lib.ListN.{length}
 use lib.Dec.{eqb}
 use borrow.Author.Tests.{eqb-true, eqb-false}
 use Rattle.leap_lists.specs.declared.held.Held.{Held}
 use Rattle.leap_lists.specs.lines.Lines.{line_says}
 use Rattle.leap_lists.specs.Held.{none_held, line_fault, with_line}
 use Rattle.leap_lists.specs.Texts.{lines_of}
-use Rattle.leap_lists.specs.Reading.{answered, refused_at, read_from, read_of}
+use Rattle.leap_lists.specs.Reading.{refused_at, read_from, read_of}
 use Rattle.leap_lists.specs.Verdict.{held_to, fault_at, ListVerdict, taken, refused}
 use Rattle.leap_lists.proofs.Reading.{fault_there, no_fault}
 

@@ -1,7 +1,7 @@
 -- What is held of a text's rows, and the number by which its next line is refused. Written from the customer's words on `table=FILE`: "rows that the library
 -- has must be equal, else the file is refused and the row named; later ones are lent"; 15 outside the grammar, 20 more than 16 later rows, 21 and 22 as for a
 -- table, 22 too for a row unlike the library's. Assumes nothing.
-use Rattle.std.specs.Prelude.{ℕ, zero, suc, ◌+◌, ◌-◌, ◌/◌, ◌%◌, ◌<◌, Bool, false, cond, not, ◌&&◌, List, leb, ltb, eqb, pos, set, replicate}
+use Rattle.std.specs.Prelude.{ℕ, zero, suc, ◌+◌, ◌/◌, ◌%◌, ◌<◌, Bool, false, cond, not, ◌&&◌, leb, ltb, eqb, pos, set, replicate}
 use Rattle.leap_table.specs.rows.Table.{fixed, last_month, last_seconds}
 use Rattle.leap_table.specs.rows.Announced.{one_apart}
 use Rattle.leap_table.specs.offsets.WholeSeconds.{whole_seconds}

@@ -1,10 +1,9 @@
 -- What becomes of a text, and why: no line is at fault, or the first that is. For the laws; no contract cites it. Assumes nothing.
 use Rattle.std.specs.Prelude.{ℕ, zero, suc, ◌+◌, ◌<◌, ◌≡◌, List, [], ◌∷◌, length, get_or}
-use Rattle.leap_lists.specs.declared.ListAnswer.{ListAnswer}
 use Rattle.leap_lists.specs.declared.held.Held.{Held}
 use Rattle.leap_lists.specs.lines.Lines.{line_says}
 use Rattle.leap_lists.specs.Held.{line_fault, with_line}
-use Rattle.leap_lists.specs.Reading.{answered, refused_at}
+use Rattle.leap_lists.specs.Reading.{ListAnswer, answered, refused_at}
 
 -- what is held behind the first i lines
 unfoldable pub held_to : Held → List (List ℕ) → ℕ → Held

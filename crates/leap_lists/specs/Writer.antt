@@ -4,7 +4,6 @@ use Rattle.std.specs.Prelude.{ℕ, zero, suc, ◌+◌, ◌-◌, ◌*◌, ◌/◌
 use Rattle.numerals.specs.digits.Decimal.{last, digits_of}
 use Rattle.leap_table.specs.rows.Table.{last_month}
 use Rattle.leap_lists.specs.declared.held.Held.{Held}
-use Rattle.leap_lists.specs.declared.lines.Line.{Line}
 use Rattle.leap_lists.specs.declared.lines.Line.TheVariants as K
 use Rattle.leap_lists.specs.lines.Lines.{line_says}
 use Rattle.leap_lists.specs.Held.{library_row, later_fault, with_row}

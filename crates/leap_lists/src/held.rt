@@ -1,13 +1,16 @@
-// The rows that are taken from a text, and the number by which the next line is refused.
+// The rows that are taken from a text, and the refusal of its next line.
 ghost use Rattle.std.specs.Prelude.{◌≡◌, ◌<◌, ◌≤◌};
-ghost use Rattle.leap_table.specs.rows.Table.{last_month, last_seconds};
+ghost use Rattle.refusals.specs.Outcome.{number_said};
 ghost use Rattle.leap_table.specs.rows.Announced.{one_apart};
 ghost use Rattle.leap_lists.specs.Held.{seconds_from, library_row, none_held, later_fault, line_fault, with_row, with_line, InRange};
 
 use crate::lines::Line;
+use leap_table::rows::{LAST_MONTH, LAST_SECONDS};
+use refusals::Refusal;
 
 // What is read so far: as many announced rows as `size`, their month starts and their seconds; the month and the seconds of the last row, of the library's last
 // where there is none; and the expiry, 0 where there is none.
+// kept: arrays with their size, as `AnnouncedRows` takes them (no heap); and 0 for no expiry, as `ListRead` hands it to C.
 #[derive(Clone, Copy)]
 pub(crate) struct Held {
     pub(crate) size: u32,
@@ -23,150 +26,113 @@ fn seconds_from(month: u32) -> u32
     ensures { (result ≡ seconds_from month) × (result < 2147483648) }
 {
     let year = (month / 12) as i32;
-    leap_table::offsets::whole_seconds_by_rows(year, month % 12 + 1, leap_table::rows::no_rows())
-}
-
-// The month of the library's last row.
-fn last_month() -> u32
-    ensures { result ≡ last_month }
-{
-    leap_table::rows::LAST_MONTH
+    let none = leap_table::rows::no_rows();
+    leap_table::offsets::whole_seconds_by_rows(year, month % 12 + 1, &none)
 }
 
 // Whether the library has a row that begins in that month with these seconds.
+#[tactic(auto, unfolding(crate::specs::Held::library_row))]
 fn library_row(month: u32, seconds: u32) -> bool
     ensures { result ≡ library_row month seconds }
 {
-    if month == 0 {
-        return false;
-    }
-    if seconds_from(month) != seconds {
-        return false;
-    }
-    seconds_from(month - 1) != seconds
+    month != 0 && seconds_from(month) == seconds && seconds_from(month - 1) != seconds
 }
 
+#[tactic(auto, unfolding(crate::specs::Held::none_held))]
 pub(crate) fn none_held() -> Held
     ensures { result ≡ none_held }
 {
-    let month = last_month();
     Held {
         size: 0,
         months: [0; 16],
         seconds: [0; 16],
-        month,
-        second: seconds_from(month),
+        month: LAST_MONTH,
+        second: LAST_SECONDS,
         known: 0,
     }
 }
 
+// kept: no plainer: `a.abs_diff(b) == 1` has as many words, and the definition `one_apart` is this test.
 fn one_apart(a: u32, b: u32) -> bool
     requires { (a < 2147483648) × (b < 2147483648) }
     ensures { result ≡ one_apart a b }
 {
-    if b == a + 1 {
-        return true;
-    }
-    a == b + 1
+    b == a + 1 || a == b + 1
 }
 
-// The number by which a row later than the library's is refused, 0 if it is not.
-fn later_fault(held: Held, month: u32, seconds: u32) -> u32
+// Judges a row later than the library's. Refusals in order: 20 to 22.
+#[tactic(auto, unfolding(crate::specs::Held::later_fault, refusals::specs::Outcome::number_said, refusals::specs::Refusal::refusal_number))]
+fn judge_later(held: Held, month: u32, seconds: u32) -> Result<(), Refusal>
     requires { (held.second < 2147483648) × (seconds < 2147483648) }
-    ensures { result ≡ later_fault held month seconds }
+    ensures { number_said result ≡ later_fault held month seconds }
 {
     if 16 <= held.size {
-        return refusals::TABLE_SIZES_WRONG;
+        return Err(Refusal::TableSizesWrong);
     }
     if month <= held.month {
-        return refusals::TABLE_NOT_RISING;
+        return Err(Refusal::TableNotRising);
     }
     if !one_apart(held.second, seconds) {
-        return refusals::TABLE_STEP_WRONG;
+        return Err(Refusal::TableStepWrong);
     }
-    0
+    Ok(())
 }
 
-fn row_fault(held: Held, month: u32, seconds: u32) -> u32
+// Judges a row: one that is not later than the library's last has to be the library's.
+#[tactic(auto, unfolding(crate::specs::Held::line_fault, refusals::specs::Outcome::number_said, refusals::specs::Refusal::refusal_number))]
+fn judge_row(held: Held, month: u32, seconds: u32) -> Result<(), Refusal>
     requires { (held.second < 2147483648) × (seconds < 2147483648) }
-    ensures { result ≡ line_fault held (Line.Row month seconds) }
+    ensures { number_said result ≡ line_fault held (Line.Row month seconds) }
 {
-    if last_month() < month {
-        return later_fault(held, month, seconds);
+    if LAST_MONTH < month {
+        return judge_later(held, month, seconds);
     }
     if library_row(month, seconds) {
-        return 0;
+        return Ok(());
     }
-    refusals::TABLE_STEP_WRONG
+    Err(Refusal::TableStepWrong)
 }
 
-// The number by which a line is refused, 0 if it is not.
-pub(crate) fn fault(held: Held, line: Line) -> u32
+// Judges a line.
+#[tactic(auto, unfolding(crate::specs::Held::line_fault, refusals::specs::Outcome::number_said, refusals::specs::Refusal::refusal_number))]
+pub(crate) fn judge(held: Held, line: Line) -> Result<(), Refusal>
     requires { (held.second < 2147483648) × InRange line }
-    ensures { result ≡ line_fault held line }
+    ensures { number_said result ≡ line_fault held line }
 {
     match line {
-        Line::Blank => 0,
-        Line::Row(month, seconds) => row_fault(held, month, seconds),
-        Line::Expiry(_) => 0,
-        Line::Outside => refusals::TEXT_OUTSIDE_GRAMMAR,
+        Line::Blank => Ok(()),
+        Line::Row(month, seconds) => judge_row(held, month, seconds),
+        Line::Expiry(_) => Ok(()),
+        Line::Outside => Err(Refusal::TextOutsideGrammar),
     }
 }
 
 // One row more.
-fn with_row(held: Held, month: u32, seconds: u32) -> Held
+fn with_row(mut held: Held, month: u32, seconds: u32) -> Held
     requires { (held.size < 16) × (month < 2147483648) × (seconds < 2147483648) }
     ensures { result ≡ with_row held month seconds }
 {
-    let mut all_months = held.months;
-    let mut all_seconds = held.seconds;
     let i = held.size as usize;
-    all_months[i] = month as i32;
-    all_seconds[i] = seconds as i32;
-    Held {
-        size: held.size + 1,
-        months: all_months,
-        seconds: all_seconds,
-        month,
-        second: seconds,
-        known: held.known,
-    }
-}
-
-fn with_expiry(held: Held, day: u32) -> Held
-    ensures { result ≡ with_line held (Line.Expiry day) }
-{
-    let months = held.months;
-    let seconds = held.seconds;
-    Held {
-        size: held.size,
-        months,
-        seconds,
-        month: held.month,
-        second: held.second,
-        known: day,
-    }
-}
-
-fn with_any_row(held: Held, month: u32, seconds: u32) -> Held
-    requires { (line_fault held (Line.Row month seconds) ≡ 0) × (month < 2147483648) × (seconds < 2147483648) }
-    ensures { result ≡ with_line held (Line.Row month seconds) }
-{
-    if last_month() < month {
-        return with_row(held, month, seconds);
-    }
+    held.months[i] = month as i32;
+    held.seconds[i] = seconds as i32;
+    held.size += 1;
+    held.month = month;
+    held.second = seconds;
     held
 }
 
 // What is held with a line that is not refused.
-pub(crate) fn with_line(held: Held, line: Line) -> Held
+#[tactic(auto, unfolding(crate::specs::Held::with_line, crate::specs::Held::line_fault, crate::specs::Held::later_fault))]
+pub(crate) fn with_line(mut held: Held, line: Line) -> Held
     requires { (line_fault held line ≡ 0) × InRange line }
     ensures { result ≡ with_line held line }
 {
     match line {
-        Line::Blank => held,
-        Line::Row(month, seconds) => with_any_row(held, month, seconds),
-        Line::Expiry(day) => with_expiry(held, day),
-        Line::Outside => held,
+        Line::Row(month, seconds) if LAST_MONTH < month => with_row(held, month, seconds),
+        Line::Expiry(day) => {
+            held.known = day;
+            held
+        }
+        _ => held,
     }
 }

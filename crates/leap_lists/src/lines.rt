@@ -1,7 +1,7 @@
 // One line of a text: what it says, or that it is outside the grammar.
-ghost use Rattle.std.specs.Prelude.{◌≡◌, Bool, ◌+◌, ◌≤◌, ◌<◌, length, drop, get_or};
-ghost use Rattle.numerals.specs.digits.Decimal.{is_digit};
-ghost use Rattle.leap_lists.specs.lines.Scan.{line_blank, behind_blanks, ended, DigitsAt, last_number};
+ghost use Rattle.std.specs.Prelude.{◌≡◌, IfSome, MatchOption, ◌^◌, ◌≤◌, ◌<◌, length, drop, get_or};
+ghost use Rattle.numerals.specs.digits.Decimal.{is_digit, number, AllDigits};
+ghost use Rattle.leap_lists.specs.lines.Scan.{line_blank, behind_blanks, first_digits, ended, last_number};
 ghost use Rattle.leap_lists.specs.lines.Months.{month_from};
 ghost use Rattle.leap_lists.specs.lines.Lines.{row_with, month_row, ntp_row, row_of, expiry_of, line_says};
 ghost use Rattle.leap_lists.specs.Held.{InRange};
@@ -25,230 +25,194 @@ pub(crate) enum Line {
     Outside,
 }
 
-// A number at the end of a line, or none.
-#[derive(Clone, Copy)]
-pub(crate) enum Last {
-    Number(u64),
-    Nothing,
-}
-
-// The digits that stand somewhere: the number that they say, and the index behind them.
-#[derive(Clone, Copy)]
-pub(crate) struct Run {
-    pub(crate) value: u64,
-    pub(crate) end: usize,
-}
-
 // A space or a tab; at the start and at the end of a line also a carriage return.
+#[tactic(auto, unfolding(crate::specs::lines::Scan::line_blank))]
 fn blank(c: u8, returns: bool) -> bool
     ensures { result ≡ line_blank returns c }
 {
-    if c == 32 {
-        return true;
-    }
-    if c == 9 {
-        return true;
-    }
-    if returns {
-        return c == 13;
-    }
-    false
+    c == b' ' || c == b'\t' || (returns && c == b'\r')
 }
 
-// The index of the first byte from `at` on that is no blank.
-fn blanks_end(line: &[u8], at: usize, returns: bool) -> usize
-    requires { at ≤ length line.now }
-    ensures { (drop result line.now ≡ behind_blanks returns (drop at line.now)) × (result ≤ length line.now) }
+// What is left behind the blanks in front.
+fn behind_blanks(s: &[u8], returns: bool) -> &[u8]
+    ensures { result.now ≡ behind_blanks returns s.now }
 {
-    let mut i = at;
-    while i < line.len() {
-        if !blank(line[i], returns) {
-            return i;
-        }
-        i += 1;
-    }
-    i
+    let n = s.iter().take_while(|c| blank(**c, returns)).count();
+    &s[n..]
 }
 
 // The byte at an index, and 0 past the end: no byte that the grammar names.
-fn byte_at(line: &[u8], at: usize) -> u8
-    ensures { result ≡ get_or line.now at 0 }
+// kept: this and `digit` as in parsing's scan, one call of std each: neither crate stands on the other.
+fn byte_at(s: &[u8], at: usize) -> u8
+    ensures { result ≡ get_or s.now at 0 }
 {
-    if at < line.len() {
-        return line[at];
-    }
-    0
+    s.get(at).copied().unwrap_or(0)
 }
 
+#[tactic(auto, unfolding(numerals::specs::digits::Decimal::is_digit))]
 fn digit(c: u8) -> bool
     ensures { result ≡ is_digit c }
 {
-    if c < 48 {
-        return false;
-    }
-    c <= 57
+    c.is_ascii_digit()
 }
 
-// The digits from `at` on, `most` of them at most.
-fn digits(line: &[u8], at: usize, most: usize) -> Run
-    requires { (at ≤ length line.now) × (most ≤ 12) }
-    ensures { DigitsAt most at line.now result }
+// The digits in front, `most` of them at most, and what is behind them.
+fn first_digits(s: &[u8], most: usize) -> (&[u8], &[u8])
+    ensures digits { result.0.now ≡ first_digits most s.now }
+    ensures rest { result.1.now ≡ drop (length (first_digits most s.now)) s.now }
+    ensures all { AllDigits result.0.now }
+    ensures few { length result.0.now ≤ most }
+{
+    let n = s.iter().take(most).take_while(|c| digit(**c)).count();
+    s.split_at(n)
+}
+
+// The number that digits say.
+fn number(digits: &[u8]) -> u64
+    requires all { AllDigits digits.now }
+    requires few { length digits.now ≤ 12 }
+    ensures says { result ≡ number digits.now }
+    ensures small { result < 10 ^ length digits.now }
 {
     let mut value = 0;
-    let mut i = at;
-    let mut left = most;
-    while 0 < left {
-        let c = byte_at(line, i);
-        if !digit(c) {
-            return Run { value, end: i };
-        }
-        value = 10 * value + (c - 48) as u64;
-        i += 1;
-        left -= 1;
+    for c in digits {
+        value = 10 * value + (*c - b'0') as u64;
     }
-    Run { value, end: i }
+    value
 }
 
-// Nothing but blanks and a comment from `at` on.
-fn at_end(line: &[u8], at: usize) -> bool
-    requires { at ≤ length line.now }
-    ensures { result ≡ ended (behind_blanks (Bool.true) (drop at line.now)) }
+// Nothing is left, or a comment.
+#[tactic(auto, unfolding(crate::specs::lines::Scan::ended))]
+fn ended(s: &[u8]) -> bool
+    ensures { result ≡ ended s.now }
 {
-    let end = blanks_end(line, at, true);
-    if end == line.len() {
-        return true;
-    }
-    line[end] == b'#'
+    s.is_empty() || s[0] == b'#'
 }
 
-// Blanks, a number of at most `most` digits, and the end of the line.
-fn last_number(line: &[u8], at: usize, most: usize) -> Last
-    requires { (at ≤ length line.now) × (most ≤ 12) }
-    ensures { result ≡ last_number most (drop at line.now) }
+// The number at the end of a line: a blank or more, at most `most` digits, and the end.
+#[tactic(auto, unfolding(crate::specs::lines::Scan::last_number, crate::specs::lines::Scan::number_then))]
+fn last_number(s: &[u8], most: usize) -> Option<u64>
+    requires { most ≤ 12 }
+    ensures says { result ≡ last_number most s.now }
+    ensures small { IfSome result (λ n. n < 10 ^ most) }
 {
-    if !blank(byte_at(line, at), false) {
-        return Last::Nothing;
+    if !blank(byte_at(s, 0), false) {
+        return None;
     }
-    let from = blanks_end(line, at, false);
-    let run = digits(line, from, most);
-    let end = run.end;
-    if end == from {
-        return Last::Nothing;
+    let (digits, rest) = first_digits(behind_blanks(s, false), most);
+    if digits.is_empty() {
+        return None;
     }
-    if !at_end(line, end) {
-        return Last::Nothing;
+    if !ended(behind_blanks(rest, true)) {
+        return None;
     }
-    Last::Number(run.value)
+    Some(number(digits))
 }
 
-// The row of a month, with the seconds that stand from `at` on.
-fn row_with(line: &[u8], at: usize, month: u32) -> Line
-    requires { (at ≤ length line.now) × (month < 2147483648) }
-    ensures { (result ≡ row_with month (drop at line.now)) × InRange result }
+// The row of a month, with the seconds that end the line.
+#[tactic(auto, unfolding(crate::specs::lines::Lines::row_with))]
+fn row_with(s: &[u8], month: u32) -> Line
+    requires { month < 2147483648 }
+    ensures { (result ≡ row_with month s.now) × InRange result }
 {
-    match last_number(line, at, 9) {
-        Last::Number(seconds) => Line::Row(month, seconds as u32),
-        Last::Nothing => Line::Outside,
+    match last_number(s, 9) {
+        Some(seconds) => Line::Row(month, seconds as u32),
+        None => Line::Outside,
     }
 }
 
-// A row whose year, of as many digits as `places`, stands before a hyphen, behind which the month is from `at` on.
-fn month_row(line: &[u8], at: usize, year: u64, places: usize) -> Line
-    requires { (at ≤ length line.now) × (places ≡ 4 → year < 10000) }
-    ensures { (result ≡ month_row year places (drop at line.now)) × InRange result }
+// A row whose year stands before a hyphen, and the month behind it.
+#[tactic(auto, unfolding(crate::specs::lines::Lines::month_row))]
+fn month_row(year: &[u8], s: &[u8]) -> Line
+    requires { AllDigits year.now }
+    ensures { (result ≡ month_row (number year.now) (length year.now) s.now) × InRange result }
 {
-    if places != 4 {
+    if year.len() != 4 {
         return Line::Outside;
     }
-    let run = digits(line, at, 2);
-    let end = run.end;
-    if end - at != 2 {
+    let (digits, rest) = first_digits(s, 2);
+    if digits.len() != 2 {
         return Line::Outside;
     }
-    if run.value < 1 {
+    let month = number(digits);
+    if month < 1 || 12 < month {
         return Line::Outside;
     }
-    if 12 < run.value {
-        return Line::Outside;
-    }
-    row_with(line, end, (12 * year + run.value - 1) as u32)
+    row_with(rest, (12 * number(year) + month - 1) as u32)
 }
 
-// The number of the month whose first day is so many days after 1900-01-01; 0 where there is none.
-fn month_from(day: u64) -> u32
-    ensures { (result ≡ month_from day) × (result < 120000) }
+// The number of the month whose first day is so many days after 1900-01-01.
+fn month_from(day: u64) -> Option<u32>
+    ensures { MatchOption result (month_from day ≡ 0) (λ m. (month_from day ≡ m) × (0 < m) × (m < 120000)) }
 {
-    let mut month = FIRST_NTP_MONTH;
     let mut left = day;
-    while month < MONTHS_END {
+    for month in FIRST_NTP_MONTH..MONTHS_END {
         if left == 0 {
-            return month;
+            return Some(month);
         }
         let days = calendar::days_in_month((month / 12) as i32, (month % 12 + 1) as i32) as u64;
         if left < days {
-            return 0;
+            return None;
         }
         left -= days;
-        month += 1;
     }
-    0
+    None
 }
 
-// A row whose NTP seconds, of as many digits as `places`, stand before `at`: they are the midnight that begins a month.
-fn ntp_row(line: &[u8], at: usize, ntp: u64, places: usize) -> Line
-    requires { at ≤ length line.now }
-    ensures { (result ≡ ntp_row ntp places (drop at line.now)) × InRange result }
+// A row whose NTP seconds stand in front: they are the midnight that begins a month.
+#[tactic(auto, unfolding(crate::specs::lines::Lines::ntp_row))]
+fn ntp_row(digits: &[u8], s: &[u8]) -> Line
+    requires all { AllDigits digits.now }
+    requires few { length digits.now ≤ 12 }
+    ensures { (result ≡ ntp_row (number digits.now) (length digits.now) s.now) × InRange result }
 {
-    if places == 0 {
+    if digits.is_empty() {
         return Line::Outside;
     }
+    let ntp = number(digits);
     if ntp % DAY != 0 {
         return Line::Outside;
     }
-    let month = month_from(ntp / DAY);
-    if month == 0 {
-        return Line::Outside;
+    match month_from(ntp / DAY) {
+        Some(month) => row_with(s, month),
+        None => Line::Outside,
     }
-    row_with(line, at, month)
 }
 
-// The row that stands from `at` on.
-fn row_at(line: &[u8], at: usize) -> Line
-    requires { at ≤ length line.now }
-    ensures { (result ≡ row_of (drop at line.now)) × InRange result }
+// A row: a hyphen behind the first digits tells its two kinds apart.
+#[tactic(auto, unfolding(crate::specs::lines::Lines::row_of, crate::specs::lines::Lines::row_behind))]
+fn row_of(s: &[u8]) -> Line
+    ensures { (result ≡ row_of s.now) × InRange result }
 {
-    let run = digits(line, at, 12);
-    let end = run.end;
-    if byte_at(line, end) == b'-' {
-        return month_row(line, end + 1, run.value, end - at);
+    let (digits, rest) = first_digits(s, 12);
+    if byte_at(rest, 0) == b'-' {
+        return month_row(digits, &rest[1..]);
     }
-    ntp_row(line, end, run.value, end - at)
+    ntp_row(digits, rest)
 }
 
-// The expiry whose NTP seconds stand from `at` on.
-fn expiry_at(line: &[u8], at: usize) -> Line
-    requires { at ≤ length line.now }
-    ensures { (result ≡ expiry_of (drop at line.now)) × InRange result }
+// The expiry whose NTP seconds end the line.
+#[tactic(auto, unfolding(crate::specs::lines::Lines::expiry_of))]
+fn expiry_of(s: &[u8]) -> Line
+    ensures { (result ≡ expiry_of s.now) × InRange result }
 {
-    match last_number(line, at, 12) {
-        Last::Number(ntp) => Line::Expiry((ntp / DAY) as u32 + FIRST_NTP_DAY),
-        Last::Nothing => Line::Outside,
+    match last_number(s, 12) {
+        Some(ntp) => Line::Expiry((ntp / DAY) as u32 + FIRST_NTP_DAY),
+        None => Line::Outside,
     }
 }
 
 // What a line says.
+#[tactic(auto, unfolding(crate::specs::lines::Lines::line_says, crate::specs::lines::Lines::line_from))]
 pub(crate) fn read_line(line: &[u8]) -> Line
     ensures { (result ≡ line_says line.now) × InRange result }
 {
-    let at = blanks_end(line, 0, true);
-    if at == line.len() {
+    let s = behind_blanks(line, true);
+    if !ended(s) {
+        return row_of(s);
+    }
+    if byte_at(s, 1) != b'@' {
         return Line::Blank;
     }
-    if line[at] != b'#' {
-        return row_at(line, at);
-    }
-    if byte_at(line, at + 1) != b'@' {
-        return Line::Blank;
-    }
-    expiry_at(line, at + 2)
+    expiry_of(&s[2..])
 }

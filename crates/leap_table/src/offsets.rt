@@ -1,5 +1,6 @@
 // TAI-UTC of a date, and the leap at the end of a day. From scales/common.rs's `get_tai_utc_offset` with the table of constants.rs, and the look-ups of
 // scales/utc/mod.rs and scales/conversions/utc_tai/mod.rs.
+// kept: year, month and day stand one by one, as C hands them (ct_get_tai_utc_offset, ct_leap_at_end_of_day): they may be no date.
 
 mod announced;
 mod fixed_rows;
@@ -9,32 +10,19 @@ mod seconds;
 pub mod walk_rows;
 mod whole_day;
 
-pub use in_day::{get_tai_utc_offset, get_tai_utc_offset_by_arrays, offset_at_0h_by_arrays};
+pub use in_day::{get_tai_utc_offset, get_tai_utc_offset_by_rows, offset_at_0h_by_rows};
+pub(crate) use look_up::month_number;
 pub use seconds::whole_seconds_by_rows;
 pub use whole_day::{
-    day_offsets, day_offsets_by_arrays, leap_at_end_of_day, leap_at_end_of_day_by_arrays,
+    day_offsets, day_offsets_by_rows, leap_at_end_of_day, leap_at_end_of_day_by_rows,
 };
 
 // Which row an offset was read from, counted from 0: none before 1960, one that drifts, or one of whole seconds.
-#[derive(Clone, Copy)]
+#[derive(Clone, Copy, Debug, PartialEq, Eq)]
 pub enum Rule {
     Absent,
     Drifting(u32),
     Whole(u32),
-}
-
-// Seconds, of TAI-UTC or of the leap at the end of a day, or the number of the refusal.
-#[derive(Clone, Copy)]
-pub enum SecondsAnswer {
-    Seconds(f64),
-    Refused(u32),
-}
-
-// The same, with the rule of the day.
-#[derive(Clone, Copy)]
-pub enum SecondsByRule {
-    Seconds(f64, Rule),
-    Refused(u32),
 }
 
 // TAI-UTC in seconds at the start, the middle and the end of a day.
@@ -43,18 +31,4 @@ pub struct DayOffsets {
     pub at_0h: f64,
     pub at_12h: f64,
     pub at_24h: f64,
-}
-
-// The offsets of a day, or the number of the refusal.
-#[derive(Clone, Copy)]
-pub enum DayOffsetsAnswer {
-    Offsets(DayOffsets),
-    Refused(u32),
-}
-
-// The same, with the rule of the day.
-#[derive(Clone, Copy)]
-pub enum DayByRule {
-    Day(DayOffsets, Rule),
-    Refused(u32),
 }

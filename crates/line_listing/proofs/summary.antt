@@ -1,3 +1,3 @@
--- The laws of the summary. Tests: what the tests of the code say of the definitions. Pieces: the lines joined.
+-- The laws of the summary. Tests: the stamps of a run that are seen. Pieces: the lines joined.
 pub mod Tests
 pub mod Pieces

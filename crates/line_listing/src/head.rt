@@ -1,4 +1,6 @@
 // The first lines and the last: how many stamps each run has, how many of them are not finite, refused and left out.
+// kept: lists of parts and numbers as ct_line_listing_part lends them. It lends sizes and ends in one slice of three records, which capi takes apart by
+// `run_at`; here they stand one by one, as `head_text` of the contracts names them.
 ghost use Rattle.std.specs.Prelude.{◌≡◌, ◌+◌, ◌-◌, ◌<◌, ◌≤◌, length, if◌then◌else◌, ◌==◌, nat_eq};
 ghost use Rattle.floats.specs.ExponentField.{exponent_field};
 ghost use Rattle.leap_table.specs.rows.Announced.{least};
@@ -12,9 +14,10 @@ use crate::lines::number_at;
 use numerals::little_endian::nth_u64;
 use numerals::place::place_bytes;
 use reasons::sentences::numbers::place_decimal;
-use utc::text::TextAnswer;
+use refusals::Refusal;
 
 // Whether a run is named, and the block that ended it: how many came before it, and the number of its refusal, 0 where none did.
+// kept: a flag and a number, and no `Option`: C lends the three in a record (`run_at` in capi), and the theorems of the head speak of the fields.
 #[derive(Clone, Copy)]
 pub struct RunEnd {
     pub named: bool,
@@ -22,7 +25,11 @@ pub struct RunEnd {
     pub refused: u32,
 }
 
+// The number of a stamp that is left out of the line (ct_lines_in_order).
+pub(crate) const LEFT_OUT: u8 = Refusal::OutOfOrder as u8;
+
 // Whether the exponent field of a pattern is all ones.
+// kept: by the pattern, beside runs' `is_number`: `kind_at` goes by the definition `exponent_field`, and runs' by `finite`.
 fn all_ones(bits: u64) -> bool
     ensures { result ≡ (exponent_field bits == 2047) }
 {
@@ -30,6 +37,8 @@ fn all_ones(bits: u64) -> bool
 }
 
 // The kind of a stamp: 0 ordered, 1 not finite, 2 refused, 3 left out.
+// kept: a number and no enum, since the theorems `NotFiniteCounted` and `Right` speak of the numbers.
+#[tactic(auto, unfolding(crate::specs::head::Counts::kind_at, crate::specs::head::Counts::not_finite))]
 fn kind_at(jd1s: &[u8], jd2s: &[u8], numbers: &[u8], place: usize) -> u8
     ensures { result ≡ kind_at jd1s.now jd2s.now numbers.now place }
 {
@@ -37,22 +46,13 @@ fn kind_at(jd1s: &[u8], jd2s: &[u8], numbers: &[u8], place: usize) -> u8
     if number == 0 {
         return 0;
     }
-    if number == 17 {
+    if number == LEFT_OUT {
         return 3;
     }
-    if all_ones(nth_u64(jd1s, place)) {
-        return 1;
-    }
-    if all_ones(nth_u64(jd2s, place)) {
+    if all_ones(nth_u64(jd1s, place)) || all_ones(nth_u64(jd2s, place)) {
         return 1;
     }
     2
-}
-
-fn one_if_same(a: u8, b: u8) -> usize
-    ensures { (result ≡ (if nat_eq a b then 1 else 0)) × (result ≤ 1) }
-{
-    if a == b { 1 } else { 0 }
 }
 
 // How many of the n stamps from `from` on are of a kind.
@@ -68,10 +68,10 @@ pub(crate) fn count_of(
     ensures { (result ≡ kinds_in jd1s.now jd2s.now numbers.now kind from n) × (result ≤ n) }
 {
     let mut count = 0;
-    let mut i = 0;
-    while i < n {
-        count += one_if_same(kind_at(jd1s, jd2s, numbers, from + i), kind);
-        i += 1;
+    for i in 0..n {
+        if kind_at(jd1s, jd2s, numbers, from + i) == kind {
+            count += 1;
+        }
     }
     count
 }
@@ -158,12 +158,7 @@ fn place_if_named(
     at
 }
 
-fn one_if(b: bool) -> u64
-    ensures { (result ≡ one_if_named b) × (result ≤ 1) }
-{
-    if b { 1 } else { 0 }
-}
-
+// kept: a function and no `min`, since its callers go by the two bounds of this contract too.
 pub(crate) fn smaller(a: usize, b: usize) -> usize
     ensures { (result ≡ least a b) × (result ≤ a) × (result ≤ b) }
 {
@@ -189,7 +184,7 @@ pub(crate) fn compose(
     let n = numbers.len();
     let end1 = smaller(first, n);
     let end2 = end1 + smaller(second, n - end1);
-    let named = one_if(gps.named) + one_if(tai.named) + one_if(utc.named);
+    let named = u64::from(gps.named) + u64::from(tai.named) + u64::from(utc.named);
     let a = place_count(b"line up ", named, dst, 0);
     let b = place_bytes(b" runs\n", dst, a);
     let c = place_if_named(b"gps ", gps, jd1s, jd2s, numbers, 0, end1, dst, b);
@@ -197,6 +192,7 @@ pub(crate) fn compose(
     place_if_named(b"utc ", utc, jd1s, jd2s, numbers, end2, n - end2, dst, d)
 }
 
+// kept: no plainer, beside `put_end`: one function for both would take the size of the array, and a closure that writes the text, with its contract.
 // The first lines of the listing at the start of the buffer: how many runs are named, and of each of them a line. Where they do not fit, 11 and nothing is
 // written; 550 bytes are enough.
 pub fn put_head(
@@ -209,16 +205,16 @@ pub fn put_head(
     tai: RunEnd,
     utc: RunEnd,
     out: &mut [u8],
-) -> TextAnswer
+) -> Result<usize, Refusal>
     ensures { TextPut (head_text gps tai utc (stamps jd1s.now jd2s.now numbers.now first second)) out.old result
         out.new }
 {
     let mut all = [0u8; 550];
     let n = compose(jd1s, jd2s, numbers, first, second, gps, tai, utc, &mut all);
     if out.len() < n {
-        return TextAnswer::Refused(refusals::NO_ROOM);
+        return Err(Refusal::NoRoom);
     }
-    TextAnswer::Written(numerals::place::copy(&all[..n], out))
+    Ok(numerals::place::copy(&all[..n], out))
 }
 
 pub(crate) fn compose_end(ordered: u64, textless: u64, dst: &mut [u8]) -> usize
@@ -231,13 +227,13 @@ pub(crate) fn compose_end(ordered: u64, textless: u64, dst: &mut [u8]) -> usize
 }
 
 // The last line: how many stamps are lined up, and how many of them have no text. Where it does not fit, 11 and nothing is written; 64 bytes are enough.
-pub fn put_end(ordered: u64, textless: u64, out: &mut [u8]) -> TextAnswer
+pub fn put_end(ordered: u64, textless: u64, out: &mut [u8]) -> Result<usize, Refusal>
     ensures { TextPut (end_text ordered textless) out.old result out.new }
 {
     let mut all = [0u8; 64];
     let n = compose_end(ordered, textless, &mut all);
     if out.len() < n {
-        return TextAnswer::Refused(refusals::NO_ROOM);
+        return Err(Refusal::NoRoom);
     }
-    TextAnswer::Written(numerals::place::copy(&all[..n], out))
+    Ok(numerals::place::copy(&all[..n], out))
 }

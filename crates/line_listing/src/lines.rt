@@ -1,7 +1,9 @@
 // The line of each stamp: its recorder, its index in its run, and its UTC text or the number of its refusal.
+// kept: lists as ct_line_listing_part lends them, and the sizes of the runs, which it lends in records, one by one, as `stamps` of the contracts names them.
 ghost use Rattle.std.specs.Prelude.{◌≡◌, ◌+◌, ◌-◌, ◌*◌, ◌/◌, ◌<◌, ◌≤◌, true, length, slice_index};
+ghost use Rattle.refusals.specs.Outcome.{number_said};
 ghost use Rattle.numerals.specs.digits.Placed.{Placed};
-ghost use Rattle.leap_table.specs.rows.Announced.{rows_in, table_of, least};
+ghost use Rattle.leap_table.specs.rows.Announced.{rows_of, table_of, least};
 ghost use Rattle.line_listing.specs.lines.StampLine.{stamps, line_in_order, recorder, index_in, sentence_behind, number_told, no_text, refused};
 ghost use Rattle.line_listing.specs.lines.Parts.{longest_line, places_there, absent_refusal, ListedCall};
 ghost use Rattle.line_listing.specs.lines.Asked.{text_by, none_by, told_by, textless_by, line_told, PartsRoom, TextsRoom, ShortTexts, Gathered, Converted};
@@ -12,10 +14,10 @@ use julian::JulianDate;
 use leap_table::rows::AnnouncedRows;
 use numerals::little_endian::{nth_u32, nth_u64, put_nth_u64};
 use numerals::place::place_bytes;
+use reasons::Values;
 use reasons::sentences::numbers::place_decimal;
-use reasons::{ReasonAnswer, Values};
+use refusals::Refusal;
 use utc::iso_texts::NamedForm;
-use utc::text::TextAnswer;
 
 // What a call put into the buffer: how many bytes, which line comes next, and how many of the lines are of ordered stamps without text.
 #[derive(Clone, Copy)]
@@ -25,13 +27,6 @@ pub struct Part {
     pub textless: usize,
 }
 
-// A part of the lines, or the number of the refusal.
-#[derive(Clone, Copy)]
-pub enum PartAnswer {
-    Lines(Part),
-    Refused(u32),
-}
-
 // The index after what was written of a stamp, and 1 where it is ordered and has no text.
 #[derive(Clone, Copy)]
 struct Told {
@@ -39,6 +34,7 @@ struct Told {
     textless: usize,
 }
 
+#[tactic(auto, unfolding(crate::specs::lines::StampLine::recorder))]
 fn place_recorder(first: usize, second: usize, place: usize, dst: &mut [u8], at: usize) -> usize
     requires { at + 4 ≤ length dst.old }
     ensures { Placed dst.old at (recorder first second place) result dst.new × (result ≡ at + 4) }
@@ -52,6 +48,7 @@ fn place_recorder(first: usize, second: usize, place: usize, dst: &mut [u8], at:
     place_bytes(b"utc ", dst, at)
 }
 
+#[tactic(auto, unfolding(crate::specs::lines::StampLine::index_in))]
 fn index_in(first: usize, second: usize, place: usize) -> usize
     ensures { (result ≡ index_in first second place) × (result ≤ place) }
 {
@@ -70,19 +67,15 @@ fn place_sentence(number: u32, jd: JulianDate, dst: &mut [u8], at: usize) -> usi
     requires { at + length (sentence_behind true number jd) ≤ length dst.old }
     ensures { Placed dst.old at (sentence_behind true number jd) result dst.new }
 {
-    match reasons::reason_of(number, Values::Parts(jd.jd1, jd.jd2)) {
-        ReasonAnswer::Refused(_) => at,
-        ReasonAnswer::Told(reason) => {
-            let next = place_bytes(b": ", dst, at);
-            match reasons::sentences::put_sentence(reason, &mut dst[next..]) {
-                TextAnswer::Written(n) => next + n,
-                TextAnswer::Refused(_) => next,
-            }
-        }
-    }
+    let Ok(reason) = reasons::reason_of(number, Values::Parts(jd.jd1, jd.jd2)) else {
+        return at;
+    };
+    let next = place_bytes(b": ", dst, at);
+    next + reasons::sentences::put_sentence(reason, &mut dst[next..]).unwrap_or(0)
 }
 
 // A number below 256, and its sentence where it is asked for.
+// kept: `sentences` is a truth value and no closure: C's number gives it (ct_line_listing_part), and two tests stand for it, here and in `line_room`.
 fn place_number(sentences: bool, number: u32, jd: JulianDate, dst: &mut [u8], at: usize) -> usize
     requires { (number < 256) × (at + longest_line sentences ≤ length dst.old + 24) }
     ensures placed { Placed dst.old at (number_told sentences number jd) result dst.new }
@@ -117,6 +110,8 @@ fn place_refused(sentences: bool, number: u32, jd: JulianDate, dst: &mut [u8], a
 }
 
 // What is told of an ordered stamp: the text of its UTC, where its conversion has the mark 0 and its text the number 0.
+// kept: no plainer: number, mark, tai, date, text and none are taken from the lists in `place_lines` alone; `place_stamp` looks at the number, this one at the
+// others, and a struct would be made for one line and taken apart at once.
 fn place_text(
     sentences: bool,
     mark: u8,
@@ -198,28 +193,25 @@ fn place_line(
 }
 
 // The parts of the stamps of `count` lines from `line` on.
+// kept: `order` whole, with the line and a count beside it, since the clauses speak of place `line + i` of the whole list.
 fn gather(jds: &[u8], order: &[u8], line: usize, count: usize, out: &mut [u8])
     requires { (line + count < 18446744073709551616) × (length out.old ≡ 8 * count) }
     ensures { Gathered jds.now order.now line count out.new × (length out.new ≡ 8 * count) }
 {
-    let mut i = 0;
-    while i < count {
+    for i in 0..count {
         let place = nth_u32(order, line + i) as usize;
         put_nth_u64(out, i, nth_u64(jds, place));
-        i += 1;
     }
 }
 
 // Their UTC.
-fn convert_page<'a>(
+fn convert_page(
     jd1s: &[u8],
     jd2s: &[u8],
     order: &[u8],
     line: usize,
     count: usize,
-    size: usize,
-    months: &'a [i32; 16],
-    seconds: &'a [i32; 16],
+    table: &AnnouncedRows,
     tai1: &mut [u8],
     tai2: &mut [u8],
     utc1: &mut [u8],
@@ -228,20 +220,19 @@ fn convert_page<'a>(
 )
     requires { (line + count < 18446744073709551616) × PartsRoom count tai1.old tai2.old × PartsRoom count utc1.old utc2.old
         × (length marks.old ≡ count) }
-    ensures { Converted (rows_in size months.now seconds.now) jd1s.now jd2s.now order.now line
+    ensures { Converted (rows_of table.now) jd1s.now jd2s.now order.now line
         count utc1.new utc2.new marks.new × PartsRoom count utc1.new utc2.new
         × PartsRoom count tai1.new tai2.new × (length marks.new ≡ count) }
 {
     gather(jd1s, order, line, count, tai1);
     gather(jd2s, order, line, count, tai2);
-    runs::convert_run_by_arrays(
+    // kept: `let _`, since a page of these lengths is never refused, and what it left is said by its clauses.
+    let _ = runs::convert_run_by_rows(
         constants::scale_numbers::TAI,
         constants::scale_numbers::UTC,
         tai1,
         tai2,
-        size,
-        months,
-        seconds,
+        table,
         utc1,
         utc2,
         marks,
@@ -249,28 +240,25 @@ fn convert_page<'a>(
 }
 
 // The texts of `count` UTC dates, with expanded years.
-fn write_texts<'a>(
+fn write_texts(
     utc1: &[u8],
     utc2: &[u8],
     count: usize,
-    size: usize,
-    months: &'a [i32; 16],
-    seconds: &'a [i32; 16],
+    table: &AnnouncedRows,
     texts: &mut [u8],
     lengths: &mut [u8],
     nones: &mut [u8],
 )
     requires { PartsRoom count utc1.now utc2.now × TextsRoom count texts.old lengths.old nones.old }
-    ensures { Texts (rows_in size months.now seconds.now) utc1.now utc2.now count texts.new
+    ensures { Texts (rows_of table.now) utc1.now utc2.now count texts.new
         lengths.new nones.new × TextsRoom count texts.new lengths.new nones.new }
 {
-    utc::run_texts::texts_of_run_by_arrays(
+    // kept: `let _`, as above.
+    let _ = utc::run_texts::texts_of_run_by_rows(
         NamedForm::Expanded,
         utc1,
         utc2,
-        size,
-        months,
-        seconds,
+        table,
         texts,
         lengths,
         nones,
@@ -281,10 +269,7 @@ fn write_texts<'a>(
 pub(crate) fn number_at(numbers: &[u8], place: usize) -> u8
     ensures { result ≡ slice_index numbers.now place }
 {
-    if place < numbers.len() {
-        return numbers[place];
-    }
-    0
+    numbers.get(place).copied().unwrap_or(0)
 }
 
 // `count` lines from `line` on, by their UTC and its texts.
@@ -314,8 +299,7 @@ fn place_lines(
 {
     let mut at = 0;
     let mut textless = 0;
-    let mut i = 0;
-    while i < count {
+    for i in 0..count {
         let place = nth_u32(order, line + i) as usize;
         let number = number_at(numbers, place);
         let tai = julian::stamp_lists::stamp_of(jd1s, jd2s, place);
@@ -338,7 +322,6 @@ fn place_lines(
         );
         at = told.next;
         textless += told.textless;
-        i += 1;
     }
     Part {
         written: at,
@@ -348,7 +331,8 @@ fn place_lines(
 }
 
 // The same, with the UTC and its texts, in areas of their size.
-fn page_in<'a>(
+// kept: no plainer: the eight areas are locals of `page_part`, and go on from here to three functions that take five, five and six of them.
+fn page_in(
     sentences: bool,
     jd1s: &[u8],
     jd2s: &[u8],
@@ -358,9 +342,7 @@ fn page_in<'a>(
     order: &[u8],
     line: usize,
     count: usize,
-    size: usize,
-    months: &'a [i32; 16],
-    seconds: &'a [i32; 16],
+    table: &AnnouncedRows,
     tai1: &mut [u8],
     tai2: &mut [u8],
     utc1: &mut [u8],
@@ -373,16 +355,14 @@ fn page_in<'a>(
 ) -> Part
     requires { (line + count < 18446744073709551616) × PartsRoom count tai1.old tai2.old × PartsRoom count utc1.old utc2.old
         × (length marks.old ≡ count) × TextsRoom count texts.old lengths.old nones.old × (count * longest_line sentences ≤ length out.old) }
-    ensures { LinesPlaced sentences (rows_in size months.now seconds.now)
+    ensures { LinesPlaced sentences (rows_of table.now)
         (stamps jd1s.now jd2s.now numbers.now first second) order.now line count out.old result
         out.new }
 {
     convert_page(
-        jd1s, jd2s, order, line, count, size, months, seconds, tai1, tai2, utc1, utc2, marks,
+        jd1s, jd2s, order, line, count, table, tai1, tai2, utc1, utc2, marks,
     );
-    write_texts(
-        utc1, utc2, count, size, months, seconds, texts, lengths, nones,
-    );
+    write_texts(utc1, utc2, count, table, texts, lengths, nones);
     place_lines(
         sentences, jd1s, jd2s, numbers, first, second, order, line, count, utc1, utc2, marks,
         texts, lengths, nones, out,
@@ -390,7 +370,7 @@ fn page_in<'a>(
 }
 
 // The same, with the areas.
-pub(crate) fn page_part<'a>(
+pub(crate) fn page_part(
     sentences: bool,
     jd1s: &[u8],
     jd2s: &[u8],
@@ -400,13 +380,11 @@ pub(crate) fn page_part<'a>(
     order: &[u8],
     line: usize,
     count: usize,
-    size: usize,
-    months: &'a [i32; 16],
-    seconds: &'a [i32; 16],
+    table: &AnnouncedRows,
     out: &mut [u8],
 ) -> Part
     requires { (count ≤ 256) × (line + 256 < 18446744073709551616) × (count * longest_line sentences ≤ length out.old) }
-    ensures { LinesPlaced sentences (rows_in size months.now seconds.now)
+    ensures { LinesPlaced sentences (rows_of table.now)
         (stamps jd1s.now jd2s.now numbers.now first second) order.now line count out.old result
         out.new }
 {
@@ -430,9 +408,7 @@ pub(crate) fn page_part<'a>(
         order,
         line,
         count,
-        size,
-        months,
-        seconds,
+        table,
         &mut tai1[..parts],
         &mut tai2[..parts],
         &mut utc1[..parts],
@@ -447,6 +423,7 @@ pub(crate) fn page_part<'a>(
 
 // The most bytes of a line. By numbers it has `utc`, a blank, ten digits of the index, a blank, the longest text, 27, and the line's end; with sentences in the
 // place of the text `refused`, a blank, a digit, a colon, a blank and the longest sentence, 57.
+#[tactic(auto, unfolding(crate::specs::lines::Parts::longest_line))]
 fn line_room(sentences: bool) -> usize
     ensures { result ≡ longest_line sentences }
 {
@@ -454,6 +431,7 @@ fn line_room(sentences: bool) -> usize
 }
 
 // How many lines go into the part from `line` on, into `room` bytes.
+#[tactic(auto, unfolding(crate::specs::lines::Parts::longest_line))]
 pub(crate) fn part_lines(sentences: bool, lines: usize, line: usize, room: usize) -> usize
     ensures { result ≡ least (least (lines - line) 256) (room / longest_line sentences) }
 {
@@ -468,34 +446,29 @@ fn places_there(order: &[u8], stamps: usize, line: usize, count: usize) -> bool
     requires { line + count < 18446744073709551616 }
     ensures { result ≡ places_there order.now stamps line count }
 {
-    let mut i = 0;
-    while i < count {
+    for i in 0..count {
         if nth_u32(order, line + i) as usize >= stamps {
             return false;
         }
-        i += 1;
     }
     true
 }
 
-// 18 where a line of the part from `line` on names a stamp that is not there, else 0.
-pub(crate) fn places_refusal(
+// Whether each line of the part from `line` on names a stamp that is there; else 18.
+pub(crate) fn judge_places(
     sentences: bool,
     stamps: usize,
     order: &[u8],
     line: usize,
     room: usize,
-) -> u32
-    ensures { result ≡ absent_refusal sentences stamps order.now line room }
+) -> Result<(), Refusal>
+    ensures { number_said result ≡ absent_refusal sentences stamps order.now line room }
 {
     let count = part_lines(sentences, order.len() / 4, line, room);
-    if count == 0 {
-        return 0;
+    if count != 0 && !places_there(order, stamps, line, count) {
+        return Err(Refusal::OutOfLimit);
     }
-    if places_there(order, stamps, line, count) {
-        return 0;
-    }
-    refusals::OUT_OF_LIMIT
+    Ok(())
 }
 
 // The lines of an order of stamps, from line `line` on, at the start of the buffer: as many whole lines as surely go into it, each given the room of the
@@ -512,35 +485,20 @@ pub fn next_part(
     line: usize,
     table: AnnouncedRows,
     out: &mut [u8],
-) -> PartAnswer
+) -> Result<Part, Refusal>
     ensures { ListedCall sentences (table_of table) (stamps jd1s.now jd2s.now numbers.now first second)
         order.now line out.old result out.new }
 {
-    let refused = leap_table::rows::table_refusal(table);
-    if refused != 0 {
-        return PartAnswer::Refused(refused);
-    }
+    leap_table::rows::judge_table(&table)?;
     let count = part_lines(sentences, order.len() / 4, line, out.len());
     if count == 0 {
-        return PartAnswer::Lines(Part {
+        return Ok(Part {
             written: 0,
             line,
             textless: 0,
         });
     }
-    PartAnswer::Lines(page_part(
-        sentences,
-        jd1s,
-        jd2s,
-        numbers,
-        first,
-        second,
-        order,
-        line,
-        count,
-        leap_table::rows::size_of(table),
-        &table.months,
-        &table.seconds,
-        out,
+    Ok(page_part(
+        sentences, jd1s, jd2s, numbers, first, second, order, line, count, &table, out,
     ))
 }

@@ -1,15 +1,17 @@
 // The whole listing in parts, from the head to the last line: a caller keeps a cursor and calls again until a part is empty.
+// kept: lists as ct_line_listing_part lends them; sizes and ends of the runs, which it lends in records, one by one, as `ListingCall` names them.
 ghost use Rattle.std.specs.Prelude.{◌≡◌, ◌+◌, ◌<◌, ◌≤◌, length, if◌then◌else◌, nat_le};
-ghost use Rattle.refusals.specs.Outcome.{answer};
-ghost use Rattle.leap_table.specs.rows.Announced.{rows_in, table_of};
+ghost use Rattle.refusals.specs.Outcome.{answer, number_said};
+ghost use Rattle.leap_table.specs.rows.Announced.{rows_of, table_of};
 ghost use Rattle.line_listing.specs.lines.StampLine.{stamps};
 ghost use Rattle.line_listing.specs.lines.Parts.{lines_of_order};
 ghost use Rattle.line_listing.specs.listing.Part.{head_step, lines_step, end_step, listing_refusal, ListingCall};
 ghost use Rattle.line_listing.specs.listing.Asked.{StepWritten};
 
 use crate::head::{RunEnd, compose, compose_end, count_of};
-use crate::lines::{Part, PartAnswer, page_part, part_lines, places_refusal};
+use crate::lines::{Part, judge_places, page_part, part_lines};
 use leap_table::rows::AnnouncedRows;
+use refusals::Refusal;
 
 // The head.
 fn head_step(
@@ -37,7 +39,7 @@ fn head_step(
 }
 
 // Lines of stamps, from line `line` of the listing on, which is one of them.
-fn lines_step<'a>(
+fn lines_step(
     sentences: bool,
     jd1s: &[u8],
     jd2s: &[u8],
@@ -47,21 +49,18 @@ fn lines_step<'a>(
     order: &[u8],
     line: usize,
     textless: usize,
-    size: usize,
-    months: &'a [i32; 16],
-    seconds: &'a [i32; 16],
+    table: &AnnouncedRows,
     out: &mut [u8],
 ) -> Part
     requires { (1 ≤ line) × (line ≤ lines_of_order order.now) }
-    ensures { StepWritten (lines_step sentences (rows_in size months.now seconds.now)
+    ensures { StepWritten (lines_step sentences (rows_of table.now)
         (stamps jd1s.now jd2s.now numbers.now first second) order.now line textless (length out.old))
         out.old result out.new }
 {
     let from = line - 1;
     let count = part_lines(sentences, order.len() / 4, from, out.len());
     let part = page_part(
-        sentences, jd1s, jd2s, numbers, first, second, order, from, count, size, months, seconds,
-        out,
+        sentences, jd1s, jd2s, numbers, first, second, order, from, count, table, out,
     );
     Part {
         written: part.written,
@@ -94,31 +93,35 @@ fn end_step(
     }
 }
 
-// 11 where the buffer has less than 550 bytes, else 0.
-fn room_refusal(room: usize) -> u32
-    ensures { result ≡ (if nat_le 550 room then 0 else 11) }
+// Whether the buffer has 550 bytes; else 11.
+#[tactic(auto, unfolding(refusals::specs::Outcome::number_said, refusals::specs::Refusal::refusal_number))]
+fn judge_room(room: usize) -> Result<(), Refusal>
+    ensures { number_said result ≡ (if nat_le 550 room then 0 else 11) }
 {
     if room < 550 {
-        return refusals::NO_ROOM;
+        return Err(Refusal::NoRoom);
     }
-    0
+    Ok(())
 }
 
-// 18 where a line of the part names a stamp that is not there, then 11, else 0.
-fn listing_refusal(sentences: bool, stamps: usize, order: &[u8], line: usize, room: usize) -> u32
-    ensures { result ≡ listing_refusal sentences stamps order.now line room }
+// Whether each line of the part names a stamp that is there, else 18; then the room, 11.
+fn judge_listing(
+    sentences: bool,
+    stamps: usize,
+    order: &[u8],
+    line: usize,
+    room: usize,
+) -> Result<(), Refusal>
+    ensures { number_said result ≡ listing_refusal sentences stamps order.now line room }
 {
-    if line == 0 {
-        return room_refusal(room);
+    if line != 0 {
+        judge_places(sentences, stamps, order, line - 1, room)?;
     }
-    if places_refusal(sentences, stamps, order, line - 1, room) != 0 {
-        return refusals::OUT_OF_LIMIT;
-    }
-    room_refusal(room)
+    judge_room(room)
 }
 
-// By the rows of a table that is tested elsewhere: a size and two arrays that are lent on.
-pub fn listing_part_by_arrays<'a>(
+// By the rows of a table that is tested elsewhere.
+pub fn listing_part_by_rows(
     sentences: bool,
     gps: RunEnd,
     tai: RunEnd,
@@ -131,35 +134,29 @@ pub fn listing_part_by_arrays<'a>(
     order: &[u8],
     line: usize,
     textless: usize,
-    size: usize,
-    months: &'a [i32; 16],
-    seconds: &'a [i32; 16],
+    table: &AnnouncedRows,
     out: &mut [u8],
-) -> PartAnswer
-    ensures { ListingCall sentences (answer (rows_in size months.now seconds.now)) gps tai utc
+) -> Result<Part, Refusal>
+    ensures { ListingCall sentences (answer (rows_of table.now)) gps tai utc
         (stamps jd1s.now jd2s.now numbers.now first second) order.now line textless out.old result
         out.new }
 {
-    let refused = listing_refusal(sentences, numbers.len(), order, line, out.len());
-    if refused != 0 {
-        return PartAnswer::Refused(refused);
-    }
+    judge_listing(sentences, numbers.len(), order, line, out.len())?;
     if line == 0 {
-        return PartAnswer::Lines(head_step(
+        return Ok(head_step(
             gps, tai, utc, jd1s, jd2s, numbers, first, second, textless, out,
         ));
     }
     let lines = order.len() / 4;
     if line <= lines {
-        return PartAnswer::Lines(lines_step(
-            sentences, jd1s, jd2s, numbers, first, second, order, line, textless, size, months,
-            seconds, out,
+        return Ok(lines_step(
+            sentences, jd1s, jd2s, numbers, first, second, order, line, textless, table, out,
         ));
     }
     if line == lines + 1 {
-        return PartAnswer::Lines(end_step(jd1s, jd2s, numbers, first, second, line, textless, out));
+        return Ok(end_step(jd1s, jd2s, numbers, first, second, line, textless, out));
     }
-    PartAnswer::Lines(Part {
+    Ok(Part {
         written: 0,
         line,
         textless,
@@ -185,30 +182,13 @@ pub fn listing_part(
     textless: usize,
     table: AnnouncedRows,
     out: &mut [u8],
-) -> PartAnswer
+) -> Result<Part, Refusal>
     ensures { ListingCall sentences (table_of table) gps tai utc (stamps jd1s.now jd2s.now numbers.now first second)
         order.now line textless out.old result out.new }
 {
-    let refused = leap_table::rows::table_refusal(table);
-    if refused != 0 {
-        return PartAnswer::Refused(refused);
-    }
-    listing_part_by_arrays(
-        sentences,
-        gps,
-        tai,
-        utc,
-        jd1s,
-        jd2s,
-        numbers,
-        first,
-        second,
-        order,
-        line,
-        textless,
-        leap_table::rows::size_of(table),
-        &table.months,
-        &table.seconds,
-        out,
+    leap_table::rows::judge_table(&table)?;
+    listing_part_by_rows(
+        sentences, gps, tai, utc, jd1s, jd2s, numbers, first, second, order, line, textless,
+        &table, out,
     )
 }

@@ -1,9 +1,12 @@
 // Every stamp's place in the listing: the ordered ones by their TAI, the others behind the last ordered one before them in their run.
+// kept: C interface: places stand in four bytes each, in the areas that ct_lines_in_order lends.
 ghost use Rattle.std.specs.Prelude.{◌≡◌, suc, ◌*◌, ◌∷◌, ◌++◌, length, take, drop};
 ghost use Rattle.line_up.specs.LineUp as U;
 ghost use Rattle.line_up.specs.keep.Cells as C;
 ghost use Rattle.line_listing.specs.order.Order as O;
 ghost use Rattle.line_listing.specs.order.Asked as N;
+
+use refusals::Refusal;
 
 // Where the run of place p ends.
 fn run_end(end1: usize, end2: usize, n: usize, p: usize) -> usize
@@ -23,15 +26,13 @@ fn put_behind(numbers: &[u8], from: usize, to: usize, out: &mut [u8], k: usize) 
     requires { N.Puttable numbers.now from to out.old k }
     ensures { N.PlacesPut out.old out.new k (O.behind numbers.now from to) result }
 {
-    let mut i = from;
     let mut at = k;
-    while i < to {
+    for i in from..to {
         if numbers[i] == 0 {
             return at;
         }
         numerals::little_endian::put_nth_u32(out, at, i as u32);
         at += 1;
-        i += 1;
     }
     at
 }
@@ -64,12 +65,10 @@ fn put_lines(numbers: &[u8], end1: usize, end2: usize, places: &[u8], many: usiz
 {
     let n = numbers.len();
     let mut k = put_starts(numbers, end1, end2, out);
-    let mut j: usize = 0;
-    while j < many {
+    for j in 0..many {
         let p = numerals::little_endian::nth_u32(places, j) as usize;
         let to = run_end(end1, end2, n, p);
         k = put_one(numbers, p, to, out, k);
-        j += 1;
     }
 }
 
@@ -78,11 +77,9 @@ fn copy_cells(from: &[u8], many: usize, to: &mut [u8])
     requires { N.Copyable from.now to.old many }
     ensures { take many (C.cells to.new) ≡ take many (C.cells from.now) }
 {
-    let mut j: usize = 0;
-    while j < many {
+    for j in 0..many {
         let p = numerals::little_endian::nth_u32(from, j);
         numerals::little_endian::put_nth_u32(to, j, p);
-        j += 1;
     }
 }
 
@@ -98,19 +95,14 @@ pub fn lines_in_order(
     order: &mut [u8],
     work1: &mut [u8],
     work2: &mut [u8],
-) -> line_up::LineUpAnswer
+) -> Result<u32, Refusal>
     ensures { U.result result numbers.new order.new ≡ O.lines_in_order jd1s.now jd2s.now numbers.old
         first second order.old (length work1.old) (length work2.old) }
 {
-    let r = line_up::line_up(jd1s, jd2s, numbers, first, second, order, work1, work2);
-    match r {
-        line_up::LineUpAnswer::Refused(number) => line_up::LineUpAnswer::Refused(number),
-        line_up::LineUpAnswer::Ordered(count) => {
-            let many = count as usize;
-            let rest = first + second;
-            copy_cells(order, many, work1);
-            put_lines(numbers, first, rest, work1, many, order);
-            line_up::LineUpAnswer::Ordered(count)
-        }
-    }
+    let count = line_up::line_up(jd1s, jd2s, numbers, first, second, order, work1, work2)?;
+    let many = count as usize;
+    let rest = first + second;
+    copy_cells(order, many, work1);
+    put_lines(numbers, first, rest, work1, many, order);
+    Ok(count)
 }

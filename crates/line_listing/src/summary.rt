@@ -1,7 +1,10 @@
 // What an analyst must see of three lined up runs: when each begins and ends, what is left out, how far the table reaches, and what to look at.
+// kept: parts and numbers in three slices, as ct_line_look and ct_line_summary lend them. Ends and counts come from C in one slice of three records, which capi
+// takes apart (`run_at`); here they stand one by one, as `look_of` and `summary_text` of the contracts name them. `known` is 0 for none and the looks are bits
+// of one number, as C has them (ct_line_look).
 ghost use Rattle.std.specs.Prelude.{◌≡◌, ◌+◌, ◌-◌, ◌<◌, ◌≤◌, ◌&&◌, ◌||◌, length, pos, if◌then◌else◌, nat_eq};
 ghost use Rattle.std.specs.Float.Ieee.{lt};
-ghost use Rattle.refusals.specs.Outcome.{answer, onward};
+ghost use Rattle.refusals.specs.Outcome.{answer, onward, outcome, seen};
 ghost use Rattle.calendar.specs.Gregorian.{gregorian_date};
 ghost use Rattle.floats.specs.Whole.{nought};
 ghost use Rattle.julian.specs.JulianDate.{rounded_sum};
@@ -9,11 +12,10 @@ ghost use Rattle.julian.specs.Calendar.{julian_to_calendar};
 ghost use Rattle.julian.specs.day_number.Answer.{day_number_and_fraction};
 ghost use Rattle.julian.specs.stamp_lists.Stamps.{stamp_of};
 ghost use Rattle.leap_table.specs.rows.Announced.{rows_of, table_of};
-ghost use Rattle.scales.specs.Scales.{utc_outcome};
 ghost use Rattle.utc_scales.specs.UtcTai.{tai_to_utc};
 ghost use Rattle.utc.specs.iso_texts.Expanded.{iso_text_expanded};
 ghost use Rattle.utc.specs.iso_texts.TextCall.{TextCall};
-ghost use Rattle.since_launch.specs.Millis.{millis_from_to, millis_outcome};
+ghost use Rattle.since_launch.specs.Millis.{millis_from_to};
 ghost use Rattle.line_listing.specs.lines.StampLine.{stamps};
 ghost use Rattle.line_listing.specs.head.Asked.{PlacedIn};
 ghost use Rattle.line_listing.specs.summary.Seen.{one_more, seen_in, ends_of};
@@ -22,15 +24,13 @@ ghost use Rattle.line_listing.specs.summary.Look as L;
 ghost use Rattle.line_listing.specs.summary.Summary as S;
 ghost use Rattle.line_listing.specs.summary.Asked.{SeenAll, RunsOf, InRuns, left_out_of, look_by, runs_by};
 
-use crate::head::{RunEnd, place_count, smaller};
+use crate::head::{LEFT_OUT, RunEnd, place_count, smaller};
 use crate::lines::number_at;
 use julian::JulianDate;
 use leap_table::rows::AnnouncedRows;
 use numerals::place::place_bytes;
-use scales::{TAI, UTC, UtcAnswer};
-use since_launch::MillisAnswer;
-use utc::iso_texts::TextByRule;
-use utc::text::TextAnswer;
+use refusals::Refusal;
+use scales::{TAI, UTC};
 
 // The day until which the fixed table is known, a Modified Julian Date, 2026-06-28: when the IERS list against which its rows were checked expires. A new row
 // of the IERS changes this number.
@@ -57,6 +57,7 @@ struct Seen {
 }
 
 // The first and the last ordered stamp of a run, where it has any.
+// kept: a flag and no `Option`, since the theorems `RunEnds` and `LaterRun` speak of the three fields.
 #[derive(Clone, Copy)]
 struct Ends {
     any: bool,
@@ -64,14 +65,8 @@ struct Ends {
     last: JulianDate,
 }
 
-// What to look at, a number of bits, or the number of the refusal.
-#[derive(Clone, Copy)]
-pub enum LookAnswer {
-    Look(u32),
-    Refused(u32),
-}
-
 // With one stamp more, whose number this is, at index i.
+#[tactic(auto, unfolding(crate::specs::summary::Seen::one_more))]
 fn seen_at(s: Seen, number: u8, wanted: u8, i: usize) -> Seen
     requires { s.many < 18446744073709551615 }
     ensures { result ≡ (if nat_eq number wanted then one_more s i else s) }
@@ -79,16 +74,9 @@ fn seen_at(s: Seen, number: u8, wanted: u8, i: usize) -> Seen
     if number != wanted {
         return s;
     }
-    if s.many == 0 {
-        return Seen {
-            many: 1,
-            first: i,
-            last: i,
-        };
-    }
     Seen {
         many: s.many + 1,
-        first: s.first,
+        first: if s.many == 0 { i } else { s.first },
         last: i,
     }
 }
@@ -103,15 +91,14 @@ fn seen_in(numbers: &[u8], wanted: u8, from: usize, n: usize) -> Seen
         first: 0,
         last: 0,
     };
-    let mut i = 0;
-    while i < n {
+    for i in 0..n {
         s = seen_at(s, number_at(numbers, from + i), wanted, i);
-        i += 1;
     }
     s
 }
 
 // The first and the last ordered of the n stamps from `from` on.
+#[tactic(auto, unfolding(crate::specs::summary::Seen::ends_of))]
 fn ends_of(jd1s: &[u8], jd2s: &[u8], numbers: &[u8], from: usize, n: usize) -> Ends
     requires { from + n < 18446744073709551616 }
     ensures { result ≡ ends_of jd1s.now jd2s.now numbers.now from n }
@@ -123,56 +110,49 @@ fn ends_of(jd1s: &[u8], jd2s: &[u8], numbers: &[u8], from: usize, n: usize) -> E
     Ends { any, first, last }
 }
 
-// a - b, and 0 where b is more.
-fn over(a: usize, b: usize) -> usize
-    ensures { result ≡ a - b }
-{
-    if a < b { 0 } else { a - b }
-}
-
 // The month in which the last row of a table begins.
+#[tactic(auto, unfolding(crate::specs::summary::Known::last_month_of))]
 fn last_month(table: AnnouncedRows) -> u32
     ensures { (result ≡ last_month_of (rows_of table)) × (result ≤ 2147483647) }
 {
-    let last = over(leap_table::offsets::walk_rows::row_count(table), 1);
+    let last = leap_table::offsets::walk_rows::row_count(table).saturating_sub(1);
     let month = leap_table::offsets::walk_rows::row_start(table, last);
     smaller(month as usize, 2147483647) as u32
 }
 
 // The first day of a month, as a Modified Julian Date.
+#[tactic(auto, unfolding(crate::specs::summary::Known::first_day_of, crate::specs::summary::Known::day_by, refusals::specs::Outcome::outcome))]
 fn first_day_of(m: u32) -> u64
     requires { m ≤ 2147483653 }
     ensures { result ≡ first_day_of m }
 {
     let year = (m / 12) as i32;
     let month = (m % 12 + 1) as i32;
-    match calendar::modified_julian_day(year, month, 1) {
-        calendar::MjdAnswer::Refused(_) => 0,
-        calendar::MjdAnswer::Mjd(n) => time_of_day::from_zero(n),
-    }
+    calendar::modified_julian_day(year, month, 1).map_or(0, time_of_day::from_zero)
 }
 
 // How many rows of a table are lent.
 fn lent_rows(table: AnnouncedRows) -> usize
     ensures { result ≡ lent_rows (rows_of table) }
 {
-    over(
-        leap_table::offsets::walk_rows::row_count(table),
+    leap_table::offsets::walk_rows::row_count(table).saturating_sub(
         leap_table::rows::FIXED_ROWS as usize,
     )
 }
 
 // The day until which a table is known by its rows.
+#[tactic(auto, unfolding(crate::specs::summary::Known::known_by_rows))]
 fn known_by_rows(table: AnnouncedRows) -> u64
     ensures { result ≡ known_by_rows (rows_of table) }
 {
     if lent_rows(table) == 0 {
         return KNOWN_UNTIL as u64;
     }
-    over(first_day_of(last_month(table) + 6) as usize, 1) as u64
+    first_day_of(last_month(table) + 6).saturating_sub(1)
 }
 
 // The same, or what the table's text told.
+#[tactic(auto, unfolding(crate::specs::summary::Known::known_until))]
 fn known_until(table: AnnouncedRows, known: u32) -> u32
     ensures { (result ≡ known_until (rows_of table) known) × (result ≤ 997599999) }
 {
@@ -182,25 +162,22 @@ fn known_until(table: AnnouncedRows, known: u32) -> u32
     smaller(known as usize, LAST_DAY) as u32
 }
 
-fn utc_of(tai: JulianDate, table: AnnouncedRows) -> UtcAnswer
-    ensures { utc_outcome result ≡ tai_to_utc (rows_of table) tai }
+fn utc_of(tai: JulianDate, table: AnnouncedRows) -> Result<UTC, Refusal>
+    ensures { seen (λ s. s.0) result ≡ tai_to_utc (rows_of table) tai }
 {
-    utc_scales::utc_tai::tai_to_utc_by_arrays(
-        TAI(tai),
-        leap_table::rows::size_of(table),
-        &table.months,
-        &table.seconds,
-    )
+    utc_scales::utc_tai::tai_to_utc_by_rows(TAI(tai), &table)
 }
 
 // Whether the UTC day of a TAI is later than a day.
+// kept: no plainer: by `map_or_else` each arm would be a closure, one with an argument that it drops.
+#[tactic(auto, unfolding(crate::specs::summary::Look::is_after, crate::specs::summary::Look::after_by, refusals::specs::Outcome::seen))]
 fn is_after(table: AnnouncedRows, day: u32, tai: JulianDate) -> bool
     requires { day ≤ 997599999 }
     ensures { result ≡ L.is_after (rows_of table) day tai }
 {
     match utc_of(tai, table) {
-        UtcAnswer::Refused(_) => is_positive(tai),
-        UtcAnswer::Date(utc) => is_later(utc.0, day),
+        Err(_) => is_positive(tai),
+        Ok(utc) => is_later(utc.0, day),
     }
 }
 
@@ -212,187 +189,132 @@ fn is_positive(tai: JulianDate) -> bool
 }
 
 // The same of a UTC.
+#[tactic(auto, unfolding(crate::specs::summary::Look::day_after, refusals::specs::Outcome::outcome))]
 fn is_later(utc: JulianDate, day: u32) -> bool
     requires { day ≤ 997599999 }
     ensures { result ≡ L.day_after day (day_number_and_fraction utc.jd1 utc.jd2) }
 {
-    match julian::day_number::day_number_and_fraction(utc.jd1, utc.jd2) {
-        julian::day_number::DayAnswer::Refused(_) => false,
-        julian::day_number::DayAnswer::Day(found) => {
-            day as u64 + MJD_0 < time_of_day::from_zero(found.day)
-        }
-    }
+    let last = day as u64 + MJD_0;
+    let number = julian::day_number::day_number_and_fraction(utc.jd1, utc.jd2);
+    number.is_ok_and(|found| last < time_of_day::from_zero(found.day))
 }
 
 // Whether the last ordered stamp of a run is.
+#[tactic(auto, unfolding(crate::specs::summary::Look::last_after))]
 fn last_after(run: Ends, table: AnnouncedRows, day: u32) -> bool
     requires { day ≤ 997599999 }
     ensures { result ≡ L.last_after (rows_of table) day run }
 {
-    if !run.any {
-        return false;
-    }
-    let last = run.last;
-    is_after(table, day, last)
+    run.any && is_after(table, day, run.last)
 }
 
+// kept: any_apart has the same shape, but asks three pairs, not three runs.
 // Whether that of one of three runs is.
+#[tactic(auto, unfolding(crate::specs::summary::Look::any_after))]
 fn any_after(gps: Ends, tai: Ends, utc: Ends, table: AnnouncedRows, day: u32) -> bool
     requires { day ≤ 997599999 }
     ensures { result ≡ L.any_after (rows_of table) day gps tai utc }
 {
-    if last_after(gps, table, day) {
-        return true;
-    }
-    if last_after(tai, table, day) {
-        return true;
-    }
-    last_after(utc, table, day)
+    last_after(gps, table, day) || last_after(tai, table, day) || last_after(utc, table, day)
 }
 
-fn distance(a: u64, b: u64) -> u64
-    ensures { result ≡ L.distance a b }
-{
-    if a < b { b - a } else { a - b }
-}
-
+#[tactic(auto, unfolding(crate::specs::summary::Look::both_near))]
 fn both_near(x: u64, y: u64, v: u64) -> bool
     ensures { result ≡ L.both_near x y v }
 {
-    if v == 0 {
-        return false;
-    }
-    if distance(x, v) > TOLERANCE {
-        return false;
-    }
-    distance(y, v) <= TOLERANCE
+    v != 0 && x.abs_diff(v) <= TOLERANCE && y.abs_diff(v) <= TOLERANCE
 }
 
+#[tactic(auto, unfolding(crate::specs::summary::Look::once_or_twice))]
 fn once_or_twice(x: u64, y: u64, d: u64) -> bool
     requires { d < 9223372036854775808 }
     ensures { result ≡ L.once_or_twice x y d }
 {
-    if both_near(x, y, d) {
-        return true;
-    }
-    both_near(x, y, 2 * d)
+    both_near(x, y, d) || both_near(x, y, 2 * d)
 }
 
 // Whether two runs that begin x and end y milliseconds apart are so by a difference of two scales, with s seconds of TAI-UTC.
+#[tactic(auto, unfolding(crate::specs::summary::Look::as_scales))]
 fn as_scales(x: u64, y: u64, s: u32) -> bool
     ensures { result ≡ L.as_scales x y s }
 {
-    if once_or_twice(x, y, 18000) {
-        return true;
-    }
-    if once_or_twice(x, y, 19000) {
-        return true;
-    }
-    if once_or_twice(x, y, 37000) {
-        return true;
-    }
-    if once_or_twice(x, y, 1000 * s as u64) {
-        return true;
-    }
-    once_or_twice(x, y, 1000 * distance(s as u64, 19))
+    once_or_twice(x, y, 18000)
+        || once_or_twice(x, y, 19000)
+        || once_or_twice(x, y, 37000)
+        || once_or_twice(x, y, 1000 * s as u64)
+        || once_or_twice(x, y, 1000 * (s as u64).abs_diff(19))
 }
 
 // TAI-UTC in whole seconds in the month of a UTC.
+#[tactic(auto, unfolding(crate::specs::summary::Look::seconds_by, refusals::specs::Outcome::outcome))]
 fn seconds_of(utc: JulianDate, table: AnnouncedRows) -> u32
     ensures { result ≡ L.seconds_by (rows_of table) (julian_to_calendar utc.jd1 utc.jd2) }
 {
-    match julian::julian_to_calendar(utc.jd1, utc.jd2) {
-        julian::CalendarAnswer::Refused(_) => 0,
-        julian::CalendarAnswer::Fields(f) => {
-            let date = f.date;
-            leap_table::offsets::whole_seconds_by_rows(date.year, date.month, table)
-        }
-    }
+    let Ok(fields) = julian::julian_to_calendar(utc.jd1, utc.jd2) else {
+        return 0;
+    };
+    let date = fields.date;
+    leap_table::offsets::whole_seconds_by_rows(date.year, date.month, &table)
 }
 
 // The same of a TAI.
+#[tactic(auto, using(refusals::proofs::Handed::handed_by), unfolding(crate::specs::summary::Look::seconds_on_day, crate::specs::summary::Look::seconds_by))]
 fn seconds_at(tai: JulianDate, table: AnnouncedRows) -> u32
     ensures { result ≡ L.seconds_on_day (rows_of table) tai }
 {
-    match utc_of(tai, table) {
-        UtcAnswer::Refused(_) => 0,
-        UtcAnswer::Date(utc) => seconds_of(utc.0, table),
-    }
+    utc_of(tai, table).map_or(0, |utc| seconds_of(utc.0, table))
 }
 
 // Whether the ends are so far apart; a refused time is none.
-fn apart_by(first: MillisAnswer, last: MillisAnswer, s: u32) -> bool
-    ensures { result ≡ L.apart_by s (millis_outcome first) (millis_outcome last) }
+#[tactic(auto, unfolding(crate::specs::summary::Look::apart_by, refusals::specs::Outcome::outcome))]
+fn apart_by(first: Result<u64, Refusal>, last: Result<u64, Refusal>, s: u32) -> bool
+    ensures { result ≡ L.apart_by s (outcome first) (outcome last) }
 {
-    match first {
-        MillisAnswer::Refused(_) => false,
-        MillisAnswer::Millis(x) => match last {
-            MillisAnswer::Refused(_) => false,
-            MillisAnswer::Millis(y) => as_scales(x, y, s),
-        },
+    match (first, last) {
+        (Ok(x), Ok(y)) => as_scales(x, y, s),
+        _ => false,
     }
 }
 
 // Whether run b begins and ends later than run a by a difference of two scales.
+#[tactic(auto, unfolding(crate::specs::summary::Look::run_later))]
 fn later(a: Ends, b: Ends, table: AnnouncedRows) -> bool
     ensures { result ≡ L.run_later (rows_of table) a b }
 {
-    if !a.any {
+    if !a.any || !b.any {
         return false;
     }
-    if !b.any {
-        return false;
-    }
-    let a_first = a.first;
-    let b_first = b.first;
-    let a_last = a.last;
-    let b_last = b.last;
-    let first = since_launch::milliseconds(a_first, b_first);
-    let last = since_launch::milliseconds(a_last, b_last);
-    apart_by(first, last, seconds_at(a_first, table))
+    let first = since_launch::milliseconds(a.first, b.first);
+    let last = since_launch::milliseconds(a.last, b.last);
+    apart_by(first, last, seconds_at(a.first, table))
 }
 
+#[tactic(auto, unfolding(crate::specs::summary::Look::runs_apart))]
 fn apart(a: Ends, b: Ends, table: AnnouncedRows) -> bool
     ensures { result ≡ L.runs_apart (rows_of table) a b }
 {
-    if later(a, b, table) {
-        return true;
-    }
-    later(b, a, table)
+    later(a, b, table) || later(b, a, table)
 }
 
+#[tactic(auto, unfolding(crate::specs::summary::Look::any_apart))]
 fn any_apart(gps: Ends, tai: Ends, utc: Ends, table: AnnouncedRows) -> bool
     ensures { result ≡ L.any_apart (rows_of table) gps tai utc }
 {
-    if apart(gps, tai, table) {
-        return true;
-    }
-    if apart(gps, utc, table) {
-        return true;
-    }
-    apart(tai, utc, table)
+    apart(gps, tai, table) || apart(gps, utc, table) || apart(tai, utc, table)
 }
 
+#[tactic(auto, unfolding(crate::specs::summary::Look::is_empty))]
 fn is_empty(run: RunEnd, n: usize) -> bool
     ensures { result ≡ L.is_empty run n }
 {
-    if run.named {
-        return n == 0;
-    }
-    false
+    run.named && n == 0
 }
 
 // Whether a named run of three of so many stamps has none.
 fn any_empty(gps: RunEnd, tai: RunEnd, utc: RunEnd, a: usize, b: usize, c: usize) -> bool
     ensures { result ≡ (L.is_empty gps a || (L.is_empty tai b || L.is_empty utc c)) }
 {
-    if is_empty(gps, a) {
-        return true;
-    }
-    if is_empty(tai, b) {
-        return true;
-    }
-    is_empty(utc, c)
+    is_empty(gps, a) || is_empty(tai, b) || is_empty(utc, c)
 }
 
 fn bit(set: bool, value: u32) -> u32
@@ -401,6 +323,7 @@ fn bit(set: bool, value: u32) -> u32
     if set { value } else { 0 }
 }
 
+#[tactic(auto, unfolding(crate::specs::summary::Look::bits))]
 fn bits(a: bool, b: bool, c: bool, d: bool) -> u32
     ensures { (result ≡ L.bits a b c d) × (result < 16) }
 {
@@ -432,7 +355,7 @@ fn runs_of(first: usize, second: usize, n: usize) -> Runs
 fn left_out(numbers: &[u8]) -> bool
     ensures { result ≡ left_out_of numbers.now }
 {
-    let s = seen_in(numbers, 17, 0, numbers.len());
+    let s = seen_in(numbers, LEFT_OUT, 0, numbers.len());
     s.many != 0
 }
 
@@ -488,16 +411,13 @@ pub fn look(
     utc: RunEnd,
     table: AnnouncedRows,
     known: u32,
-) -> LookAnswer
-    ensures { L.look_outcome result ≡ onward (table_of table) (λ rows. answer (L.look_of rows known gps tai utc
+) -> Result<u32, Refusal>
+    ensures { outcome result ≡ onward (table_of table) (λ rows. answer (L.look_of rows known gps tai utc
         (stamps jd1s.now jd2s.now numbers.now first second))) }
 {
-    let refused = leap_table::rows::table_refusal(table);
-    if refused != 0 {
-        return LookAnswer::Refused(refused);
-    }
+    leap_table::rows::judge_table(&table)?;
     let runs = runs_of(first, second, numbers.len());
-    LookAnswer::Look(look_of(jd1s, jd2s, numbers, runs, gps, tai, utc, table, known))
+    Ok(look_of(jd1s, jd2s, numbers, runs, gps, tai, utc, table, known))
 }
 
 fn place_words(words: &[u8], dst: &mut [u8], at: usize) -> usize
@@ -508,33 +428,30 @@ fn place_words(words: &[u8], dst: &mut [u8], at: usize) -> usize
 }
 
 // The text of a UTC, or that there is none.
+// kept: `match` here, in `place_date` and in `place_span`, since both arms write into `dst`.
 fn place_text(utc: JulianDate, table: AnnouncedRows, dst: &mut [u8], at: usize) -> usize
     requires { at + 27 ≤ length dst.old }
     ensures { PlacedIn dst.old at (S.text_or (iso_text_expanded (rows_of table) utc)) 27 result dst.new }
 {
-    match utc::iso_texts::to_iso8601_expanded_by_arrays(
-        UTC(utc),
-        leap_table::rows::size_of(table),
-        &table.months,
-        &table.seconds,
-        &mut dst[at..],
-    ) {
-        TextByRule::Written(n, _) => at + n,
-        TextByRule::Refused(_) => place_words(b"no text", dst, at),
+    match utc::iso_texts::to_iso8601_expanded_by_rows(UTC(utc), &table, &mut dst[at..]) {
+        Ok((n, _)) => at + n,
+        Err(_) => place_words(b"no text", dst, at),
     }
 }
 
 // The same of a TAI.
+#[tactic(auto, using(refusals::proofs::Handed::handed_by), unfolding(crate::specs::summary::Summary::date_told, crate::specs::summary::Summary::text_or))]
 fn place_date(tai: JulianDate, table: AnnouncedRows, dst: &mut [u8], at: usize) -> usize
     requires { at + 27 ≤ length dst.old }
     ensures { PlacedIn dst.old at (S.date_told (rows_of table) tai) 27 result dst.new }
 {
     match utc_of(tai, table) {
-        UtcAnswer::Refused(_) => place_words(b"no text", dst, at),
-        UtcAnswer::Date(utc) => place_text(utc.0, table, dst, at),
+        Err(_) => place_words(b"no text", dst, at),
+        Ok(utc) => place_text(utc.0, table, dst, at),
     }
 }
 
+#[tactic(auto, unfolding(crate::specs::summary::Summary::thousandths))]
 fn thousandths(n: u64) -> [u8; 6]
     ensures { result ≡ S.thousandths n }
 {
@@ -559,13 +476,14 @@ fn place_millis(m: u64, dst: &mut [u8], at: usize) -> usize
 }
 
 // The time between two TAI.
+#[tactic(auto, unfolding(crate::specs::summary::Summary::span_by, refusals::specs::Outcome::outcome))]
 fn place_span(from: JulianDate, to: JulianDate, dst: &mut [u8], at: usize) -> usize
     requires { at + 32 ≤ length dst.old }
     ensures { PlacedIn dst.old at (S.span_by (millis_from_to from to)) 32 result dst.new }
 {
     match since_launch::milliseconds(from, to) {
-        MillisAnswer::Refused(_) => place_words(b" span unknown", dst, at),
-        MillisAnswer::Millis(m) => place_millis(m, dst, at),
+        Err(_) => place_words(b" span unknown", dst, at),
+        Ok(m) => place_millis(m, dst, at),
     }
 }
 
@@ -584,6 +502,7 @@ fn place_ends(ends: Ends, table: AnnouncedRows, dst: &mut [u8], at: usize) -> us
 }
 
 // The same, or that there is none.
+#[tactic(auto, unfolding(crate::specs::summary::Summary::ordered_told))]
 fn place_ordered(ends: Ends, table: AnnouncedRows, dst: &mut [u8], at: usize) -> usize
     requires { at + 98 ≤ length dst.old }
     ensures { PlacedIn dst.old at (S.ordered_told (rows_of table) ends) 98 result dst.new }
@@ -639,11 +558,12 @@ fn place_run(
         return at;
     }
     let ends = ends_of(jd1s, jd2s, numbers, from, n);
-    let out = seen_in(numbers, 17, from, n);
+    let out = seen_in(numbers, LEFT_OUT, from, n);
     let next = place_line(name, ends, table, dst, at);
     place_out(name, out, dst, next)
 }
 
+#[tactic(auto, unfolding(crate::specs::summary::Summary::dash_two))]
 fn dash_two(n: u32) -> [u8; 3]
     ensures { result ≡ S.dash_two n }
 {
@@ -668,11 +588,12 @@ fn place_rows(count: usize, month: u32, dst: &mut [u8], at: usize) -> usize
     place_two(month % 12 + 1, dst, b)
 }
 
+#[tactic(auto, unfolding(crate::specs::summary::Summary::row_seconds))]
 fn row_seconds(table: AnnouncedRows, month: u32) -> u32
     requires { month ≤ 2147483647 }
     ensures { result ≡ S.row_seconds (rows_of table) month }
 {
-    leap_table::offsets::whole_seconds_by_rows((month / 12) as i32, month % 12 + 1, table)
+    leap_table::offsets::whole_seconds_by_rows((month / 12) as i32, month % 12 + 1, &table)
 }
 
 // The seconds of the last row, and how many rows are lent.
@@ -820,20 +741,17 @@ pub fn put_summary(
     table: AnnouncedRows,
     known: u32,
     out: &mut [u8],
-) -> TextAnswer
+) -> Result<usize, Refusal>
     ensures { TextCall (onward (table_of table) (λ rows. answer (S.summary_text rows known gps tai utc
         (stamps jd1s.now jd2s.now numbers.now first second)))) out.old result out.new }
 {
-    let refused = leap_table::rows::table_refusal(table);
-    if refused != 0 {
-        return TextAnswer::Refused(refused);
-    }
+    leap_table::rows::judge_table(&table)?;
     let mut all = [0u8; SUMMARY_BYTES];
     let n = compose(
         jd1s, jd2s, numbers, first, second, gps, tai, utc, table, known, &mut all,
     );
     if out.len() < n {
-        return TextAnswer::Refused(refusals::NO_ROOM);
+        return Err(Refusal::NoRoom);
     }
-    TextAnswer::Written(numerals::place::copy(&all[..n], out))
+    Ok(numerals::place::copy(&all[..n], out))
 }

@@ -4,10 +4,15 @@ use native.Mathlib.Omega.{arith}
 use mathlib.Core.Path.{◌≡◌, refl, sym, ap, ◌∙◌, subst}
 use mathlib.Core.List.{List, [], ◌++◌, append_assoc, append-nil}
 use lib.ListN.{length, drop, length-append, length-drop, drop_of_length-le}
-use borrow.Author.Tests.{eq-eqb, ne_eqb}
-use Rattle.line_up.specs.declared.LineUpAnswer.TheVariants as Answer
+use borrow.Author.Tests.{ne_eqb}
+use Rattle.std.proofs.lemmas.Bool.Decides.{nat_tests}
+use Rattle.std.specs.Prelude.{Result, Ok, Err, min}
+use Rattle.refusals.specs.declared.Refusal.{Refusal}
+use Rattle.refusals.specs.Refusal.{refusal_number}
+use Rattle.refusals.specs.Outcome.{outcome, refusal, number_said}
+use Rattle.refusals.proofs.Handed.{number_low}
 use Rattle.line_up.specs.Runs.{all_tested, run, numbers_after, ordered}
-use Rattle.line_up.specs.LineUp.{unordered_at, sooner_at, count_outcome, smaller, least_room, line_refusal, line_written, put_in_line, result, lined_up}
+use Rattle.line_up.specs.LineUp.{unordered_at, sooner_at, smaller, least_room, line_refusal, line_written, put_in_line, result, lined_up}
 use Rattle.line_up.proofs.Places.{after-length, ordered-length}
 use Rattle.line_up.specs.keep.Asked.{Lent}
 use Rattle.line_up.specs.keep.Piles.{run_kept}
@@ -17,22 +22,34 @@ use Rattle.line_up.specs.Asked.{Mergeable, Merged}
 use Rattle.line_up.proofs.Cases.{Fine, fine}
 use Rattle.line_up.proofs.Testing.{tested-length}
 
--- the refusal by the least of the three rooms
-pub refusal_is : (size1 size2 n a c out tails ranks work room number : ℕ) → work ≡ smaller tails ranks → room ≡ smaller out work
-    → number ≡ line_refusal size1 size2 n a c room → number ≡ line_refusal size1 size2 n a c (least_room out tails ranks)
-refusal_is size1 size2 n a c out tails ranks work room number ew er en = en ∙ ap (line_refusal size1 size2 n a c) (er ∙ ap (smaller out) ew)
+smaller_is : (a b : ℕ) → min a b ≡ smaller a b
+smaller_is a b = grind (arith, nat_tests)
+
+-- the least of the three rooms
+pub least_is : (out tails ranks work room : ℕ) → room ≡ min out work → work ≡ min tails ranks → room ≡ least_room out tails ranks
+least_is out tails ranks work room er ew = er ∙ ap (min out) ew ∙ smaller_is out (min tails ranks) ∙ ap (smaller out) (smaller_is tails ranks)
 
 -- ---- the call
 
-module _ (js ks : List ℕ) (ns : List ℕ) (a c : ℕ) (out : List ℕ) (tl rl : ℕ) (number : ℕ)
-    (en : number ≡ line_refusal (length js) (length ks) (length ns) a c (least_room (length out) tl rl)) where
-  pub line_refused : (number ≡ 0 → ⊥) → result (Answer.Refused number) ns out ≡ lined_up js ks ns a c out tl rl
-  unfolding lined_up count_outcome
-  line_refused h = rw (← en, ne_eqb number 0 h)
+module _ (js ks : List ℕ) (ns : List ℕ) (a c : ℕ) (out : List ℕ) (tl rl room : ℕ) (er : room ≡ least_room (length out) tl rl) where
+  number-is : (n : ℕ) → n ≡ line_refusal (length js) (length ks) (length ns) a c room
+      → n ≡ line_refusal (length js) (length ks) (length ns) a c (least_room (length out) tl rl)
+  number-is n e = e ∙ ap (line_refusal (length js) (length ks) (length ns) a c) er
 
-  module _ (z : number ≡ 0) where
+  pub line_refused : (r : Result ℕ Refusal) (k : Refusal) → outcome r ≡ refusal (refusal_number k)
+      → number_said {A = Unit {0}} (Err k) ≡ line_refusal (length js) (length ks) (length ns) a c room → result r ns out ≡ lined_up js ks ns a c out tl rl
+  unfolding lined_up number_said
+  line_refused r k o e =
+      let n : refusal_number k ≡ line_refusal (length js) (length ks) (length ns) a c (least_room (length out) tl rl) = number-is (refusal_number k) e in
+      rw (← n, ne_eqb (refusal_number k) 0 (λ z. omega (arith, number_low k, z)), o)
+
+  module _ (none : number_said {A = Unit {0}} (Ok tt) ≡ line_refusal (length js) (length ks) (length ns) a c room) where
+    en : 0 ≡ line_refusal (length js) (length ks) (length ns) a c (least_room (length out) tl rl)
+    unfolding number_said
+    en = number-is 0 none
+
     sizes : Fine (length ns) a c (least_room (length out) tl rl)
-    sizes = fine (length js) (length ks) (length ns) a c (least_room (length out) tl rl) (sym en ∙ z)
+    sizes = fine (length js) (length ks) (length ns) a c (least_room (length out) tl rl) (sym en)
 
     pub counts-fit : a + c ≤ length ns
     counts-fit = omega (arith, sizes.count1, sizes.count2)
@@ -125,10 +142,10 @@ module _ (js ks : List ℕ) (ns : List ℕ) (a c : ℕ) (out : List ℕ) (tl rl 
                 omega (arith, m.many, ordered-length (sooner_at js ks) N3 a (a + c) (omega arith) l, good.small, whole-3)
 
             pub line-ends : (out' : List ℕ) (r : ℕ) → Merged (sooner_at js ks) N3 a (a + c) out out' r
-                → result (Answer.Ordered r) N3 out' ≡ lined_up js ks ns a c out tl rl
-            unfolding lined_up put_in_line line_written count_outcome
+                → result (Ok r) N3 out' ≡ lined_up js ks ns a c out tl rl
+            unfolding lined_up put_in_line line_written outcome
             line-ends out' r m =
-                rw (← en, eq-eqb number 0 z, ← e0)
+                rw (← en, ← e0)
                 (rw (m.many, m.places)
                 (ap (λ (k : ℕ). line_written N3 (ordered (sooner_at js ks) N3 a (a + c) k) out) whole-3
                 ∙ ap (λ (l : List ℕ). line_written l (ordered (sooner_at js ks) l a (a + c) (length N0)) out) is-3))

@@ -1,61 +1,11 @@
--- The cases of the small functions. Assumes nothing.
-use Prim.Native.Nat.{ℕ, ◌+◌, ◌-◌, ◌/◌, ◌%◌, ◌<◌, ◌≤◌}
+-- The refusals of the sizes, case by case, and what no refusal says. Assumes nothing.
+use Prim.Native.Nat.{ℕ, ◌-◌, ◌/◌, ◌%◌, ◌<◌, ◌≤◌}
 use native.Mathlib.Omega.{arith}
-use native.Mathlib.Numerals.{add-one}
-use mathlib.Core.Path.{◌≡◌, refl, ap, ◌∙◌}
-use mathlib.Core.Bool.{Bool, true, false, cond, not, ◌&&◌}
-use mathlib.Core.List.{List}
+use mathlib.Core.Path.{◌≡◌, refl}
+use mathlib.Core.Bool.{Bool, true, false, cond, ◌&&◌}
 use lib.Dec.{eqb, leb}
-use lib.ListN.{length}
-use borrow.Author.Tests.{eq-eqb, ne_eqb, lt-ltb, le-ltb, le-leb, lt-leb, leb-true}
-use Rattle.julian.specs.declared.JulianDate.{JulianDate}
-use Rattle.julian.specs.order.Places.{has_place}
-use Rattle.line_up.specs.Runs.{accepted_in, first_or, tested, pick, cursor_after}
-use Rattle.julian.specs.stamp_lists.Stamps.{stamp_of}
-use Rattle.line_up.specs.LineUp.{unordered_at, eight_each, line_refusal}
-
-pub unordered-is : (js ks : List ℕ) (i : ℕ) (a : JulianDate) (r : Bool) → a ≡ stamp_of js ks i → r ≡ has_place a → not r ≡ unordered_at js ks i
-unfolding unordered_at
-unordered-is js ks i a r p q = rw (q, p)
-
-module _ (unordered : ℕ → Bool) (number i : ℕ) where
-  pub tested-unordered : number ≡ 0 → unordered i ≡ true → 9 ≡ tested unordered number i
-  unfolding tested
-  tested-unordered e f = rw (eq-eqb number 0 e, f)
-
-  pub tested-sound : number ≡ 0 → unordered i ≡ false → number ≡ tested unordered number i
-  unfolding tested
-  tested-sound e f = rw (eq-eqb number 0 e, f)
-
-  pub tested-refused : (number ≡ 0 → ⊥) → number ≡ tested unordered number i
-  unfolding tested
-  tested-refused h = rw (ne_eqb number 0 h)
-
-module _ (lt : ℕ → ℕ → Bool) (n x y : ℕ) where
-  pub pick-x : n ≤ y → x ≡ pick lt n x y
-  unfolding pick
-  pick-x h = rw (le-ltb y n h)
-
-  pub pick-y : y < n → n ≤ x → y ≡ pick lt n x y
-  unfolding pick
-  pick-y h k = rw (lt-ltb y n h, le-ltb x n k)
-
-  pub pick-earlier : y < n → x < n → lt y x ≡ true → y ≡ pick lt n x y
-  unfolding pick
-  pick-earlier h k e = rw (lt-ltb y n h, lt-ltb x n k, e)
-
-  pub pick_other : y < n → x < n → lt y x ≡ false → x ≡ pick lt n x y
-  unfolding pick
-  pick_other h k e = rw (lt-ltb y n h, lt-ltb x n k, e)
-
-module _ (ms : List ℕ) (to p x : ℕ) where
-  pub moved-next : (r : ℕ) → p ≡ x → r ≡ first_or (length ms) (accepted_in ms (p + 1) to) → r ≡ cursor_after ms to p x
-  unfolding cursor_after
-  moved-next r e h = rw (eq-eqb p x e) (h ∙ ap (λ (j : ℕ). first_or (length ms) (accepted_in ms j to)) (add-one p))
-
-  pub moved-stays : (p ≡ x → ⊥) → x ≡ cursor_after ms to p x
-  unfolding cursor_after
-  moved-stays h = rw (ne_eqb p x h)
+use borrow.Author.Tests.{eq-eqb, ne_eqb, le-leb, lt-leb, leb-true}
+use Rattle.line_up.specs.LineUp.{eight_each, line_refusal}
 
 -- ---- the refusals of the sizes, by the outcomes of the tests
 module _ (size1 size2 n first second room : ℕ) where

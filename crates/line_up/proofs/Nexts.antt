@@ -1,7 +1,7 @@
 -- The loop that looks for the next accepted place. Assumes nothing.
 use Prim.Native.Nat.{ℕ, suc, ◌+◌, ◌<◌, ◌≤◌}
 use native.Mathlib.Numerals.{add-one}
-use mathlib.Core.Path.{◌≡◌, refl, sym, ap, ◌∙◌}
+use mathlib.Core.Path.{◌≡◌, sym, ap, ◌∙◌}
 use mathlib.Core.List.{List, ◌∷◌}
 use lib.ListN.{length, get_or}
 use borrow.Author.Tests.{eq-eqb, ne_eqb}
@@ -11,9 +11,6 @@ use Rattle.line_up.proofs.Cursors.{accepted_in-none, accepted_in-cons}
 -- no place from `from` up to i is accepted
 pub record Looking (ms : List ℕ) (from to i : ℕ) : Type 0 where
   pub same : accepted_in ms i to ≡ accepted_in ms from to
-
-pub next-starts : (ms : List ℕ) (to from : ℕ) → Looking ms from to from
-next-starts ms to from = record { same = refl }
 
 module _ (ms : List ℕ) (from to i : ℕ) (tn : to ≤ length ms) (l : Looking ms from to i) where
   pub next-found : i < to → get_or ms i 0 ≡ 0 → i ≡ first_or (length ms) (accepted_in ms from to)

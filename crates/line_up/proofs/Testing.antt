@@ -29,9 +29,6 @@ pub record Testing (unordered : ℕ → Bool) (ns : List ℕ) (now : List ℕ) (
   pub whole : take i now ++ all_tested unordered i (drop i ns) ≡ all_tested unordered 0 ns
 
 module _ (unordered : ℕ → Bool) (ns : List ℕ) where
-  pub testing_starts : Testing unordered ns ns 0
-  testing_starts = record { len = refl; high = omega arith; rest = refl; whole = refl }
-
   module _ (now : List ℕ) (i m : ℕ) (t : Testing unordered ns now i) (h : i < length ns) (e : m ≡ tested unordered (get_or now i 0) i) where
     same_number : get_or now i 0 ≡ get_or ns i 0
     same_number =

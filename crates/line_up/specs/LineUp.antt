@@ -1,22 +1,17 @@
 -- The lining up of three runs of stamps, their parts and the places as bytes, the lowest first. This project's own, for the customer's three recorders: the
 -- stamps that nothing refused in the order of their exact sums. Refusals by document 01's numbers: 14 a broken length, 12 sizes that differ, 13 too many, 11
 -- too few places; of a stamp 9 and document 02's 17. Assumes nothing.
-use Rattle.std.specs.Prelude.{ℕ, ◌+◌, ◌-◌, ◌*◌, ◌/◌, ◌%◌, Bool, cond, ◌&&◌, List, [], ◌∷◌, ◌++◌, eqb, leb, ltb, length, drop}
-use Rattle.refusals.specs.Outcome.{Outcome, answer, refusal}
+use Rattle.std.specs.Prelude.{ℕ, ◌+◌, ◌-◌, ◌*◌, ◌/◌, ◌%◌, Bool, cond, ◌&&◌, List, [], ◌∷◌, ◌++◌, eqb, leb, ltb, length, drop, Result}
+use Rattle.refusals.specs.declared.Refusal.{Refusal}
+use Rattle.refusals.specs.Outcome.{Outcome, refusal, outcome}
 use Rattle.numerals.specs.little_endian.LittleEndian.{four_bytes}
 unfoldable pub use Rattle.line_up.specs.keep.Stamps.{unordered_at, sooner_at}
-use Rattle.line_up.specs.declared.LineUpAnswer.TheVariants as Answer
-use Rattle.line_up.specs.declared.LineUpAnswer.{LineUpAnswer}
 use Rattle.line_up.specs.Runs.{all_tested, numbers_after, ordered}
 
 -- a place in four bytes
 unfoldable pub places_bytes : List ℕ → List ℕ
 places_bytes [] = []
 places_bytes (p ∷ ps) = four_bytes p ++ places_bytes ps
-
-unfoldable pub count_outcome : LineUpAnswer → Outcome ℕ
-count_outcome (Answer.Ordered n) = answer n
-count_outcome (Answer.Refused number) = refusal number
 
 -- eight bytes for each of n stamps, where the size is a multiple of eight
 abbrev pub eight_each : ℕ → ℕ → Bool
@@ -38,8 +33,8 @@ pub record LinedUp : Type 0 where
   pub numbers : List ℕ
   pub out : List ℕ
 
-abbrev pub result : LineUpAnswer → List ℕ → List ℕ → LinedUp
-result r numbers out = record { answer = count_outcome r; numbers = numbers; out = out }
+abbrev pub result : Result ℕ Refusal → List ℕ → List ℕ → LinedUp
+result r numbers out = record { answer = outcome r; numbers = numbers; out = out }
 
 -- the ordered places at the start of `out`, whose rest stays
 unfoldable pub line_written : List ℕ → List ℕ → List ℕ → LinedUp

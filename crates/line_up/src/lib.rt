@@ -1,28 +1,25 @@
 // The stamps of up to three recorders, in TAI, in one order by their exact sums. The parts of the stamps and the places are bytes, the lowest first.
 #![tactic(auto)]
 
-ghost use Rattle.std.specs.Prelude.{◌≡◌, length, ◌≤◌, ◌<◌, ◌+◌};
+ghost use Rattle.std.specs.Prelude.{◌≡◌, length, ◌≤◌, ◌<◌};
+ghost use Rattle.refusals.specs.Outcome.{number_said};
 ghost use Rattle.line_up.specs.Runs as R;
 ghost use Rattle.line_up.specs.LineUp as U;
 ghost use Rattle.line_up.specs.Asked as N;
 
+use refusals::Refusal;
+
 pub mod keep;
 
-// How many stamps are ordered, or the number of the refusal.
-#[derive(Clone, Copy)]
-pub enum LineUpAnswer {
-    Ordered(u32),
-    Refused(u32),
-}
+const PART_NOT_FINITE: u8 = Refusal::PartNotFinite as u8;
 
 // The number of the stamp at place i: 9 where it comes in with 0 and has no place in the order, as a NaN has none.
+#[tactic(auto, unfolding(crate::specs::Runs::tested, crate::specs::keep::Stamps::unordered_at))]
 fn tested(jd1s: &[u8], jd2s: &[u8], number: u8, i: usize) -> u8
     ensures { result ≡ R.tested (U.unordered_at jd1s.now jd2s.now) number i }
 {
-    if number == 0 {
-        if !julian::order::has_place(julian::stamp_lists::stamp_of(jd1s, jd2s, i)) {
-            return 9;
-        }
+    if number == 0 && !julian::order::has_place(julian::stamp_lists::stamp_of(jd1s, jd2s, i)) {
+        return PART_NOT_FINITE;
     }
     number
 }
@@ -31,31 +28,28 @@ fn tested(jd1s: &[u8], jd2s: &[u8], number: u8, i: usize) -> u8
 fn refuse_unordered(jd1s: &[u8], jd2s: &[u8], numbers: &mut [u8])
     ensures { numbers.new ≡ R.all_tested (U.unordered_at jd1s.now jd2s.now) 0 numbers.old }
 {
-    let n = numbers.len();
-    let mut i = 0;
-    while i < n {
-        let m = tested(jd1s, jd2s, numbers[i], i);
-        numbers[i] = m;
-        i += 1;
+    for (i, number) in numbers.iter_mut().enumerate() {
+        *number = tested(jd1s, jd2s, *number, i);
     }
 }
 
 // The first accepted place from `from` up to `to`, or the length.
+// kept: the length for no place, here and in `pick`, and no `Option`: the definitions `first_or` and `pick` have it so.
+// kept: no `position` in `numbers[from..to]`: `advance` asks from p + 1 on, and nothing promises there that this is not behind `to`.
 fn next_accepted(numbers: &[u8], from: usize, to: usize) -> usize
     requires { to ≤ length numbers.now }
     ensures { result ≡ R.first_or (length numbers.now) (R.accepted_in numbers.now from to) }
 {
-    let mut i = from;
-    while i < to {
+    for i in from..to {
         if numbers[i] == 0 {
             return i;
         }
-        i += 1;
     }
     numbers.len()
 }
 
 // The cursor x of a run that ends at `to`, after place p went into the order.
+#[tactic(auto, unfolding(crate::specs::Runs::cursor_after))]
 fn advance(numbers: &[u8], to: usize, p: usize, x: usize) -> usize
     requires to_in_bounds { to ≤ length numbers.now }
     requires p_in_bounds { p < length numbers.now }
@@ -68,6 +62,7 @@ fn advance(numbers: &[u8], to: usize, p: usize, x: usize) -> usize
 }
 
 // Of two places the one that goes first; n is no place.
+#[tactic(auto, unfolding(crate::specs::Runs::pick))]
 fn pick(jd1s: &[u8], jd2s: &[u8], n: usize, x: usize, y: usize) -> usize
     ensures { result ≡ R.pick (U.sooner_at jd1s.now jd2s.now) n x y }
 {
@@ -108,6 +103,7 @@ fn merge(
     let mut z = next_accepted(numbers, end2, n);
     let mut p = pick_of_three(jd1s, jd2s, n, x, y, z);
     let mut k: usize = 0;
+    // kept: a `while`, since no number of turns is known before; k is the answer.
     while p < n {
         numerals::little_endian::put_nth_u32(out, k, p as u32);
         k += 1;
@@ -119,23 +115,8 @@ fn merge(
     k
 }
 
-// Whether a slice of so many bytes has eight for each of n stamps.
-fn eight_each(size: usize, n: usize) -> bool
-    ensures { result ≡ U.eight_each size n }
-{
-    size / 8 == n
-}
-
-fn smaller(a: usize, b: usize) -> usize
-    ensures { result ≡ U.smaller a b }
-{
-    if a < b {
-        return a;
-    }
-    b
-}
-
-// The refusal of the sizes, or 0.
+// Refuses by the sizes.
+#[tactic(auto, unfolding(refusals::specs::Outcome::number_said, refusals::specs::Refusal::refusal_number, crate::specs::LineUp::line_refusal))]
 fn line_refusal(
     size1: usize,
     size2: usize,
@@ -143,34 +124,25 @@ fn line_refusal(
     first: usize,
     second: usize,
     room: usize,
-) -> u32
-    ensures { result ≡ U.line_refusal size1 size2 n first second room }
+) -> Result<(), Refusal>
+    ensures { number_said result ≡ U.line_refusal size1 size2 n first second room }
 {
-    if size1 % 8 != 0 {
-        return refusals::LENGTH_WRONG;
+    if size1 % 8 != 0 || size2 % 8 != 0 {
+        return Err(Refusal::LengthWrong);
     }
-    if size2 % 8 != 0 {
-        return refusals::LENGTH_WRONG;
+    if size1 / 8 != n || size2 / 8 != n {
+        return Err(Refusal::SizesDiffer);
     }
-    if !eight_each(size1, n) {
-        return refusals::SIZES_DIFFER;
-    }
-    if !eight_each(size2, n) {
-        return refusals::SIZES_DIFFER;
-    }
-    if first > n {
-        return refusals::LENGTH_WRONG;
-    }
-    if second > n - first {
-        return refusals::LENGTH_WRONG;
+    if first > n || second > n - first {
+        return Err(Refusal::LengthWrong);
     }
     if n > 4294967295 {
-        return refusals::TOO_MANY_STAMPS;
+        return Err(Refusal::TooManyStamps);
     }
     if room / 4 < n {
-        return refusals::NO_ROOM;
+        return Err(Refusal::NoRoom);
     }
-    0
+    Ok(())
 }
 
 // The places of the accepted stamps (number 0) in the order of their exact sums, four bytes each in `out`; ties by run and then by place. The runs stand one
@@ -187,22 +159,18 @@ pub fn line_up(
     out: &mut [u8],
     tails: &mut [u8],
     ranks: &mut [u8],
-) -> LineUpAnswer
+) -> Result<u32, Refusal>
     ensures { U.result result numbers.new out.new ≡ U.lined_up jd1s.now jd2s.now numbers.old first
         second out.old (length tails.old) (length ranks.old) }
 {
     let n = numbers.len();
-    let work = smaller(tails.len(), ranks.len());
-    let room = smaller(out.len(), work);
-    let number = line_refusal(jd1s.len(), jd2s.len(), n, first, second, room);
-    if number != 0 {
-        return LineUpAnswer::Refused(number);
-    }
+    let room = out.len().min(tails.len().min(ranks.len()));
+    line_refusal(jd1s.len(), jd2s.len(), n, first, second, room)?;
     let rest = first + second;
     refuse_unordered(jd1s, jd2s, numbers);
     crate::keep::keep_most(jd1s, jd2s, numbers, 0, first, tails, ranks);
     crate::keep::keep_most(jd1s, jd2s, numbers, first, rest, tails, ranks);
     crate::keep::keep_most(jd1s, jd2s, numbers, rest, n, tails, ranks);
     let many = merge(jd1s, jd2s, numbers, first, rest, out) as u32;
-    LineUpAnswer::Ordered(many)
+    Ok(many)
 }

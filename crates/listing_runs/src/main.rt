@@ -7,6 +7,7 @@ ghost use Rattle.std.specs.Prelude.{◌≡◌, length};
 // One byte more than the longest block, 8 + 16 * 4000 bytes, so that a block that is too long can be given too.
 const BLOCK_SPACE: usize = 64009;
 
+// kept: beside block_io's, as `list` beside its `write_listing`: this program has a loop of its own, so that the gate compares the two (decision 86).
 fn block_space() -> [u8; BLOCK_SPACE]
     ensures { 64009 ≡ length result }
 {
@@ -14,6 +15,7 @@ fn block_space() -> [u8; BLOCK_SPACE]
 }
 
 // The loop of the program utc_listing. The answer is whether the output took the whole listing.
+// kept: `loop`, since each part says where the next begins, and no number of parts is known before.
 fn list(block: &[u8]) -> bool {
     let mut scratch = io::buffer();
     let table = leap_table::rows::no_rows();
@@ -23,7 +25,7 @@ fn list(block: &[u8]) -> bool {
             stamps::Reporting::Numbers,
             block,
             line,
-            table,
+            &table,
             &mut scratch,
         );
         let written = part.written;

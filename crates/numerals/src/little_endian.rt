@@ -1,24 +1,9 @@
 // Numbers of four and eight bytes, the lowest byte first.
-ghost use Rattle.std.specs.Prelude.{◌≡◌, ◌+◌, ◌*◌, ◌≤◌, ◌<◌, length};
-ghost use Rattle.numerals.specs.little_endian.LittleEndian.{four_at, u32_at, u64_at, eight_bytes, with_u64, with_u32, with_nth32, with_nth64, pattern_of};
-ghost use Rattle.numerals.specs.little_endian.LittleEndian.{signed_of, signed32, i32_at};
-
-fn wide(x: u8) -> u64
-    ensures { (result ≡ x) × (result < 256) }
-{
-    x as u64
-}
-
-fn four_at(s: &[u8], at: usize) -> u64
-    requires { at + 4 ≤ length s.now }
-    ensures { (result ≡ four_at s.now at) × (result < 4294967296) }
-{
-    let a = wide(s[at]);
-    let b = wide(s[at + 1]);
-    let c = wide(s[at + 2]);
-    let d = wide(s[at + 3]);
-    a + 256 * b + 65536 * c + 16777216 * d
-}
+// kept: most of these stand twice, for numbers of four bytes and of eight, since callers name each and cite its own definition. One function over a trait
+// would leave them as its instances, and add the trait, its laws and two impls, for bodies of one to three statements.
+ghost use Rattle.std.specs.Prelude.{◌≡◌, ◌*◌};
+ghost use Rattle.numerals.specs.little_endian.LittleEndian.{u32_at, u64_at, eight_bytes, with_u64, with_u32, with_nth32, with_nth64, pattern_of, signed_of};
+ghost use Rattle.numerals.specs.little_endian.LittleEndian.{signed32, i32_at};
 
 // The number in the four bytes from `at` on; 0 where they are not all there.
 pub fn u32_at(s: &[u8], at: usize) -> u32
@@ -30,7 +15,7 @@ pub fn u32_at(s: &[u8], at: usize) -> u32
     if s.len() - 4 < at {
         return 0;
     }
-    four_at(s, at) as u32
+    u32::from_le_bytes([s[at], s[at + 1], s[at + 2], s[at + 3]])
 }
 
 // The number in the eight bytes from `at` on; 0 where they are not all there.
@@ -43,54 +28,45 @@ pub fn u64_at(s: &[u8], at: usize) -> u64
     if s.len() - 8 < at {
         return 0;
     }
-    four_at(s, at) + 4294967296 * four_at(s, at + 4)
+    u64::from_le_bytes([
+        s[at],
+        s[at + 1],
+        s[at + 2],
+        s[at + 3],
+        s[at + 4],
+        s[at + 5],
+        s[at + 6],
+        s[at + 7],
+    ])
 }
 
 // The eight bytes of a number.
 pub fn bytes_of_u64(n: u64) -> [u8; 8]
     ensures { result ≡ eight_bytes n }
 {
-    [
-        (n % 256) as u8,
-        (n / 0x100 % 256) as u8,
-        (n / 0x1_0000 % 256) as u8,
-        (n / 0x100_0000 % 256) as u8,
-        (n / 0x1_0000_0000 % 256) as u8,
-        (n / 0x100_0000_0000 % 256) as u8,
-        (n / 0x1_0000_0000_0000 % 256) as u8,
-        (n / 0x100_0000_0000_0000 % 256) as u8,
-    ]
+    n.to_le_bytes()
 }
 
 // The eight bytes of a number at the start of a lent slice; where they do not all fit, nothing is written. On a part of eight bytes the test costs nothing.
+#[tactic(auto, using(crate::proofs::little_endian::Puts::too_few, crate::proofs::little_endian::Puts::put_at_start))]
 pub fn put_u64(out: &mut [u8], n: u64)
     ensures { out.new ≡ with_u64 out.old n }
 {
     if out.len() < 8 {
         return;
     }
-    let b = bytes_of_u64(n);
-    out[0] = b[0];
-    out[1] = b[1];
-    out[2] = b[2];
-    out[3] = b[3];
-    out[4] = b[4];
-    out[5] = b[5];
-    out[6] = b[6];
-    out[7] = b[7];
+    out[..8].copy_from_slice(&n.to_le_bytes());
 }
 
 // The four bytes of a number at the start of a lent slice; where they do not all fit, nothing is written.
+#[tactic(auto, using(crate::proofs::little_endian::Puts::too_few_4, crate::proofs::little_endian::Puts::put_4_at_start))]
 pub fn put_u32(out: &mut [u8], n: u32)
     ensures { out.new ≡ with_u32 out.old n }
 {
     if out.len() < 4 {
         return;
     }
-    out[0] = (n % 256) as u8;
-    out[1] = (n / 0x100 % 256) as u8;
-    out[2] = (n / 0x1_0000 % 256) as u8;
-    out[3] = (n / 0x100_0000 % 256) as u8;
+    out[..4].copy_from_slice(&n.to_le_bytes());
 }
 
 // Number i of a list of numbers of eight bytes; 0 where the list does not have it. Read from a part of eight bytes, it needs no further test.
@@ -142,33 +118,29 @@ pub fn put_nth_u32(out: &mut [u8], i: usize, n: u32)
 }
 
 // The pattern of a signed number in two's complement.
+// kept: this and the next two by name, public functions whose promises are the definitions that other crates cite: std's casts promise it in other words, and
+// each caller would prove again that they mean the same.
+#[tactic(auto, using(crate::proofs::little_endian::Signed::of_number))]
 pub fn pattern_of_i64(n: i64) -> u64
     ensures { result ≡ pattern_of n }
 {
-    if n < 0 {
-        return 0xffff_ffff_ffff_ffff - (-1 - n) as u64;
-    }
-    n as u64
+    n.cast_unsigned()
 }
 
 // The signed number of a pattern in two's complement.
+#[tactic(auto, using(crate::proofs::little_endian::Signed::of_pattern))]
 pub fn i64_of_pattern(n: u64) -> i64
     ensures { result ≡ signed_of n }
 {
-    if n < 0x8000_0000_0000_0000 {
-        return n as i64;
-    }
-    -1 - (0xffff_ffff_ffff_ffff - n) as i64
+    n.cast_signed()
 }
 
 // The same with 32 bits.
+#[tactic(auto, using(crate::proofs::little_endian::Signed32::of_pattern_32))]
 pub fn i32_of_pattern(n: u32) -> i32
     ensures { result ≡ signed32 n }
 {
-    if n < 0x8000_0000 {
-        return n as i32;
-    }
-    -1 - (0xffff_ffff - n) as i32
+    n.cast_signed()
 }
 
 // The signed number in the four bytes from `at` on; 0 where they are not all there.

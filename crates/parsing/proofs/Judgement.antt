@@ -9,7 +9,7 @@ use mathlib.Core.Bool.{Bool, true, false, cond}
 use lib.ListN.{length, drop}
 use lib.Dec.{leb, ltb, eqb}
 use lib.IntN.{pos}
-use borrow.Author.Tests.{leb-true, leb-false, le-leb, lt-leb, lt-ltb, le-ltb}
+use borrow.Author.Tests.{leb-true, leb-false, le-leb, lt-ltb, le-ltb}
 use Rattle.refusals.specs.Outcome.{Outcome, answer, refusal, onward}
 use Rattle.constants.specs.Constants.{decimal}
 use Rattle.calendar.specs.Refusals.{valid_date}
@@ -23,6 +23,7 @@ use Rattle.parsing.specs.scan.Scan.{joined, kept_from, kept, form_at, scan_of}
 use Rattle.parsing.specs.Judging.{quotient, time_in, fields_by, judged_form}
 use Rattle.parsing.proofs.scan.Runs.{worth-of, worth-most, kept-all-small}
 use Rattle.parsing.proofs.Seconds.{one-division}
+use borrow.Author.Tests.{lt-leb}
 
 -- ---- digits
 pub leading-digits : (s : List ℕ) → AllDigits (leading s)
@@ -80,27 +81,9 @@ below-61 second ds h = either (leb second 60) refl
         over : 60 < second → value second ds ≡ second * P + number ds → 61 * P ≤ value second ds
         over k v = let g : 61 * P ≤ second * P = mul-le-mul_right P k in omega arith
 
--- ---- the hour, the minute and the second of a form
+-- ---- what the judgement answers
 module _ (f : Form) where
-  pub hour_over : 23 < f.hour → false ≡ time_in f
-  hour_over h = rw (lt-leb f.hour 23 h)
-
-  pub minute_over : f.hour ≤ 23 → 59 < f.minute → false ≡ time_in f
-  minute_over h m = rw (le-leb f.hour 23 h, lt-leb f.minute 59 m)
-
-  pub time-open : f.hour ≤ 23 → f.minute ≤ 59 → leb f.second 60 ≡ time_in f
-  time-open h m = rw (le-leb f.hour 23 h, le-leb f.minute 59 m)
-
-  -- ---- what the judgement answers
-  pub too_many_digits : 13 < f.places → refusal 16 ≡ judged_form f
-  unfolding judged_form
-  too_many_digits h = rw (lt-leb f.places 13 h)
-
   module _ (few : f.places ≤ 13) where
-    pub date_refused : (k : ℕ) → valid_date (pos f.year) (pos f.month) (pos f.day) ≡ refusal k → refusal k ≡ judged_form f
-    unfolding judged_form onward
-    date_refused k e = rw (le-leb f.places 13 few, e)
-
     pub time-refused : valid_date (pos f.year) (pos f.month) (pos f.day) ≡ answer tt → time_in f ≡ false → refusal 4 ≡ judged_form f
     unfolding judged_form onward
     time-refused e t = rw (le-leb f.places 13 few, e, t)
@@ -158,3 +141,22 @@ parsed-is utc t = either (right_form utc (after_blanks t))
         (cond b (answer (form_at (after_blanks t))) (refusal 15)) judged_form
     either true = judged-alike utc (after_blanks t)
     either false = refl
+
+-- ---- the hour, the minute and the second of a form, and what the judgement answers of too many digits and of no date
+module _ (f : Form) where
+  pub hour_over : 23 < f.hour → false ≡ time_in f
+  hour_over h = rw (lt-leb f.hour 23 h)
+
+  pub minute_over : f.hour ≤ 23 → 59 < f.minute → false ≡ time_in f
+  minute_over h m = rw (le-leb f.hour 23 h, lt-leb f.minute 59 m)
+
+  pub time-open : f.hour ≤ 23 → f.minute ≤ 59 → leb f.second 60 ≡ time_in f
+  time-open h m = rw (le-leb f.hour 23 h, le-leb f.minute 59 m)
+
+  pub too_many_digits : 13 < f.places → refusal 16 ≡ judged_form f
+  unfolding judged_form
+  too_many_digits h = rw (lt-leb f.places 13 h)
+
+  pub date_refused : f.places ≤ 13 → (k : ℕ) → valid_date (pos f.year) (pos f.month) (pos f.day) ≡ refusal k → refusal k ≡ judged_form f
+  unfolding judged_form onward
+  date_refused few k e = rw (le-leb f.places 13 few, e)

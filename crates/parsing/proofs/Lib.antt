@@ -3,3 +3,5 @@ pub mod Seconds
 pub mod Judgement
 -- Cases: closed cases of the reader.
 pub mod Cases
+-- Found: the sets for the check.
+pub mod Found

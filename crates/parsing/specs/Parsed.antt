@@ -11,21 +11,8 @@ use Rattle.leap_table.specs.rows.Table.{Row}
 use Rattle.utc.specs.FromCalendar.{utc_from_calendar}
 use Rattle.parsing.specs.declared.ParsedDateTime.{ParsedDateTime}
 use Rattle.parsing.specs.declared.ParsedUtc.{ParsedUtc}
-use Rattle.parsing.specs.declared.ParsedAnswer.{ParsedAnswer}
-use Rattle.parsing.specs.declared.ParsedAnswer.TheVariants as Plain
-use Rattle.parsing.specs.declared.ParsedUtcAnswer.{ParsedUtcAnswer}
-use Rattle.parsing.specs.declared.ParsedUtcAnswer.TheVariants as Utc
 use Rattle.parsing.specs.scan.Written.{Written}
 use Rattle.parsing.specs.scan.Form.{form_of}
-
--- document 01's answer for each enum: the fields, or a refusal number
-unfoldable pub parsed_outcome : ParsedAnswer → Outcome ParsedDateTime
-parsed_outcome (Plain.Fields f) = answer f
-parsed_outcome (Plain.Refused n) = refusal n
-
-unfoldable pub parsed_utc_outcome : ParsedUtcAnswer → Outcome ParsedUtc
-parsed_utc_outcome (Utc.Read r) = answer r
-parsed_utc_outcome (Utc.Refused n) = refusal n
 
 -- the fields of what was written; the second is the float nearest to the decimal
 abbrev pub fields_of : Written → ParsedDateTime

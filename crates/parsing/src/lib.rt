@@ -3,17 +3,16 @@
 #![tactic(auto)]
 
 ghost use Rattle.std.specs.Prelude.{◌≡◌, true, false, ◌≤◌};
-ghost use Rattle.julian.specs.JulianDate.{julian_outcome};
-ghost use Rattle.refusals.specs.Outcome.{onward};
-ghost use Rattle.leap_table.specs.rows.Announced.{rows_in, table_of};
-ghost use Rattle.parsing.specs.Parsed.{parsed_outcome, parsed_utc_outcome, parsed, to_julian_date, dated as dated·of, parsed_utc};
+ghost use Rattle.refusals.specs.Outcome.{onward, outcome};
+ghost use Rattle.leap_table.specs.rows.Announced.{rows_of, table_of};
+ghost use Rattle.parsing.specs.Parsed.{parsed, to_julian_date, dated as dated·of, parsed_utc};
 ghost use Rattle.parsing.specs.Judging.{time_in, quotient, judged_form};
 
-use crate::scan::{Form, Scanned};
-use calendar::DateCheck;
-use julian::{JulianAnswer, JulianDate};
+use crate::scan::Form;
+use julian::JulianDate;
 use leap_table::rows::AnnouncedRows;
-use scales::{UTC, UtcAnswer};
+use refusals::Refusal;
+use scales::UTC;
 
 pub mod run_dates;
 pub mod scan;
@@ -29,24 +28,11 @@ pub struct ParsedDateTime {
     pub second: f64,
 }
 
-// The fields, or the number of the refusal.
-#[derive(Clone, Copy)]
-pub enum ParsedAnswer {
-    Fields(ParsedDateTime),
-    Refused(u32),
-}
-
 // The fields of a UTC text, and the date that they name.
 #[derive(Clone, Copy)]
 pub struct ParsedUtc {
     pub fields: ParsedDateTime,
     pub date: UTC,
-}
-
-#[derive(Clone, Copy)]
-pub enum ParsedUtcAnswer {
-    Read(ParsedUtc),
-    Refused(u32),
 }
 
 // 1 to 10^13: each is a float.
@@ -79,118 +65,88 @@ fn second_of(whole: u64, places: usize) -> f64
 fn time_in(form: Form) -> bool
     ensures { result ≡ time_in form }
 {
-    if form.hour > 23 {
-        return false;
-    }
-    if form.minute > 59 {
-        return false;
-    }
-    form.second <= 60
+    form.hour <= 23 && form.minute <= 59 && form.second <= 60
 }
 
 // Refusals in order: 16 the digits of the fraction, 2 and 3 the date, 4 the time.
-fn judged(form: Form) -> ParsedAnswer
+#[tactic(auto, using(refusals::proofs::Handed::handed_by), unfolding(crate::specs::Judging::judged_form, refusals::specs::Refusal::refusal_number))]
+fn judged(form: Form) -> Result<ParsedDateTime, Refusal>
     requires { form.whole ≤ 1000000000000000 }
-    ensures { parsed_outcome result ≡ judged_form form }
+    ensures { outcome result ≡ judged_form form }
 {
     if form.places > 13 {
-        return ParsedAnswer::Refused(refusals::TOO_MANY_FRACTION_DIGITS);
+        return Err(Refusal::TooManyFractionDigits);
     }
-    match calendar::validate_calendar_date(form.year as i32, form.month as i32, form.day as i32) {
-        DateCheck::Refused(number) => ParsedAnswer::Refused(number),
-        DateCheck::Valid => {
-            if !time_in(form) {
-                return ParsedAnswer::Refused(refusals::TIME_NOT_IN_DAY);
-            }
-            ParsedAnswer::Fields(ParsedDateTime {
-                year: form.year as i32,
-                month: form.month,
-                day: form.day,
-                hour: form.hour,
-                minute: form.minute,
-                second: second_of(form.whole, form.places),
-            })
-        }
+    calendar::validate_calendar_date(form.year as i32, form.month as i32, form.day as i32)?;
+    if !time_in(form) {
+        return Err(Refusal::TimeNotInDay);
     }
+    Ok(ParsedDateTime {
+        year: form.year as i32,
+        month: form.month,
+        day: form.day,
+        hour: form.hour,
+        minute: form.minute,
+        second: second_of(form.whole, form.places),
+    })
 }
 
-fn parse(text: &[u8], utc: bool) -> ParsedAnswer
-    ensures { parsed_outcome result ≡ parsed utc text.now }
+#[tactic(auto, using(crate::proofs::Found::texts))]
+fn parse(text: &[u8], utc: bool) -> Result<ParsedDateTime, Refusal>
+    ensures { outcome result ≡ parsed utc text.now }
 {
-    match crate::scan::scan(text, utc) {
-        Scanned::Outside => ParsedAnswer::Refused(refusals::TEXT_OUTSIDE_GRAMMAR),
-        Scanned::Within(form) => judged(form),
-    }
+    judged(crate::scan::scan(text, utc)?)
 }
 
 // The fields of a text of any scale but UTC: a Z is outside the grammar. Refusals in order: 15 the text, 16 its fraction, 2 the month, 3 the day, 4 the time.
-pub fn parse_iso8601(text: &[u8]) -> ParsedAnswer
-    ensures { parsed_outcome result ≡ parsed false text.now }
+pub fn parse_iso8601(text: &[u8]) -> Result<ParsedDateTime, Refusal>
+    ensures { outcome result ≡ parsed false text.now }
 {
     parse(text, false)
 }
 
 // The fields of a UTC text and the date that they name, by rows that are tested elsewhere. Refusals in order: 15 the text, 16 its fraction, 2 the month, 3 the
 // day, 4 the time, which goes by the length of the day's last minute.
-pub fn from_str_by_arrays<'a>(
-    text: &[u8],
-    size: usize,
-    months: &'a [i32; 16],
-    seconds: &'a [i32; 16],
-) -> ParsedUtcAnswer
-    ensures { parsed_utc_outcome result ≡ parsed_utc (rows_in size months.now seconds.now) text.now }
+#[tactic(auto, using(refusals::proofs::Handed::handed_by), unfolding(crate::specs::Parsed::parsed_utc))]
+pub fn from_str_by_rows(text: &[u8], table: &AnnouncedRows) -> Result<ParsedUtc, Refusal>
+    ensures { outcome result ≡ parsed_utc (rows_of table.now) text.now }
 {
-    match parse(text, true) {
-        ParsedAnswer::Refused(number) => ParsedUtcAnswer::Refused(number),
-        ParsedAnswer::Fields(fields) => dated(fields, size, months, seconds),
-    }
+    let fields = parse(text, true)?;
+    dated(fields, table)
 }
 
+// kept: the test of the table and the call by its rows, as every call by a table has them: two steps, which are functions already.
 // The fields of a UTC text and the date that they name. Refusals in order: 20 to 22 the table, 15 the text, 16 its fraction, 2 the month, 3 the day, 4 the
 // time, which goes by the length of the day's last minute.
-pub fn from_str(text: &[u8], table: AnnouncedRows) -> ParsedUtcAnswer
-    ensures { parsed_utc_outcome result ≡ onward (table_of table) (λ rows. parsed_utc rows text.now) }
+#[tactic(auto, using(crate::proofs::Found::tables))]
+pub fn from_str(text: &[u8], table: AnnouncedRows) -> Result<ParsedUtc, Refusal>
+    ensures { outcome result ≡ onward (table_of table) (λ rows. parsed_utc rows text.now) }
 {
-    let number = leap_table::rows::table_refusal(table);
-    if number != 0 {
-        return ParsedUtcAnswer::Refused(number);
-    }
-    from_str_by_arrays(
-        text,
-        leap_table::rows::size_of(table),
-        &table.months,
-        &table.seconds,
-    )
+    leap_table::rows::judge_table(&table)?;
+    from_str_by_rows(text, &table)
 }
 
-fn dated<'a>(
-    fields: ParsedDateTime,
-    size: usize,
-    months: &'a [i32; 16],
-    seconds: &'a [i32; 16],
-) -> ParsedUtcAnswer
-    ensures { parsed_utc_outcome result ≡ dated·of (rows_in size months.now seconds.now) fields }
+#[tactic(auto, using(refusals::proofs::Handed::handed_by), unfolding(crate::specs::Parsed::dated))]
+fn dated(fields: ParsedDateTime, table: &AnnouncedRows) -> Result<ParsedUtc, Refusal>
+    ensures { outcome result ≡ dated·of (rows_of table.now) fields }
 {
-    match utc::utc_from_calendar_by_arrays(
+    let date = utc::utc_from_calendar_by_rows(
         fields.year,
         fields.month,
         fields.day,
         fields.hour,
         fields.minute,
         fields.second,
-        size,
-        months,
-        seconds,
-    ) {
-        UtcAnswer::Refused(number) => ParsedUtcAnswer::Refused(number),
-        UtcAnswer::Date(date) => ParsedUtcAnswer::Read(ParsedUtc { fields, date }),
-    }
+        table,
+    )?;
+    Ok(ParsedUtc { fields, date })
 }
 
 impl ParsedDateTime {
     // The date of the fields by `from_calendar`, for a scale whose minutes all have 60 seconds: second 60 is 4.
-    pub fn to_julian_date(self) -> JulianAnswer
-        ensures { julian_outcome result ≡ to_julian_date self }
+    #[tactic(auto, unfolding(crate::specs::Parsed::to_julian_date))]
+    pub fn to_julian_date(self) -> Result<JulianDate, Refusal>
+        ensures { outcome result ≡ to_julian_date self }
     {
         JulianDate::from_calendar(
             self.year,

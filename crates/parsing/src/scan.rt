@@ -1,8 +1,12 @@
 // One scan through a text.
+// kept: indices into the whole text and no slices of it, of which the contracts speak (`drop at`); an index is what each step hands to the next.
 ghost use Rattle.std.specs.Prelude.{◌≡◌, cond, ◌+◌, ◌≤◌, length, drop, get_or};
+ghost use Rattle.refusals.specs.Outcome.{outcome};
 ghost use Rattle.numerals.specs.digits.Decimal.{is_digit};
 ghost use Rattle.parsing.specs.scan.Form.{is_blank, after_blanks, two_digits, digit_says, two_say, date_right, is_separator, time_right, zulu_first, end_right};
-ghost use Rattle.parsing.specs.scan.Scan.{pairs_at, joined as joined·of, DigitsRun, FractionRun, form_by, scanned_outcome, scan_of};
+ghost use Rattle.parsing.specs.scan.Scan.{pairs_at, joined as joined·of, DigitsRun, FractionRun, form_by, scan_of};
+
+use refusals::Refusal;
 
 // What a text of the right form says. The second is `whole` over 10^places where there are at most 13 places; `second` is its whole part.
 #[derive(Clone, Copy)]
@@ -17,12 +21,6 @@ pub struct Form {
     pub places: usize,
 }
 
-#[derive(Clone, Copy)]
-pub enum Scanned {
-    Within(Form),
-    Outside,
-}
-
 // The digits of a fraction: the second with the first 13 of them behind it, how many there are, and the index behind them.
 #[derive(Clone, Copy)]
 pub struct Run {
@@ -31,59 +29,47 @@ pub struct Run {
     pub end: usize,
 }
 
+#[tactic(auto, unfolding(crate::specs::scan::Form::is_blank))]
 pub(crate) fn blank(c: u8) -> bool
     ensures { result ≡ is_blank c }
 {
-    if c == 32 {
-        return true;
-    }
-    if c < 9 {
-        return false;
-    }
-    c <= 13
+    c == b' ' || (9 <= c && c <= 13)
 }
 
 // The index of the first byte from `at` on that is no blank.
+#[tactic(auto, using(crate::proofs::Found::blanks))]
 fn blanks_end(text: &[u8], at: usize) -> usize
     requires { at ≤ length text.now }
     ensures { (result ≤ length text.now) × (drop result text.now ≡ after_blanks (drop at text.now)) }
 {
-    let mut i = at;
-    while i < text.len() {
+    for i in at..text.len() {
         if !blank(text[i]) {
             return i;
         }
-        i += 1;
     }
-    i
+    text.len()
 }
 
+#[tactic(auto, unfolding(numerals::specs::digits::Decimal::is_digit))]
 fn digit(c: u8) -> bool
     ensures { result ≡ is_digit c }
 {
-    if c < 48 {
-        return false;
-    }
-    c <= 57
+    c.is_ascii_digit()
 }
 
+#[tactic(auto, unfolding(crate::specs::scan::Form::two_digits))]
 fn two_digits(a: u8, b: u8) -> bool
     ensures { result ≡ two_digits a b }
 {
-    if !digit(a) {
-        return false;
-    }
-    digit(b)
+    digit(a) && digit(b)
 }
 
 // The number that a digit says; 0 for any other byte.
+#[tactic(auto, using(crate::proofs::Found::worths))]
 fn worth(c: u8) -> u8
     ensures { (result ≡ digit_says c) × (result ≤ 9) }
 {
-    if digit(c) {
-        return c - 48;
-    }
-    0
+    if digit(c) { c - b'0' } else { 0 }
 }
 
 pub(crate) fn two(a: u8, b: u8) -> u8
@@ -93,55 +79,42 @@ pub(crate) fn two(a: u8, b: u8) -> u8
 }
 
 // Three numbers of two digits with a mark between them: a date but for the first two digits of its year, and a time.
+#[tactic(auto, unfolding(crate::specs::scan::Scan::pairs_at))]
 pub(crate) fn pairs_right(text: &[u8], at: usize, mark: u8) -> bool
     requires { at + 8 ≤ length text.now }
     ensures { result ≡ pairs_at mark text.now at }
 {
-    if !two_digits(text[at], text[at + 1]) {
-        return false;
-    }
-    if text[at + 2] != mark {
-        return false;
-    }
-    if !two_digits(text[at + 3], text[at + 4]) {
-        return false;
-    }
-    if text[at + 5] != mark {
-        return false;
-    }
-    two_digits(text[at + 6], text[at + 7])
+    two_digits(text[at], text[at + 1])
+        && text[at + 2] == mark
+        && two_digits(text[at + 3], text[at + 4])
+        && text[at + 5] == mark
+        && two_digits(text[at + 6], text[at + 7])
 }
 
 // YYYY-MM-DD
+#[tactic(auto, using(crate::proofs::Found::starts))]
 fn date_right(text: &[u8], at: usize) -> bool
     requires { at + 19 ≤ length text.now }
     ensures { result ≡ date_right (drop at text.now) }
 {
-    if !two_digits(text[at], text[at + 1]) {
-        return false;
-    }
-    pairs_right(text, at + 2, b'-')
+    two_digits(text[at], text[at + 1]) && pairs_right(text, at + 2, b'-')
 }
 
 // Between date and time.
+#[tactic(auto, unfolding(crate::specs::scan::Form::is_separator))]
 fn separator(c: u8) -> bool
     ensures { result ≡ is_separator c }
 {
-    if c == b'T' {
-        return true;
-    }
-    c == 32
+    c == b'T' || c == b' '
 }
 
 // Thh:mm:ss
+#[tactic(auto, using(crate::proofs::Found::starts))]
 fn time_right(text: &[u8], at: usize) -> bool
     requires { at + 19 ≤ length text.now }
     ensures { result ≡ time_right (drop at text.now) }
 {
-    if !separator(text[at + 10]) {
-        return false;
-    }
-    pairs_right(text, at + 11, b':')
+    separator(text[at + 10]) && pairs_right(text, at + 11, b':')
 }
 
 // One digit more, of which the first 13 count: so no fraction is too long to be read to its end.
@@ -150,19 +123,20 @@ fn joined(whole: u64, c: u8, place: usize) -> u64
     ensures { result ≡ joined·of whole c place }
 {
     if place < 13 {
-        return 10 * whole + worth(c) as u64;
+        10 * whole + worth(c) as u64
+    } else {
+        whole
     }
-    whole
 }
 
 // The digits from `at` on.
+#[tactic(auto, using(crate::proofs::Found::runs))]
 fn digits_run(text: &[u8], at: usize, second: u8) -> Run
     requires { (at ≤ length text.now) × (second ≤ 99) }
     ensures { DigitsRun second at text.now result }
 {
     let mut whole = second as u64;
-    let mut i = at;
-    while i < text.len() {
+    for i in at..text.len() {
         if !digit(text[i]) {
             return Run {
                 whole,
@@ -171,12 +145,11 @@ fn digits_run(text: &[u8], at: usize, second: u8) -> Run
             };
         }
         whole = joined(whole, text[i], i - at);
-        i += 1;
     }
     Run {
         whole,
-        places: i - at,
-        end: i,
+        places: text.len() - at,
+        end: text.len(),
     }
 }
 
@@ -184,10 +157,7 @@ fn digits_run(text: &[u8], at: usize, second: u8) -> Run
 fn byte_at(text: &[u8], at: usize) -> u8
     ensures { result ≡ get_or text.now at 0 }
 {
-    if at < text.len() {
-        return text[at];
-    }
-    0
+    text.get(at).copied().unwrap_or(0)
 }
 
 // The fraction from `at` on; a point with no digit behind it is none.
@@ -211,22 +181,22 @@ pub(crate) fn fraction(text: &[u8], at: usize, second: u8) -> Run
 }
 
 // The index behind a Z, which only a UTC text may have.
+// kept: `utc` is a truth value and no closure: this one test stands for it, and `scan_of` and `parsed` of the contracts take it.
 fn zone_end(text: &[u8], at: usize, utc: bool) -> usize
     requires { at ≤ length text.now }
     ensures { (result ≤ length text.now)
         × (drop result text.now ≡ cond (zulu_first utc (drop at text.now)) (drop 1 (drop at text.now))
         (drop at text.now)) }
 {
-    if !utc {
-        return at;
+    if utc && byte_at(text, at) == b'Z' {
+        at + 1
+    } else {
+        at
     }
-    if byte_at(text, at) != b'Z' {
-        return at;
-    }
-    at + 1
 }
 
 // Nothing but a zone and blanks from `at` on.
+#[tactic(auto, using(crate::proofs::Found::ends), unfolding(crate::specs::scan::Form::end_right))]
 pub(crate) fn end_right(text: &[u8], at: usize, utc: bool) -> bool
     requires { at ≤ length text.now }
     ensures { result ≡ end_right utc (drop at text.now) }
@@ -251,22 +221,16 @@ fn form_at(text: &[u8], at: usize, whole: u64, places: usize) -> Form
 }
 
 // What the text says, where it has the right form.
-pub fn scan(text: &[u8], utc: bool) -> Scanned
-    ensures { scanned_outcome result ≡ scan_of utc text.now }
+pub fn scan(text: &[u8], utc: bool) -> Result<Form, Refusal>
+    ensures { outcome result ≡ scan_of utc text.now }
 {
     let at = blanks_end(text, 0);
-    if text.len() - at < 19 {
-        return Scanned::Outside;
-    }
-    if !date_right(text, at) {
-        return Scanned::Outside;
-    }
-    if !time_right(text, at) {
-        return Scanned::Outside;
+    if text.len() - at < 19 || !date_right(text, at) || !time_right(text, at) {
+        return Err(Refusal::TextOutsideGrammar);
     }
     let run = fraction(text, at + 19, two(text[at + 17], text[at + 18]));
     if !end_right(text, run.end, utc) {
-        return Scanned::Outside;
+        return Err(Refusal::TextOutsideGrammar);
     }
-    Scanned::Within(form_at(text, at, run.whole, run.places))
+    Ok(form_at(text, at, run.whole, run.places))
 }

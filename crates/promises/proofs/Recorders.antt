@@ -7,7 +7,9 @@ use native.Mathlib.Omega.{arith}
 use native.Mathlib.Nat.{mul-add, mul_assoc, mul_comm, mul-le-mul_left, mul-le-mul_right, mul-pos}
 use lib.Dec.{leb, lit<}
 use borrow.Author.Tests.{leb-false, leb-true}
-use Rattle.refusals.specs.Outcome.{answer}
+use Rattle.std.specs.Prelude.{Result, Ok}
+use Rattle.refusals.specs.declared.Refusal.{Refusal}
+use Rattle.refusals.specs.Outcome.{answer, outcome}
 use Rattle.rounding.specs.Value.{L}
 use Rattle.rounding.proofs.Value.{L-pos}
 use Rattle.julian.specs.declared.JulianDate.{JulianDate}
@@ -23,10 +25,8 @@ use Rattle.since_launch.specs.laws.SinceLaunch.{CountedTo, OneInstantCounted, ex
 use Rattle.since_launch.proofs.laws.OnGrid.{on-grid-nearest}
 use Rattle.since_launch.proofs.laws.Refusing.{not_finite_is_9}
 use Rattle.since_launch.proofs.laws.SinceLaunch.{at_most_one_apart, near-anywhere, own-milliseconds}
-use Rattle.ticks.specs.declared.places.PlacesAnswer.{PlacesAnswer}
-use Rattle.ticks.specs.declared.places.PlacesAnswer.TheVariants.{Written}
 use Rattle.ticks.specs.judging.Refusing.{number_at}
-use Rattle.ticks.specs.places.Places.{placed_run, places_call, places_outcome}
+use Rattle.ticks.specs.places.Places.{placed_run, places_call}
 use Rattle.ticks.specs.Ticks.{passes_of}
 use Rattle.ticks.specs.laws.Readings.{IsPlaced, ReadingsRight}
 use Rattle.ticks.specs.laws.Slopes.{NearExact, NearTime, SlopeAtMost, TimeBetween}
@@ -67,8 +67,8 @@ less_than_one a b run rise u v h k =
     let parted : rise * (u + 1) ≡ rise * u + rise * 1 = mul-add rise u 1 in
     omega (arith, more, parted, h)
 
-module _ (ps ls ms ns before ns' after : List ℕ) (r : PlacesAnswer) (call : places_call (places_outcome r) after ns' ≡ placed_run ps ls ms before ns) where
-  pub stamp-placed : (n rise run i j : ℕ) → r ≡ Written n → SlopeAtMost (passes_of ps ls) rise run → IsPlaced ms ns' i → (from to : JulianDate)
+module _ (ps ls ms ns before ns' after : List ℕ) (r : Result ℕ Refusal) (call : places_call (outcome r) after ns' ≡ placed_run ps ls ms before ns) where
+  pub stamp-placed : (n rise run i j : ℕ) → r ≡ Ok n → SlopeAtMost (passes_of ps ls) rise run → IsPlaced ms ns' i → (from to : JulianDate)
       (P N P' N' : ℕ) → CountedTo from to P N P' N' (number_at ms i) → N' + P ≤ P' + N
       → TimeBetween (passes_of ps ls) (exact_millis P N P' N') millis_units j
       → NearExact (passes_of ps ls) rise run (exact_millis P N P' N') millis_units millis_off j (number_at after i)
@@ -79,7 +79,7 @@ module _ (ps ls ms ns before ns' after : List ℕ) (r : PlacesAnswer) (call : pl
       (near-time (2 ^ 43) 86400000 (number_at ms i) L (P' + N) (N' + P) millis_off near.over near.under h)
 
   -- a place that is reached at most a millisecond later is less than a millisecond's travel and 1 mm further
-  further : (n rise run i k : ℕ) → r ≡ Written n → SlopeAtMost (passes_of ps ls) rise run → IsPlaced ms ns' i → IsPlaced ms ns' k
+  further : (n rise run i k : ℕ) → r ≡ Ok n → SlopeAtMost (passes_of ps ls) rise run → IsPlaced ms ns' i → IsPlaced ms ns' k
       → number_at ms k ≤ number_at ms i + 1 → number_at after k * run < (number_at after i + 1) * run + rise
   further n rise run i k w slope hi hk apart = go (leb (number_at ms i) (number_at ms k)) refl
     where
@@ -94,7 +94,7 @@ module _ (ps ls ms ns before ns' after : List ℕ) (r : PlacesAnswer) (call : pl
           let some = slope.some in
           omega (arith, product)
 
-  pub one_dent : (n rise run i k e : ℕ) (from x y : JulianDate) → r ≡ Written n → SlopeAtMost (passes_of ps ls) rise run → IsPlaced ms ns' i
+  pub one_dent : (n rise run i k e : ℕ) (from x y : JulianDate) → r ≡ Ok n → SlopeAtMost (passes_of ps ls) rise run → IsPlaced ms ns' i
       → IsPlaced ms ns' k → OneInstantCounted from x y e (number_at ms i) (number_at ms k)
       → (number_at ms i ≡ number_at ms k → number_at after i ≡ number_at after k) × (number_at after k * run < (number_at after i + 1) * run + rise)
       × (number_at after i * run < (number_at after k + 1) * run + rise)

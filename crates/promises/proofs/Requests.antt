@@ -6,6 +6,8 @@ use Prim.Native.Nat.{ℕ}
 use lib.IntN.{ℤ, negsuc}
 use lib.ListN.{length}
 use lib.Ieee.{Float}
+use Rattle.std.specs.Prelude.{Result}
+use Rattle.refusals.specs.declared.Refusal.{Refusal}
 use Rattle.refusals.specs.Outcome.{answer}
 use Rattle.calendar.specs.declared.CalendarDate.{CalendarDate}
 use Rattle.calendar.specs.Calendar.{date}
@@ -50,7 +52,6 @@ use Rattle.stamps.proofs.listing_laws.Asked.{lists-expanded, longest-is-33, thro
 use Rattle.stamps.proofs.reason_laws.Named.{field_named, sentences_printed, too_long_is_11}
 use Rattle.stamps.proofs.reason_laws.Names.{other_number}
 use Rattle.stamps.proofs.reason_laws.ReadBack.{same-sentence}
-use Rattle.ticks.specs.declared.TicksAnswer.{TicksAnswer}
 use Rattle.ticks.specs.Ticks.{TicksCall, placed_ticks}
 use Rattle.ticks.proofs.laws.Call.{call-means}
 use Rattle.standby.specs.declared.UtcTime.{UtcTime}
@@ -82,7 +83,7 @@ request_7 week ms bits reference w d = record {
 pub request_9 : (a b : Stamp) → R.Request9 a b
 request_9 a b = record { same_stamp = (same_is a b, is_same a b); equal_too = same-implies-equal a b }
 
-pub request_10 : (ps ms ts before after : List ℕ) (r : TicksAnswer) → TicksCall (placed_ticks ps ms ts (length before)) before r after
+pub request_10 : (ps ms ts before after : List ℕ) (r : Result ℕ Refusal) → TicksCall (placed_ticks ps ms ts (length before)) before r after
     → R.Request10 ps ms ts before after r
 request_10 ps ms ts before after r c = record {
   placed = (call-means ps ms ts before after r c).placed;

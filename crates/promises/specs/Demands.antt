@@ -1,6 +1,6 @@
 -- The three demands, sentence by sentence. `rows` are those of a table that is taken, the fixed ones and the announced. Written from the mission. Assumes
 -- nothing.
-use Rattle.std.specs.Prelude.{ℕ, ◌≤◌, ◌&&◌, false, true, List, ◌≡◌, T, Float, nat_abs, negsuc, pos, ℤ, length}
+use Rattle.std.specs.Prelude.{ℕ, ◌≤◌, ◌&&◌, false, true, List, ◌≡◌, T, Float, nat_abs, negsuc, pos, ℤ, length, Result, Err}
 use Rattle.std.specs.Float.{binary64}
 use Rattle.std.specs.Float.Ieee.{fits}
 use Rattle.std.specs.Float.Ieee.Scale.{finite}
@@ -8,7 +8,8 @@ use Rattle.std.proofs.Math.IntN.{suc_ℤ}
 use Rattle.std.specs.Int.Signed.{le_z, lt_z}
 use Rattle.std.specs.Int.{w64}
 use Rattle.std.proofs.Common.{SFits}
-use Rattle.refusals.specs.Outcome.{Outcome, answer, onward, refusal}
+use Rattle.refusals.specs.declared.Refusal.{Refusal}
+use Rattle.refusals.specs.Outcome.{Outcome, answer, onward, refusal, outcome}
 use Rattle.floats.specs.Whole.{nought}
 use Rattle.calendar.specs.Calendar.{Counted, date, date_of, next}
 use Rattle.calendar.specs.DayCount.{MjdMeaning, mjd_of}
@@ -43,9 +44,7 @@ use Rattle.utc_scales.specs.ut1_laws.Back.{NoLeapNear, RightUtcOfUt1}
 use Rattle.utc_scales.specs.ut1_laws.Ut1.{RightUt1}
 use Rattle.utc.specs.FromCalendar.{utc_from_calendar}
 use Rattle.utc.specs.UnixTime.{utc_new}
-use Rattle.utc.specs.declared.iso_texts.TextByRule.{TextByRule}
-use Rattle.utc.specs.declared.iso_texts.TextByRule.TheVariants as Ruled
-use Rattle.utc.specs.iso_texts.ByRule.{TextRuleCall, text_by_rule, text_by_rule_outcome}
+use Rattle.utc.specs.iso_texts.ByRule.{TextRuleCall, text_by_rule}
 use Rattle.utc.specs.iso_texts.IsoText.{standard_form}
 use Rattle.utc.specs.iso_texts.TextForm.{TextForm}
 use Rattle.utc.specs.laws.Ladder.{Decided}
@@ -65,8 +64,8 @@ pub record Demand1 (t : AnnouncedRows) (rows : List Row) : Type 0 where
   -- "For all other input too, each call ends with an answer or with document 01's refusal": that it ends is part of each contract; by which number, exactly
   pub conversions_answer : (k : Twenty) (d : JulianDate) → Held d → Holds Any (WithTable (reads_table k) (numbers_of k)) (announced_answer t k d)
   pub calendar_answers : (x y : Float) (n : ℕ) → julian_to_calendar x y ≡ refusal n → n ≡ 6
-  pub texts_answer : (form : TextForm) (d : JulianDate) (before after : List ℕ) (r : TextByRule)
-      → TextRuleCall (onward (table_of t) (λ l. text_by_rule form l d)) before r after → Decided (text_by_rule_outcome r)
+  pub texts_answer : (form : TextForm) (d : JulianDate) (before after : List ℕ) (r : Result (ℕ × Rule) Refusal)
+      → TextRuleCall (onward (table_of t) (λ l. text_by_rule form l d)) before r after → Decided (outcome r)
       (text_call_ladder form t d (length before))
   pub offset_answers : (y m d : ℤ) (f : Float) → Decided (onward (table_of t) (λ l. offset_by_rule l y m d f)) (offset_ladder t y m d f)
   pub leap_answers : (y m d : ℤ) → Decided (onward (table_of t) (λ l. leap_at_end_of_day l y m d)) (leap_ladder t y m d)
@@ -74,7 +73,7 @@ pub record Demand1 (t : AnnouncedRows) (rows : List Row) : Type 0 where
       → Decided (onward (table_of t) (λ l. utc_from_calendar l y m d hour minute second)) (from_calendar_ladder t y m d hour minute second)
   pub unix_answers : (z : ℤ) (nanos : ℕ) → SFits w64 z → Decided (onward (table_of t) (λ l. utc_new l z nanos)) (new_ladder t z nanos)
   -- "and a refused text call changes no byte of its buffer."
-  pub text_stays : (o : Outcome (List ℕ × Rule)) (before after : List ℕ) (n : ℕ) → TextRuleCall o before (Ruled.Refused n) after → after ≡ before
+  pub text_stays : (o : Outcome (List ℕ × Rule)) (before after : List ℕ) (k : Refusal) → TextRuleCall o before (Err k) after → after ≡ before
   -- "Where both parts are under 2^52 in size and offsets at most 10^9 s in size, no conversion hands out a NaN or an infinity."
   pub finite_answers : (k : Twenty) (d : JulianDate) → SmallParts d → Billion (given_offset k)
       → Holds FiniteParts (WithTable (reads_table k) SixOrOne) (announced_answer t k d)

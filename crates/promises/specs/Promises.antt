@@ -1,6 +1,7 @@
 -- The customer's sentences: a record for each demand and each request, a field for each sentence, for all values that it takes and every lent table t whose
 -- rows are taken. Written from the mission and document 02; docs/PROMISES.md has them in full. Assumes nothing.
-use Rattle.std.specs.Prelude.{◌*◌, ◌+◌, ◌<◌, ◌≤◌, ℕ, Bool, List, ◌≡◌, T, Float, negsuc, ℤ, length}
+use Rattle.std.specs.Prelude.{◌*◌, ◌+◌, ◌<◌, ◌≤◌, ℕ, Bool, List, ◌≡◌, T, Float, negsuc, ℤ, length, Result, Ok}
+use Rattle.refusals.specs.declared.Refusal.{Refusal}
 use Rattle.calendar.specs.{Calendar.date, Gregorian.gregorian_date, declared.CalendarDate.CalendarDate, laws.IsoCalendar.IsoCalendar}
 use Rattle.calendar.specs.{laws.IsoCalendar.RustsDate}
 use Rattle.julian.specs.{declared.JulianDate.JulianDate as JD, declared.same_stamps.Stamp.Stamp}
@@ -29,7 +30,6 @@ use Rattle.line_up.specs.laws.Line.{LineRight}
 use Rattle.line_listing.specs.{laws.Right.ListingRight, listing.Listing.NamedRun}
 use Rattle.since_launch.specs.laws.SinceLaunch.{AtMostOneApart, CountedTo, NearAnywhere, NearestOnGrid, NotFiniteIsNine, OneInstantCounted}
 use Rattle.since_launch.specs.laws.SinceLaunch.{OwnMilliseconds, exact_millis, millis_off, millis_units}
-use Rattle.ticks.specs.declared.{TicksAnswer.TicksAnswer, places.PlacesAnswer.PlacesAnswer, places.PlacesAnswer.TheVariants.Written as PlacesWritten}
 use Rattle.ticks.specs.laws.Slopes.{NearExact, NearOverBoth, SlopeAtMost, TimeBetween}
 use Rattle.ticks.specs.laws.{Readings.IsPlaced, Readings.ReadingsMeaning, Reasons.PlacedWhole, Reasons.RefusedWhole}
 use Rattle.ticks.specs.{Ticks.passes_of, judging.Refusing.number_at}
@@ -166,7 +166,7 @@ pub record Request9 (a b : Stamp) : Type 0 where
   pub equal_too : SameIsEqual a b
 
 -- of a call over passes (ps, ms) and ticks ts, in bytes, that answers r and leaves `after` where `before` was
-pub record Request10 (ps ms ts before after : Bytes) (r : TicksAnswer) : Type 0 where
+pub record Request10 (ps ms ts before after : Bytes) (r : Result ℕ Refusal) : Type 0 where
   -- "a TAI millisecond on the straight line .."
   pub placed : PlacedWhole ps ms ts before r after
   -- "Turned away whole, in this order .."
@@ -237,17 +237,17 @@ pub record SinceLaunch (from to : JD) (week ms week' ms' : ℕ) : Type 0 where
   pub one_apart : (other : JD) → AtMostOneApart from to other
 
 -- the places of a run of readings between marker passes, for every call
-pub record Places (ps ls ms ns before : Bytes) (r : PlacesAnswer) (ns' after : Bytes) : Type 0 where
+pub record Places (ps ls ms ns before : Bytes) (r : Result ℕ Refusal) (ns' after : Bytes) : Type 0 where
   -- a number for each reading, its place on the line between the passes
   pub call : ReadingsMeaning ps ls ms ns before r ns' after
   -- over both steps, by passes nowhere steeper than rise / run
   pub over_both : NearOverBoth ps ls ms r ns' after
   -- from stamp to place: a stamp worth (P' - N') / L days, from a launch of (P - N) / L
-  pub stamp : (n rise run i j : ℕ) → r ≡ PlacesWritten n → SlopeAtMost (passes_of ps ls) rise run → IsPlaced ms ns' i → (from to : JD) (P N P' N' : ℕ)
+  pub stamp : (n rise run i j : ℕ) → r ≡ Ok n → SlopeAtMost (passes_of ps ls) rise run → IsPlaced ms ns' i → (from to : JD) (P N P' N' : ℕ)
       → CountedTo from to P N P' N' (number_at ms i) → N' + P ≤ P' + N → TimeBetween (passes_of ps ls) (exact_millis P N P' N') millis_units j
       → NearExact (passes_of ps ls) rise run (exact_millis P N P' N') millis_units millis_off j (number_at after i)
   -- two readings of one instant: one place at one millisecond, and else at most a millisecond's travel and 1 mm apart
-  pub one_dent : (n rise run i k e : ℕ) (from x y : JD) → r ≡ PlacesWritten n → SlopeAtMost (passes_of ps ls) rise run → IsPlaced ms ns' i
+  pub one_dent : (n rise run i k e : ℕ) (from x y : JD) → r ≡ Ok n → SlopeAtMost (passes_of ps ls) rise run → IsPlaced ms ns' i
       → IsPlaced ms ns' k → OneInstantCounted from x y e (number_at ms i) (number_at ms k)
       → (number_at ms i ≡ number_at ms k → number_at after i ≡ number_at after k) × (number_at after k * run < (number_at after i + 1) * run + rise)
       × (number_at after i * run < (number_at after k + 1) * run + rise)

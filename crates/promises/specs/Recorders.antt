@@ -1,7 +1,8 @@
 -- What three recorders, their runs, their line and the places of their readings promise beyond the requests. `rows` are those of a table that is taken. From
 -- the mission's first sentences: "Each tool will carry three recorders, one on GPS time, one on TAI, one on UTC. I am the data analyst who lines them up".
 -- Assumes nothing.
-use Rattle.std.specs.Prelude.{ℕ, ◌+◌, ◌-◌, ◌*◌, ◌/◌, ◌^◌, ◌≤◌, ◌<◌, ◌≡◌, List, length, get_or}
+use Rattle.std.specs.Prelude.{ℕ, ◌+◌, ◌-◌, ◌*◌, ◌/◌, ◌^◌, ◌≤◌, ◌<◌, ◌≡◌, List, length, get_or, Result, Ok}
+use Rattle.refusals.specs.declared.Refusal.{Refusal}
 use Rattle.refusals.specs.Outcome.{answer, refusal}
 use Rattle.std.specs.Float.{binary64}
 use Rattle.std.specs.Float.Ieee.{of_bits}
@@ -26,8 +27,6 @@ use Rattle.stamps.specs.listing_laws.NotFinite.{NotFinite, not_finite_in}
 use Rattle.runs.specs.Run.{stamp_answer, converted_run}
 use Rattle.runs.specs.laws.Done.{StampDone}
 use Rattle.runs.specs.laws.NotFiniteStamps.{StampNotFinite, number_of_not_finite, not_zero_in}
-use Rattle.ticks.specs.declared.places.PlacesAnswer.{PlacesAnswer}
-use Rattle.ticks.specs.declared.places.PlacesAnswer.TheVariants.{Written}
 use Rattle.ticks.specs.Ticks.{passes_of}
 use Rattle.ticks.specs.laws.Readings.{ReadingsMeaning, IsPlaced}
 use Rattle.ticks.specs.laws.Slopes.{SlopeAtMost, TimeBetween, NearExact, ReadingsNear}
@@ -58,13 +57,13 @@ Line js ks ns first second out tails ranks = line_refusal (length js) (length ks
     → Lined js ks ns first second out (lined_up js ks ns first second out tails ranks)
 
 -- the places of a run of readings between marker passes, for every call
-pub record Places (ps ls ms ns before : List ℕ) (r : PlacesAnswer) (ns' after : List ℕ) : Type 0 where
+pub record Places (ps ls ms ns before : List ℕ) (r : Result ℕ Refusal) (ns' after : List ℕ) : Type 0 where
   -- a number for each reading, 25 exactly outside the passes; its place on the line between them: exact at a pass, never backwards, less than 1 mm below; the
   -- answer is how many numbers are not 0; 14, 12, 11, 23, 24 in this order; what lies behind stays
   pub call : ReadingsMeaning ps ls ms ns before r ns' after
   -- over both steps, by passes nowhere steeper than rise / run mm a ms: a reading whose millisecond is within b ms of its exact time is placed at most b * rise
   -- / run above the exact line at that time, and less than 1 mm more below
-  pub over_both : (n : ℕ) → r ≡ Written n → (rise run : ℕ) → SlopeAtMost (passes_of ps ls) rise run → ReadingsNear ps ls ms ns' after rise run
+  pub over_both : (n : ℕ) → r ≡ Ok n → (rise run : ℕ) → SlopeAtMost (passes_of ps ls) rise run → ReadingsNear ps ls ms ns' after rise run
 
 -- whole milliseconds from the launch to a stamp of the same uniform scale
 pub record SinceLaunch : Type 0 where
@@ -89,7 +88,7 @@ abbrev pub launch_time : ℕ → ℕ → ℕ → ℕ → ℕ
 launch_time P N P' N' = 2 ^ 43 * (86400000 * (P' + N)) - 2 ^ 43 * (86400000 * (N' + P))
 
 abbrev pub StampPlaced : Type 0
-StampPlaced = (ps ls ms ns before ns' after : List ℕ) (r : PlacesAnswer) → Places ps ls ms ns before r ns' after → (n : ℕ) → r ≡ Written n
+StampPlaced = (ps ls ms ns before ns' after : List ℕ) (r : Result ℕ Refusal) → Places ps ls ms ns before r ns' after → (n : ℕ) → r ≡ Ok n
     → (rise run : ℕ) → SlopeAtMost (passes_of ps ls) rise run → (i : ℕ) → IsPlaced ms ns' i → (from to : JulianDate) (P N P' N' : ℕ)
     → SmallParts from → SmallParts to → Worth from P N L → Worth to P' N' L → millis_from_to from to ≡ answer (number_at ms i) → N' + P ≤ P' + N
     → (j : ℕ) → TimeBetween (passes_of ps ls) (launch_time P N P' N') (2 ^ 43 * L) j

@@ -1,10 +1,11 @@
 -- The fourteen requests, sentence by sentence. `rows` are those of a table that is taken. Written from document 02. Assumes nothing.
 use Rattle.std.specs.Prelude.{◌%◌, ◌*◌, ◌+◌, ◌/◌, ◌<◌, ◌^◌, ℕ, ◌≤◌, ◌&&◌, Bool, false, true, List, [], ◌∷◌, ◌++◌, ◌⊎◌, ◌≡◌, T, Float, nat_abs, negsuc, pos, ℤ}
-use Rattle.std.specs.Prelude.{length}
+use Rattle.std.specs.Prelude.{length, Result, Ok}
 use Rattle.std.specs.Float.{binary64, nan}
 use Rattle.std.specs.Float.Ieee.{div, fits, le, lt, of_bits, of_int}
 use Rattle.std.specs.Int.Signed.{lt_z}
-use Rattle.refusals.specs.Outcome.{answer, refusal}
+use Rattle.refusals.specs.declared.Refusal.{Refusal}
+use Rattle.refusals.specs.Outcome.{answer, refusal, outcome}
 use Rattle.numerals.specs.digits.Hexadecimal.{hex16}
 use Rattle.floats.specs.Whole.{away, nought, one}
 use Rattle.rounding.specs.Value.{InUnit, Val}
@@ -62,8 +63,6 @@ use Rattle.utc.specs.FromCalendar.{utc_from_calendar}
 use Rattle.utc.specs.iso_texts.Expanded.{expanded_form, iso_text_expanded}
 use Rattle.utc.specs.iso_texts.HalfEven.{half_even_form, iso_text_half_even}
 use Rattle.utc.specs.iso_texts.IsoText.{iso_text, standard_form}
-use Rattle.utc.specs.declared.text.TextAnswer.{TextAnswer}
-use Rattle.utc.specs.text.Answer.{text_outcome}
 use Rattle.utc.specs.iso_texts.TextCall.{TextCall}
 use Rattle.utc.specs.laws.Beside.{Beside}
 use Rattle.utc.specs.laws.OneText.{OneText}
@@ -90,8 +89,6 @@ use Rattle.stamps.specs.Parts.{line_of, lines_in, parts_joined}
 use Rattle.stamps.specs.declared.Reporting.{Reporting}
 use Rattle.stamps.specs.declared.Reporting.TheVariants.{Numbers}
 use Rattle.stamps.specs.reason_laws.Reader.{OfMachine}
-use Rattle.ticks.specs.declared.TicksAnswer.{TicksAnswer}
-use Rattle.ticks.specs.declared.TicksAnswer.TheVariants as Ticks
 use Rattle.ticks.specs.laws.Reasons.{ExactlyWhen, PlacedRight}
 use Rattle.standby.specs.Bills as B
 use Rattle.standby.specs.Times.{instant, offset_on_date}
@@ -247,14 +244,14 @@ pub record Request9 : Type 0 where
       → equal (julian_of a) (julian_of b) ≡ true
 
 -- of a call over passes (ps, ms) and ticks ts, in bytes, that answers r and leaves `after` where `before` was
-pub record Request10 (ps ms ts before after : List ℕ) (r : TicksAnswer) : Type 0 where
+pub record Request10 (ps ms ts before after : List ℕ) (r : Result ℕ Refusal) : Type 0 where
   -- "give each a TAI millisecond on the straight line between its neighbours, rounded down. A tick at a pass gives that pass's millisecond exactly. A later
   -- tick never gets an earlier time, and each result is less than 1 ms below the exact line."
-  pub placed : r ≡ Ticks.Written (length ts) → PlacedRight ps ms ts before after
+  pub placed : r ≡ Ok (length ts) → PlacedRight ps ms ts before after
   -- "From a recorded list of 2 to 2,000 passes, with numbers below 2^40"; "Turned away whole, in this order: 11 for fewer result places than ticks; 23 for
   -- unequal, too few or too many passes or too large a number in them; 24 for passes not strictly rising in both; 25 for a tick outside them."
   pub decided : ExactlyWhen ps ms ts (length before) r
-  pub refused_whole : (n : ℕ) → r ≡ Ticks.Refused n → after ≡ before
+  pub refused_whole : (n : ℕ) → outcome r ≡ refusal n → after ≡ before
 
 pub record Request11 (rows : List Row) : Type 0 where
   -- "Crews bill each started 900 s between two UTC times given to the millisecond, from 1972 on, leap seconds counted."
@@ -294,8 +291,8 @@ pub record Request13 (rows : List Row) : Type 0 where
   pub same_only_if : (r s : Reason) → 1 ≤ r.number → r.number ≤ 28 → OfMachine r.named → 1 ≤ s.number → s.number ≤ 28 → OfMachine s.named
       → render r ≡ render s → r ≡ s
   -- "A sentence longer than its buffer is 11."
-  pub too_long : (k : ℕ) (v : Values) (s before after : List ℕ) (r : TextAnswer) → sentence k v ≡ answer s → length before < length s
-      → TextCall (sentence k v) before r after → text_outcome r ≡ refusal 11
+  pub too_long : (k : ℕ) (v : Values) (s before after : List ℕ) (r : Result ℕ Refusal) → sentence k v ≡ answer s → length before < length s
+      → TextCall (sentence k v) before r after → outcome r ≡ refusal 11
   -- "A second listing program prints them in place of `refused` and the number, on stamp lines and after `block`, not in the header"
   pub printed : SentencesPrinted rows
   -- "floats are shown as 16 hexadecimal digits of their bits, any NaN as 7ff8000000000000"

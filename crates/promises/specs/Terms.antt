@@ -1,5 +1,5 @@
 -- Words that the promises use: premises and groups of statements under a name. `rows` are those of a table that is taken. Assumes nothing.
-use Rattle.std.specs.Prelude.{◌<◌, ℕ, ◌≤◌, false, true, List, [], ◌∷◌, ◌++◌, map, ◌⊎◌, ◌≡◌, T, Float, pos, ℤ, drop, get_or, length}
+use Rattle.std.specs.Prelude.{◌<◌, ℕ, ◌≤◌, false, true, List, [], ◌∷◌, ◌++◌, map, ◌⊎◌, ◌≡◌, T, Float, pos, ℤ, drop, get_or, length, Ok}
 use Rattle.std.specs.Float.{binary64}
 use Rattle.std.specs.Float.Ieee.{fits, le, of_bits}
 use Rattle.std.specs.Float.Ieee.Scale.{finite}
@@ -18,7 +18,6 @@ use Rattle.julian.specs.declared.day_number.DayNumber.{DayNumber}
 use Rattle.leap_table.specs.declared.judging.Triple.{Triple}
 use Rattle.leap_table.specs.declared.offsets.Rule.TheVariants.{Absent, Drifting, Whole}
 use Rattle.leap_table.specs.declared.rows.AnnouncedRows.{AnnouncedRows}
-use Rattle.leap_table.specs.declared.walk.WalkAnswer.TheVariants.{Compared}
 use Rattle.time_of_day.specs.ExactTime.{minus_one_f}
 use Rattle.leap_table.specs.offsets.Leap.{leap_at_end_of_day}
 use Rattle.leap_table.specs.offsets.Offset.{by_row, offset_at, tai_utc_offset}
@@ -68,7 +67,7 @@ SmallDut1 x = T (fits binary64 x) × T (le (abs x) one)
 
 -- an answered walk over dates as numbers: c rows compared, the lent list before and after
 abbrev pub Walks : AnnouncedRows → List Triple → List Float → ℕ → List Float → Type 0
-Walks t ds before c after = WalkCall as_floats (onward (table_of t) (λ l. walk_of_numbers l (triple_numbers ds) (length before))) before (Compared c) after
+Walks t ds before c after = WalkCall as_floats (onward (table_of t) (λ l. walk_of_numbers l (triple_numbers ds) (length before))) before (Ok c) after
 
 -- at place i the offset that the look-up gives for date i at 0h, what lies behind as it was, and the rows compared by the definition
 pub record WalkRight (t : AnnouncedRows) (rows : List Row) (ds : List Triple) (d : Triple) (before after : List Float) (c : ℕ) : Type 0 where

@@ -10,25 +10,23 @@ use lib.Dec.{leb}
 use lib.ListN.{length, take, drop, length-append}
 use lib.Seq.{length-take-le}
 use borrow.Author.Tests.{le-leb, lt-leb}
-use Rattle.refusals.specs.Outcome.{Outcome, answer, refusal, onward}
+use Rattle.std.specs.Prelude.{Result, Ok, Err}
+use Rattle.refusals.specs.Refusal.{refusal_number}
+use Rattle.refusals.specs.declared.Refusal.{Refusal}
+use Rattle.refusals.specs.declared.Refusal.TheVariants as R
+use Rattle.refusals.specs.Outcome.{Outcome, answer, refusal, onward, outcome}
 use Rattle.julian.specs.declared.JulianDate.{JulianDate}
 use Rattle.leap_table.specs.rows.Table.{Row}
-use Rattle.utc.specs.declared.text.TextAnswer.{TextAnswer}
-use Rattle.utc.specs.declared.text.TextAnswer.TheVariants.{Written, Refused}
-use Rattle.utc.specs.text.Answer.{text_outcome, text_written, buffer_after}
+use Rattle.utc.specs.text.Answer.{text_written, buffer_after}
 use Rattle.utc.specs.iso_texts.TextCall.{written, buffer_holds, TextCall}
 use Rattle.utc.specs.iso_texts.Expanded.{iso_text_expanded}
-use Rattle.utc.specs.declared.iso_texts.TextByRule.{TextByRule}
-use Rattle.utc.specs.iso_texts.ByRule.{expanded_by_rule, text_by_rule_outcome, TextRuleCall}
+use Rattle.utc.specs.iso_texts.ByRule.{expanded_by_rule, TextRuleCall}
 use Rattle.utc.proofs.iso_texts.TextRules.{rule-call-forgets, expanded-forgets}
-use Rattle.utc.specs.declared.iso_texts.TextByRule.TheVariants as Ruled
 use Rattle.leap_table.specs.declared.offsets.Rule.{Rule}
 use Rattle.leap_table.specs.offsets.Rule.{forget}
 use Rattle.utc.proofs.laws.ExpandedTexts.{expanded-text-length}
 use Rattle.parsing.specs.declared.ParsedUtc.{ParsedUtc}
-use Rattle.parsing.specs.declared.ParsedUtcAnswer.{ParsedUtcAnswer}
-use Rattle.parsing.specs.declared.ParsedUtcAnswer.TheVariants as Utc
-use Rattle.parsing.specs.Parsed.{parsed_utc_outcome, parsed_utc}
+use Rattle.parsing.specs.Parsed.{parsed_utc}
 use Rattle.numerals.specs.digits.Placed.{pasted, Placed, Placing}
 use Rattle.numerals.proofs.digits.Places.{then}
 use Rattle.reasons.proofs.sentences.Placing.{placed-length, decimal-placed}
@@ -78,38 +76,38 @@ unfolding written buffer_holds onward
 refusal-written (answer t) p k s h e = let m = s t refl in absurd (refused-by t p k (omega arith) e)
 refusal-written (refusal j) p k s h e = let same : j ≡ k = cc in (ap refusal same, refl)
 
-module _ (rows : List Row) (jd : JulianDate) {p ys : List ℕ} {res : TextByRule} (call : TextRuleCall (expanded_by_rule rows jd) p res ys) where
+module _ (rows : List Row) (jd : JulianDate) {p ys : List ℕ} {res : Result (ℕ × Rule) Refusal} (call : TextRuleCall (expanded_by_rule rows jd) p res ys) where
   -- without the rule
-  as_call : (t : TextAnswer) → text_outcome t ≡ forget (text_by_rule_outcome res) → TextCall (iso_text_expanded rows jd) p t ys
+  as_call : (t : Result ℕ Refusal) → outcome t ≡ forget (outcome res) → TextCall (iso_text_expanded rows jd) p t ys
   as_call t e = subst (λ (o : Outcome (List ℕ)). TextCall o p t ys) (expanded-forgets rows jd) (rule-call-forgets (expanded_by_rule rows jd) p ys res t e call)
 
-  pub text-written : (n : ℕ) (rule : Rule) → res ≡ Ruled.Written n rule
+  pub text-written : (n : ℕ) (rule : Rule) → res ≡ Ok (n, rule)
       → (n ≡ length (reading_words (iso_text_expanded rows jd)))
       × (ys ≡ reading_words (iso_text_expanded rows jd) ++ drop (length (reading_words (iso_text_expanded rows jd))) p) × (n ≤ 27)
-  unfolding text_outcome text_by_rule_outcome forget onward
+  unfolding outcome forget onward
   text-written n rule e =
-      let c : TextCall (iso_text_expanded rows jd) p (Written n) ys = as_call (Written n) (ap (λ (x : TextByRule). forget (text_by_rule_outcome x)) (sym e)) in
+      let c : TextCall (iso_text_expanded rows jd) p (Ok n) ys = as_call (Ok n) (ap (λ (x : Result (ℕ × Rule) Refusal). forget (outcome x)) (sym e)) in
       let w = answer-written (iso_text_expanded rows jd) p n (short rows jd) (sym c.says) in (w.0, c.holds ∙ w.1, w.2)
 
-  pub text_refused : (k : ℕ) → res ≡ Ruled.Refused k → 27 ≤ length p → (iso_text_expanded rows jd ≡ refusal k) × (ys ≡ p)
-  unfolding text_outcome text_by_rule_outcome forget onward
+  pub text_refused : (k : Refusal) → res ≡ Err k → 27 ≤ length p → (iso_text_expanded rows jd ≡ refusal (refusal_number k)) × (ys ≡ p)
+  unfolding outcome forget onward
   text_refused k e h =
-      let c : TextCall (iso_text_expanded rows jd) p (Refused k) ys = as_call (Refused k) (ap (λ (x : TextByRule). forget (text_by_rule_outcome x)) (sym e)) in
-      let w = refusal-written (iso_text_expanded rows jd) p k (short rows jd) h (sym c.says) in (w.0, c.holds ∙ w.1)
+      let c : TextCall (iso_text_expanded rows jd) p (Err k) ys = as_call (Err k) (ap (λ (x : Result (ℕ × Rule) Refusal). forget (outcome x)) (sym e)) in
+      let w = refusal-written (iso_text_expanded rows jd) p (refusal_number k) (short rows jd) h (sym c.says) in (w.0, c.holds ∙ w.1)
 
 -- ---- what the reader answered
-module _ (rows : List Row) (s : List ℕ) (a : ParsedUtcAnswer) (is : parsed_utc_outcome a ≡ parsed_utc rows s) where
-  pub read-refused : (k : ℕ) → a ≡ Utc.Refused k → reading rows s ≡ refusal k
-  unfolding reading onward parsed_utc_outcome
-  read-refused k e = ap (λ (o : Outcome ParsedUtc). onward o (λ r. iso_text_expanded rows r.date.0)) (sym is ∙ ap parsed_utc_outcome e)
+module _ (rows : List Row) (s : List ℕ) (a : Result ParsedUtc Refusal) (is : outcome a ≡ parsed_utc rows s) where
+  pub read-refused : (k : Refusal) → a ≡ Err k → reading rows s ≡ refusal (refusal_number k)
+  unfolding reading onward outcome
+  read-refused k e = ap (λ (o : Outcome ParsedUtc). onward o (λ r. iso_text_expanded rows r.date.0)) (sym is ∙ ap outcome e)
 
-  pub read-dated : (r : ParsedUtc) → a ≡ Utc.Read r → reading rows s ≡ iso_text_expanded rows r.date.0
-  unfolding reading onward parsed_utc_outcome
-  read-dated r e = ap (λ (o : Outcome ParsedUtc). onward o (λ r. iso_text_expanded rows r.date.0)) (sym is ∙ ap parsed_utc_outcome e)
+  pub read-dated : (r : ParsedUtc) → a ≡ Ok r → reading rows s ≡ iso_text_expanded rows r.date.0
+  unfolding reading onward outcome
+  read-dated r e = ap (λ (o : Outcome ParsedUtc). onward o (λ r. iso_text_expanded rows r.date.0)) (sym is ∙ ap outcome e)
 
 -- ---- the whole line
-pub no_room : (line before : List ℕ) → length before < 50 → LineCall line before (Refused 11) before
-unfolding text_outcome
+pub no_room : (line before : List ℕ) → length before < 50 → LineCall line before (Err R.NoRoom) before
+unfolding outcome refusal_number
 no_room line before h = record {
   says = sym (ap (λ (b : Bool). cond b (answer (length line)) (refusal 11)) (lt-leb 50 (length before) h));
   holds =
@@ -120,19 +118,19 @@ at_start : (line before : List ℕ) → pasted before 0 line ≡ line ++ drop (l
 unfolding pasted
 at_start line before = ap (λ (k : ℕ). line ++ drop k before) (zero-add (length line))
 
-pub line-put : (line before : List ℕ) (n : ℕ) (after : List ℕ) → 50 ≤ length before → Placed before 0 line n after → LineCall line before (Written n) after
-unfolding text_outcome
+pub line-put : (line before : List ℕ) (n : ℕ) (after : List ℕ) → 50 ≤ length before → Placed before 0 line n after → LineCall line before (Ok n) after
+unfolding outcome refusal_number
 line-put line before n after h p = record {
   says = ap answer (p.ends ∙ zero-add (length line)) ∙ sym (ap (λ (b : Bool). cond b (answer (length line)) (refusal 11)) (le-leb 50 (length before) h));
   holds = p.holds ∙ at_start line before ∙ sym (ap (λ (b : Bool). cond b (line ++ drop (length line) before) before) (le-leb 50 (length before) h));
 }
 
 -- what was written is within the buffer
-pub line-within : {line before after : List ℕ} {r : TextAnswer} → LineCall line before r after → (n : ℕ) → r ≡ Written n → (n ≤ length after)
+pub line-within : {line before after : List ℕ} {r : Result ℕ Refusal} → LineCall line before r after → (n : ℕ) → r ≡ Ok n → (n ≤ length after)
     × (n ≡ length (take n after))
-unfolding text_outcome
+unfolding outcome refusal_number
 line-within {line} {before} {after} c n is = let h =
-    go (leb 50 (length before)) (sym (ap text_outcome is) ∙ c.says) c.holds in (h, sym (length-take-le n after h))
+    go (leb 50 (length before)) (sym (ap outcome is) ∙ c.says) c.holds in (h, sym (length-take-le n after h))
   where
     go : (b : Bool) → answer n ≡ cond b (answer (length line)) (refusal 11) → after ≡ cond b (line ++ drop (length line) before) before → n ≤ length after
     go true e h = let m : n ≡ length line = cc in subst (λ (l : List ℕ). n ≤ length l) (sym h) (simp length-append (omega arith))

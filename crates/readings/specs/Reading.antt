@@ -1,12 +1,11 @@
 -- The line by which the program utc_reading answers a text: its index, a blank, and the text of the date that it is read as, or `refused` and the number.
 -- Written from document 02, item 1 ("The boxes at the line send text"), in the form of document 01's listing; the text has expanded years, as the listing's
 -- from item 6 on. Assumes nothing.
-use Rattle.std.specs.Prelude.{ℕ, ◌≡◌, List, [], ◌∷◌, ◌++◌, cond, length, drop, leb}
-use Rattle.refusals.specs.Outcome.{Outcome, answer, refusal, onward}
+use Rattle.std.specs.Prelude.{ℕ, ◌≡◌, List, [], ◌∷◌, ◌++◌, cond, length, drop, leb, Result}
+use Rattle.refusals.specs.declared.Refusal.{Refusal}
+use Rattle.refusals.specs.Outcome.{Outcome, answer, refusal, onward, outcome}
 use Rattle.numerals.specs.digits.Decimal.{digits_of}
 use Rattle.leap_table.specs.rows.Table.{Row}
-use Rattle.utc.specs.declared.text.TextAnswer.{TextAnswer}
-use Rattle.utc.specs.text.Answer.{text_outcome}
 use Rattle.utc.specs.iso_texts.Expanded.{iso_text_expanded}
 use Rattle.parsing.specs.Parsed.{parsed_utc}
 use Rattle.stamps.specs.Listing.{refused_word}
@@ -26,6 +25,6 @@ reading_line rows s index = ((digits_of index ++ (32 ∷ [])) ++ reading_words (
 
 -- r answers the line's length, and the buffer, which held `before`, holds the line at its start and then what stood there; in a buffer of less than 50 bytes,
 -- which the longest line may need, r is 11 and the buffer is as it was
-pub record LineCall (line before : List ℕ) (r : TextAnswer) (after : List ℕ) : Type 0 where
-  pub says : text_outcome r ≡ cond (leb 50 (length before)) (answer (length line)) (refusal 11)
+pub record LineCall (line before : List ℕ) (r : Result ℕ Refusal) (after : List ℕ) : Type 0 where
+  pub says : outcome r ≡ cond (leb 50 (length before)) (answer (length line)) (refusal 11)
   pub holds : after ≡ cond (leb 50 (length before)) (line ++ drop (length line) before) before

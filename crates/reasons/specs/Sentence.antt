@@ -5,17 +5,11 @@ use Rattle.refusals.specs.Outcome.{Outcome, answer, refusal, onward}
 use Rattle.reasons.specs.declared.sentences.Reason.{Reason}
 use Rattle.reasons.specs.sentences.Render.{render}
 use Rattle.reasons.specs.declared.Values.{Values}
-use Rattle.reasons.specs.declared.ReasonAnswer.{ReasonAnswer}
-use Rattle.reasons.specs.declared.ReasonAnswer.TheVariants.{Told, Refused}
 use Rattle.reasons.specs.Offending.{offending}
 
 -- the reason of a number, 1 to 28, by the values of its test; 18 for any other number
 unfoldable pub reason_of : ℕ → Values → Outcome Reason
 reason_of k values = cond (leb 1 k && leb k 28) (answer (record { number = k; named = offending k values })) (refusal 18)
-
-unfoldable pub reason_outcome : ReasonAnswer → Outcome Reason
-reason_outcome (Told r) = answer r
-reason_outcome (Refused k) = refusal k
 
 -- the sentence, or 18
 unfoldable pub sentence : ℕ → Values → Outcome (List ℕ)

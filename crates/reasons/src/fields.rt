@@ -4,8 +4,8 @@ ghost use Rattle.reasons.specs.Offending.{only_if, year_field, month_field, day_
 ghost use Rattle.reasons.specs.Offending.{float_field, nanos_field, block_field};
 
 use crate::sentences::Named;
-use julian::FractionAnswer;
 
+#[tactic(auto, unfolding(crate::specs::Offending::year_field))]
 fn year_field(year: i32) -> Named
     ensures { result ≡ year_field year }
 {
@@ -15,6 +15,7 @@ fn year_field(year: i32) -> Named
     Named::NoField
 }
 
+#[tactic(auto, unfolding(crate::specs::Offending::month_field))]
 fn month_field(month: i32) -> Named
     ensures { result ≡ month_field month }
 {
@@ -27,6 +28,7 @@ fn month_field(month: i32) -> Named
     Named::NoField
 }
 
+#[tactic(auto, unfolding(crate::specs::Offending::day_field))]
 fn day_field(year: i32, month: i32, day: i32) -> Named
     ensures { result ≡ day_field year month day }
 {
@@ -39,6 +41,7 @@ fn day_field(year: i32, month: i32, day: i32) -> Named
     Named::NoField
 }
 
+#[tactic(auto, unfolding(crate::specs::Offending::date_field))]
 pub(crate) fn date_field(number: u32, year: i32, month: i32, day: i32) -> Named
     ensures { result ≡ date_field number year month day }
 {
@@ -55,6 +58,7 @@ pub(crate) fn date_field(number: u32, year: i32, month: i32, day: i32) -> Named
 }
 
 // The first of hour, minute and second that is wrong.
+#[tactic(auto, unfolding(crate::specs::Offending::time_field, julian::specs::DayFraction::day_fraction, refusals::specs::Outcome::outcome))]
 fn first_wrong(hour: u8, minute: u8, second: f64, leap: f64) -> Named
     ensures { result ≡ time_field hour minute second leap }
 {
@@ -64,10 +68,10 @@ fn first_wrong(hour: u8, minute: u8, second: f64, leap: f64) -> Named
     if minute > 59 {
         return Named::Minute(minute);
     }
-    match julian::day_fraction(hour, minute, second, leap) {
-        FractionAnswer::Refused(_) => Named::Second(second),
-        FractionAnswer::Fraction(_) => Named::NoField,
+    if julian::day_fraction(hour, minute, second, leap).is_err() {
+        return Named::Second(second);
     }
+    Named::NoField
 }
 
 pub(crate) fn time_field(number: u32, hour: u8, minute: u8, second: f64, leap: f64) -> Named
@@ -90,6 +94,7 @@ fn sum_field(jd1: f64, jd2: f64) -> Named
 }
 
 // The first part that is not finite.
+#[tactic(auto, unfolding(crate::specs::Offending::part_field))]
 fn part_field(jd1: f64, jd2: f64) -> Named
     ensures { result ≡ part_field jd1 jd2 }
 {
@@ -102,6 +107,7 @@ fn part_field(jd1: f64, jd2: f64) -> Named
     Named::NoField
 }
 
+#[tactic(auto, unfolding(crate::specs::Offending::parts_field))]
 pub(crate) fn parts_field(number: u32, jd1: f64, jd2: f64) -> Named
     ensures { result ≡ parts_field number jd1 jd2 }
 {
@@ -114,6 +120,7 @@ pub(crate) fn parts_field(number: u32, jd1: f64, jd2: f64) -> Named
     Named::NoField
 }
 
+#[tactic(auto, unfolding(crate::specs::Offending::float_field, leap_table::specs::offsets::Offset::in_day))]
 pub(crate) fn float_field(number: u32, x: f64) -> Named
     ensures { result ≡ float_field number x }
 {
@@ -131,6 +138,7 @@ pub(crate) fn float_field(number: u32, x: f64) -> Named
     Named::NoField
 }
 
+#[tactic(auto, unfolding(crate::specs::Offending::nanos_field))]
 pub(crate) fn nanos_field(number: u32, n: u32) -> Named
     ensures { result ≡ only_if (eqb number 8) (nanos_field n) }
 {
@@ -143,6 +151,7 @@ pub(crate) fn nanos_field(number: u32, n: u32) -> Named
 }
 
 // Of a block: 12 the second size, 13 the size, 14 the whole length.
+#[tactic(auto, unfolding(crate::specs::Offending::block_field))]
 pub(crate) fn block_field(number: u32, length: u64, size: u32, second: u32) -> Named
     ensures { result ≡ block_field number length size second }
 {

@@ -5,12 +5,13 @@ mod fields;
 pub mod sentences;
 
 ghost use Rattle.std.specs.Prelude.{◌≡◌};
+ghost use Rattle.refusals.specs.Outcome.{outcome};
 ghost use Rattle.utc.specs.iso_texts.TextCall.{TextCall};
 ghost use Rattle.reasons.specs.Offending.{offending};
-ghost use Rattle.reasons.specs.Sentence.{reason_of, reason_outcome, sentence};
+ghost use Rattle.reasons.specs.Sentence.{reason_of, sentence};
 
 use crate::sentences::{Named, Reason};
-use utc::text::TextAnswer;
+use refusals::Refusal;
 
 // The values that a refusal's test reads; where none are at hand, `NoValues`.
 #[derive(Clone, Copy)]
@@ -30,14 +31,8 @@ pub enum Values {
     Block(u64, u32, u32),
 }
 
-// The reason, or the number of the refusal.
-#[derive(Clone, Copy)]
-pub enum ReasonAnswer {
-    Told(Reason),
-    Refused(u32),
-}
-
 // The field that the number names, of the values that are given.
+#[tactic(auto, unfolding(crate::specs::Offending::offending))]
 fn named_field(number: u32, values: Values) -> Named
     ensures { result ≡ offending number values }
 {
@@ -55,27 +50,27 @@ fn named_field(number: u32, values: Values) -> Named
 }
 
 // The reason of a number with the values of its test. 18: a number that is not 1 to 28.
-pub fn reason_of(number: u32, values: Values) -> ReasonAnswer
-    ensures { reason_outcome result ≡ reason_of number values }
+// kept: a number, not a `Refusal`, here and where it is handed on, since C asks by any number (ct_reason).
+#[tactic(auto, unfolding(crate::specs::Sentence::reason_of, refusals::specs::Outcome::outcome, refusals::specs::Refusal::refusal_number))]
+pub fn reason_of(number: u32, values: Values) -> Result<Reason, Refusal>
+    ensures { outcome result ≡ reason_of number values }
 {
     if number < 1 {
-        return ReasonAnswer::Refused(refusals::OUT_OF_LIMIT);
+        return Err(Refusal::OutOfLimit);
     }
     if number > 28 {
-        return ReasonAnswer::Refused(refusals::OUT_OF_LIMIT);
+        return Err(Refusal::OutOfLimit);
     }
-    ReasonAnswer::Told(Reason {
+    Ok(Reason {
         number,
         named: named_field(number, values),
     })
 }
 
 // The sentence of a number with the values of its test. Refusals in order: 18 a number that is not 1 to 28, then 11.
-pub fn put_reason(number: u32, values: Values, out: &mut [u8]) -> TextAnswer
+pub fn put_reason(number: u32, values: Values, out: &mut [u8]) -> Result<usize, Refusal>
     ensures { TextCall (sentence number values) out.old result out.new }
 {
-    match reason_of(number, values) {
-        ReasonAnswer::Refused(refused) => TextAnswer::Refused(refused),
-        ReasonAnswer::Told(reason) => crate::sentences::put_sentence(reason, out),
-    }
+    let reason = reason_of(number, values)?;
+    crate::sentences::put_sentence(reason, out)
 }

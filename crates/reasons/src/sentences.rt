@@ -7,7 +7,7 @@ ghost use Rattle.numerals.specs.digits.Placed.{Placed};
 ghost use Rattle.utc.specs.text.Answer.{TextPut};
 ghost use Rattle.reasons.specs.sentences.Render.{render};
 
-use utc::text::TextAnswer;
+use refusals::Refusal;
 
 // The field at fault, with its value.
 #[derive(Clone, Copy)]
@@ -50,13 +50,13 @@ fn compose(reason: Reason, dst: &mut [u8]) -> usize
 }
 
 // The sentence at the buffer's start; where it does not fit, 11 and nothing is written.
-pub fn put_sentence(reason: Reason, out: &mut [u8]) -> TextAnswer
+pub fn put_sentence(reason: Reason, out: &mut [u8]) -> Result<usize, Refusal>
     ensures { TextPut (render reason) out.old result out.new }
 {
     let mut all = [0u8; 90];
     let n = compose(reason, &mut all);
     if out.len() < n {
-        return TextAnswer::Refused(refusals::NO_ROOM);
+        return Err(Refusal::NoRoom);
     }
-    TextAnswer::Written(numerals::place::copy(&all[..n], out))
+    Ok(numerals::place::copy(&all[..n], out))
 }

@@ -1,2 +1,4 @@
--- The laws of going on with an outcome.
+-- The numbers of the refusals, and the laws of outcomes.
+pub mod Tags
 pub mod Onward
+pub mod Handed

@@ -1,24 +1,10 @@
 // The calendar by whole numbers: calls 20 to 23 and 27.
 use crate::words;
 use crate::words::Answer;
-use calendar::{CalendarDate, DateCheck, NextDay};
+use calendar::CalendarDate;
 
 fn date(d: CalendarDate) -> Answer {
     words::values(words::year_word(d.year), d.month as u64, d.day as u64, 0)
-}
-
-fn check(c: DateCheck) -> Answer {
-    match c {
-        DateCheck::Valid => words::values(0, 0, 0, 0),
-        DateCheck::Refused(number) => words::refused(number),
-    }
-}
-
-fn next(n: NextDay) -> Answer {
-    match n {
-        NextDay::Date(d) => date(d),
-        NextDay::Refused(number) => words::refused(number),
-    }
 }
 
 pub(crate) fn answered(call: u64, record: &[u8; 128]) -> Answer {
@@ -31,7 +17,9 @@ pub(crate) fn answered(call: u64, record: &[u8; 128]) -> Answer {
     match call {
         20 => words::truth(calendar::is_leap_year(year)),
         21 => words::values(calendar::days_in_month(year, month) as u64, 0, 0, 0),
-        22 => check(calendar::validate_calendar_date(year, month, day)),
-        _ => next(calendar::next_calendar_day(year, month, day)),
+        22 => words::told(calendar::validate_calendar_date(year, month, day).map(|_| words::values(
+            0, 0, 0, 0,
+        ))),
+        _ => words::told(calendar::next_calendar_day(year, month, day).map(date)),
     }
 }

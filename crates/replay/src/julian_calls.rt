@@ -1,52 +1,23 @@
 // Julian dates: calls 24 to 26 and 40 to 58.
 use crate::words;
 use crate::words::Answer;
-use julian::{CalendarAnswer, FractionAnswer, JulianAnswer, JulianDate, OffsetAnswer};
+use julian::day_number::DayNumber;
+use julian::{CalendarFields, JulianDate};
+use refusals::Refusal;
 
-fn found_date(a: JulianAnswer) -> Answer {
-    match a {
-        JulianAnswer::Date(d) => words::date(d),
-        JulianAnswer::Refused(number) => words::refused(number),
-    }
+fn fields(shown: CalendarFields) -> Answer {
+    let date = shown.date;
+    words::values(
+        words::year_word(date.year),
+        date.month as u64,
+        date.day as u64,
+        floats::to_bits(shown.fraction),
+    )
 }
 
-fn found_fields(a: CalendarAnswer) -> Answer {
-    match a {
-        CalendarAnswer::Fields(shown) => {
-            let date = shown.date;
-            words::values(
-                words::year_word(date.year),
-                date.month as u64,
-                date.day as u64,
-                floats::to_bits(shown.fraction),
-            )
-        }
-        CalendarAnswer::Refused(number) => words::refused(number),
-    }
-}
-
-fn found_day(a: julian::day_number::DayAnswer) -> Answer {
-    match a {
-        julian::day_number::DayAnswer::Day(found) => {
-            let day = numerals::little_endian::pattern_of_i64(found.day);
-            words::values(day, floats::to_bits(found.fraction), 0, 0)
-        }
-        julian::day_number::DayAnswer::Refused(number) => words::refused(number),
-    }
-}
-
-fn found_fraction(a: FractionAnswer) -> Answer {
-    match a {
-        FractionAnswer::Fraction(x) => words::float(x),
-        FractionAnswer::Refused(number) => words::refused(number),
-    }
-}
-
-fn found_offset(a: OffsetAnswer) -> Answer {
-    match a {
-        OffsetAnswer::Offset(x) => words::float(x),
-        OffsetAnswer::Refused(number) => words::refused(number),
-    }
+fn day_and_fraction(found: DayNumber) -> Answer {
+    let day = numerals::little_endian::pattern_of_i64(found.day);
+    words::values(day, floats::to_bits(found.fraction), 0, 0)
 }
 
 // Two parts to a calendar date, and back.
@@ -57,13 +28,15 @@ pub(crate) fn calendar_answered(call: u64, record: &[u8; 128]) -> Answer {
     let month = words::small_at(record, 2);
     let day = words::small_at(record, 3);
     match call {
-        24 => found_date(julian::calendar_to_julian(year, month, day)),
-        25 => found_fields(julian::julian_to_calendar(jd1, jd2)),
-        _ => found_day(julian::day_number::day_number_and_fraction(jd1, jd2)),
+        24 => words::told(julian::calendar_to_julian(year, month, day).map(words::date)),
+        25 => words::told(julian::julian_to_calendar(jd1, jd2).map(fields)),
+        _ => words::told(julian::day_number::day_number_and_fraction(jd1, jd2).map(
+            day_and_fraction,
+        )),
     }
 }
 
-fn from_calendar(record: &[u8; 128]) -> JulianAnswer {
+fn from_calendar(record: &[u8; 128]) -> Result<JulianDate, Refusal> {
     JulianDate::from_calendar(
         words::small_at(record, 1),
         words::byte_at(record, 2),
@@ -74,7 +47,7 @@ fn from_calendar(record: &[u8; 128]) -> JulianAnswer {
     )
 }
 
-fn day_fraction(record: &[u8; 128]) -> FractionAnswer {
+fn day_fraction(record: &[u8; 128]) -> Result<f64, Refusal> {
     julian::day_fraction(
         words::byte_at(record, 1),
         words::byte_at(record, 2),
@@ -110,11 +83,11 @@ pub(crate) fn answered(call: u64, record: &[u8; 128]) -> Answer {
     let date = words::date_at(record, 1);
     let other = words::date_at(record, 3);
     match call {
-        50 => found_date(from_calendar(record)),
+        50 => words::told(from_calendar(record).map(words::date)),
         51 => words::float(date.to_julian_year()),
         52 => words::date(JulianDate::from_julian_year(words::float_at(record, 1))),
-        53 => words::truth(date.eq(other)),
-        54 => words::float(date.sub(other)),
+        53 => words::truth(date == other),
+        54 => words::float(date - other),
         55 => {
             let exact = julian::exact_sum(words::float_at(record, 1), words::float_at(record, 2));
             words::values(
@@ -124,8 +97,8 @@ pub(crate) fn answered(call: u64, record: &[u8; 128]) -> Answer {
                 0,
             )
         }
-        56 => found_fraction(day_fraction(record)),
-        57 => found_date(julian::finite_jd(date)),
-        _ => found_offset(julian::finite_arg(words::float_at(record, 1))),
+        56 => words::told(day_fraction(record).map(words::float)),
+        57 => words::told(julian::finite_jd(date).map(words::date)),
+        _ => words::told(julian::finite_arg(words::float_at(record, 1)).map(words::float)),
     }
 }

@@ -49,19 +49,13 @@ fn agrees(record: &[u8; 128]) -> bool {
 }
 
 fn counted(t: Tally, same: bool) -> Tally {
-    let replayed = std::num::wrapping_add_u64(t.replayed, 1);
-    if same {
-        return Tally {
-            replayed,
-            differ: t.differ,
-        };
-    }
     Tally {
-        replayed,
-        differ: std::num::wrapping_add_u64(t.differ, 1),
+        replayed: t.replayed.wrapping_add(1),
+        differ: t.differ.wrapping_add(u64::from(!same)),
     }
 }
 
+// kept: as in sofa_checks' tally, three writes: neither program stands on the other.
 fn say(words: &[u8], number: u64) {
     io::write_all(1, words);
     io::print_decimal(1, number);

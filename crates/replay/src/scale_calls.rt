@@ -1,59 +1,7 @@
 // The scales: calls 80 to 95, a scale around a date, and 100 to 115, the conversions that read no table.
 use crate::words;
 use crate::words::Answer;
-use scales::{
-    GPS, GpsAnswer, TAI, TCB, TCG, TDB, TT, TaiAnswer, TcbAnswer, TcgAnswer, TdbAnswer, TtAnswer,
-    UT1, UTC, Ut1Answer,
-};
-
-fn found_tai(a: TaiAnswer) -> Answer {
-    match a {
-        TaiAnswer::Date(tai) => words::date(tai.0),
-        TaiAnswer::Refused(number) => words::refused(number),
-    }
-}
-
-fn found_ut1(a: Ut1Answer) -> Answer {
-    match a {
-        Ut1Answer::Date(ut1) => words::date(ut1.0),
-        Ut1Answer::Refused(number) => words::refused(number),
-    }
-}
-
-fn found_tt(a: TtAnswer) -> Answer {
-    match a {
-        TtAnswer::Date(tt) => words::date(tt.0),
-        TtAnswer::Refused(number) => words::refused(number),
-    }
-}
-
-fn found_gps(a: GpsAnswer) -> Answer {
-    match a {
-        GpsAnswer::Date(gps) => words::date(gps.0),
-        GpsAnswer::Refused(number) => words::refused(number),
-    }
-}
-
-fn found_tcg(a: TcgAnswer) -> Answer {
-    match a {
-        TcgAnswer::Date(tcg) => words::date(tcg.0),
-        TcgAnswer::Refused(number) => words::refused(number),
-    }
-}
-
-fn found_tcb(a: TcbAnswer) -> Answer {
-    match a {
-        TcbAnswer::Date(tcb) => words::date(tcb.0),
-        TcbAnswer::Refused(number) => words::refused(number),
-    }
-}
-
-fn found_tdb(a: TdbAnswer) -> Answer {
-    match a {
-        TdbAnswer::Date(tdb) => words::date(tdb.0),
-        TdbAnswer::Refused(number) => words::refused(number),
-    }
-}
+use scales::{GPS, TAI, TCB, TCG, TDB, TT, UT1, UTC};
 
 // Around a date and out again.
 fn around(call: u64, record: &[u8; 128]) -> Answer {
@@ -87,16 +35,16 @@ fn out_again(call: u64, record: &[u8; 128]) -> Answer {
 fn converted(call: u64, record: &[u8; 128]) -> Answer {
     let date = words::date_at(record, 1);
     match call {
-        100 => found_tai(scales::gps_tai::gps_to_tai(GPS(date))),
-        101 => found_gps(scales::gps_tai::tai_to_gps(TAI(date))),
-        102 => found_tt(scales::tai_tt::tai_to_tt(TAI(date))),
-        103 => found_tai(scales::tai_tt::tt_to_tai(TT(date))),
-        104 => found_tcg(scales::tai_tt::tai_to_tcg(TAI(date))),
-        105 => found_tai(scales::tai_tt::tcg_to_tai(TCG(date))),
-        106 => found_tcg(scales::tt_tcg::tt_to_tcg(TT(date))),
-        107 => found_tt(scales::tt_tcg::tcg_to_tt(TCG(date))),
-        108 => found_tdb(scales::tcb_tdb::tcb_to_tdb(TCB(date))),
-        _ => found_tcb(scales::tcb_tdb::tdb_to_tcb(TDB(date))),
+        100 => words::told(scales::gps_tai::gps_to_tai(GPS(date)).map(|tai| words::date(tai.0))),
+        101 => words::told(scales::gps_tai::tai_to_gps(TAI(date)).map(|gps| words::date(gps.0))),
+        102 => words::told(scales::tai_tt::tai_to_tt(TAI(date)).map(|tt| words::date(tt.0))),
+        103 => words::told(scales::tai_tt::tt_to_tai(TT(date)).map(|tai| words::date(tai.0))),
+        104 => words::told(scales::tai_tt::tai_to_tcg(TAI(date)).map(|tcg| words::date(tcg.0))),
+        105 => words::told(scales::tai_tt::tcg_to_tai(TCG(date)).map(|tai| words::date(tai.0))),
+        106 => words::told(scales::tt_tcg::tt_to_tcg(TT(date)).map(|tcg| words::date(tcg.0))),
+        107 => words::told(scales::tt_tcg::tcg_to_tt(TCG(date)).map(|tt| words::date(tt.0))),
+        108 => words::told(scales::tcb_tdb::tcb_to_tdb(TCB(date)).map(|tdb| words::date(tdb.0))),
+        _ => words::told(scales::tcb_tdb::tdb_to_tcb(TDB(date)).map(|tcb| words::date(tcb.0))),
     }
 }
 
@@ -104,12 +52,24 @@ fn converted_by(call: u64, record: &[u8; 128]) -> Answer {
     let date = words::date_at(record, 1);
     let seconds = words::float_at(record, 3);
     match call {
-        110 => found_tdb(scales::tt_tdb::tt_to_tdb_with_offset(TT(date), seconds)),
-        111 => found_tt(scales::tt_tdb::tdb_to_tt_with_offset(TDB(date), seconds)),
-        112 => found_tai(scales::ut1_tai::ut1_to_tai_with_offset(UT1(date), seconds)),
-        113 => found_ut1(scales::ut1_tai::tai_to_ut1_with_offset(TAI(date), seconds)),
-        114 => found_tt(scales::ut1_tai::ut1_to_tt_with_delta_t(UT1(date), seconds)),
-        _ => found_ut1(scales::ut1_tai::tt_to_ut1_with_delta_t(TT(date), seconds)),
+        110 => words::told(scales::tt_tdb::tt_to_tdb_with_offset(TT(date), seconds).map(
+            |tdb| words::date(tdb.0),
+        )),
+        111 => words::told(scales::tt_tdb::tdb_to_tt_with_offset(TDB(date), seconds).map(
+            |tt| words::date(tt.0),
+        )),
+        112 => words::told(scales::ut1_tai::ut1_to_tai_with_offset(UT1(date), seconds).map(
+            |tai| words::date(tai.0),
+        )),
+        113 => words::told(scales::ut1_tai::tai_to_ut1_with_offset(TAI(date), seconds).map(
+            |ut1| words::date(ut1.0),
+        )),
+        114 => words::told(scales::ut1_tai::ut1_to_tt_with_delta_t(UT1(date), seconds).map(
+            |tt| words::date(tt.0),
+        )),
+        _ => words::told(scales::ut1_tai::tt_to_ut1_with_delta_t(TT(date), seconds).map(
+            |ut1| words::date(ut1.0),
+        )),
     }
 }
 

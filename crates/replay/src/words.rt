@@ -1,7 +1,9 @@
 // The words of a record: a request of eight, the call's number first, then the Rust's answer of eight, the refusal's number first.
 use julian::JulianDate;
+use refusals::Refusal;
 
 // An answer: the refusal's number, or 0 and the values.
+// kept: a number and no `Result`, since these are the six words of a record, which `same` compares one by one, and a refused text has its buffer beside it.
 #[derive(Clone, Copy)]
 pub(crate) struct Answer {
     pub number: u64,
@@ -23,9 +25,9 @@ pub(crate) fn values(first: u64, second: u64, third: u64, fourth: u64) -> Answer
     }
 }
 
-pub(crate) fn refused(number: u32) -> Answer {
+pub(crate) fn refused(refusal: Refusal) -> Answer {
     Answer {
-        number: number as u64,
+        number: refusal.number() as u64,
         first: 0,
         second: 0,
         third: 0,
@@ -34,12 +36,13 @@ pub(crate) fn refused(number: u32) -> Answer {
     }
 }
 
+// What a call that may refuse says.
+pub(crate) fn told(found: Result<Answer, Refusal>) -> Answer {
+    found.unwrap_or_else(refused)
+}
+
 pub(crate) fn truth(b: bool) -> Answer {
-    if b {
-        values(1, 0, 0, 0)
-    } else {
-        values(0, 0, 0, 0)
-    }
+    values(u64::from(b), 0, 0, 0)
 }
 
 pub(crate) fn float(x: f64) -> Answer {
@@ -57,14 +60,7 @@ pub(crate) fn signed_at(record: &[u8; 128], k: usize) -> i64 {
 
 // A number of 32 bits; the list has no other where this is asked.
 pub(crate) fn small_at(record: &[u8; 128], k: usize) -> i32 {
-    let n = signed_at(record, k);
-    if n < -2147483648 {
-        return 0;
-    }
-    if n > 2147483647 {
-        return 0;
-    }
-    n as i32
+    i32::try_from(signed_at(record, k)).unwrap_or(0)
 }
 
 pub(crate) fn word_at(record: &[u8; 128], k: usize) -> u64 {
@@ -78,6 +74,7 @@ pub(crate) fn year_word(year: i32) -> u64 {
     numerals::little_endian::pattern_of_i64(year as i64)
 }
 
+// kept: one line for each width, since a cast names its type.
 pub(crate) fn byte_at(record: &[u8; 128], k: usize) -> u8 {
     (word_at(record, k) % 256) as u8
 }

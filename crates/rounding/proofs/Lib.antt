@@ -20,6 +20,8 @@ pub mod Scaled
 pub mod Relative
 -- Compare: a comparison of floats is the comparison of their values: lt-val, eq-val and le-val, and what a test says of the values and they of it.
 pub mod Compare
+-- EqualSums: sums of equal floats are both finite or both not.
+pub mod EqualSums
 -- Range: a test such as |x| < 2 ^ k as bounds on the value.
 pub mod Range
 -- Casts: an integer as a float and a float as an integer.

@@ -8,12 +8,15 @@ use mathlib.Core.List.{List}
 use lib.Dec.{eqb, leb}
 use lib.ListN.{length}
 use borrow.Author.Tests.{eq-eqb, ne_eqb, le-leb, lt-leb, eqb-true, leb-true}
-use Rattle.refusals.specs.Outcome.{Outcome, answer, refusal}
+use Rattle.std.specs.Prelude.{Result, Ok, IsErrAnd}
+use Rattle.refusals.specs.declared.Refusal.{Refusal}
+use Rattle.refusals.specs.Refusal.{refusal_number}
+use Rattle.refusals.proofs.Handed.{handed_on, number_low}
+use Rattle.refusals.specs.Outcome.{Outcome, answer, refusal, outcome}
 use Rattle.leap_table.specs.rows.Table.{Row}
 use Rattle.leap_table.specs.rows.Announced.{unless_refused}
-use Rattle.runs.specs.declared.by_formula.RunAnswer.TheVariants as Answer
 use Rattle.runs.specs.ways.Ways.{is_run_scale}
-use Rattle.runs.specs.by_formula.Run.{run_outcome, refused_among, run_call, run_written}
+use Rattle.runs.specs.by_formula.Run.{refused_among, run_call, run_written}
 use Rattle.runs.specs.Run.{stamp_answer, run_refusal, run_by, converted_run}
 use Rattle.runs.specs.by_formula.Asked.{Roomy, RunPut}
 use Rattle.runs.proofs.by_formula.Puts.{at_most}
@@ -123,15 +126,17 @@ module _ (from to size1 size2 room1 room2 room : ℕ) where
       refl refl refl refl refl refl refl refl z
 
 -- ---- the call
-module _ (rows : List Row) (from to : ℕ) (js ks out1 out2 numbers : List ℕ) (number : ℕ)
-    (en : number ≡ run_refusal from to (length js) (length ks) (length out1) (length out2) (length numbers)) where
-  pub run-refused : (number ≡ 0 → ⊥) → run_call (run_outcome (Answer.Refused number)) out1 out2 numbers ≡ run_by rows from to js ks out1 out2 numbers
-  unfolding run_by run_outcome
-  run-refused h = rw (← en, ne_eqb number 0 h)
+module _ (rows : List Row) (from to : ℕ) (js ks out1 out2 numbers : List ℕ) where
+  -- what the call answers where it hands on the refusal k of its scales or lengths
+  pub run-refused : (s : Result ℕ Refusal) (k : Refusal) → IsErrAnd s (λ e. e ≡ k)
+      → refusal_number k ≡ run_refusal from to (length js) (length ks) (length out1) (length out2) (length numbers)
+      → run_call (outcome s) out1 out2 numbers ≡ run_by rows from to js ks out1 out2 numbers
+  unfolding run_by
+  run-refused s k p e = rw (handed_on s k p, ← e, ne_eqb (refusal_number k) 0 (λ z. omega (arith, z, number_low k)))
 
-  module _ (z : number ≡ 0) where
+  module _ (z : 0 ≡ run_refusal from to (length js) (length ks) (length out1) (length out2) (length numbers)) where
     fits : Fitting from to (length js) (length ks) (length out1) (length out2) (length numbers)
-    fits = fitting from to (length js) (length ks) (length out1) (length out2) (length numbers) (sym en ∙ z)
+    fits = fitting from to (length js) (length ks) (length out1) (length out2) (length numbers) (sym z)
 
     pub roomy : Roomy (length js / 8) js ks out1 out2 numbers
     roomy =
@@ -145,9 +150,9 @@ module _ (rows : List Row) (from to : ℕ) (js ks out1 out2 numbers : List ℕ) 
         }
 
     pub run_ends : (r : ℕ) (out1' out2' numbers' : List ℕ) → RunPut (stamp_answer rows from to js ks) (length js / 8) out1 out2 numbers r out1' out2' numbers'
-        → run_call (run_outcome (Answer.Converted r)) out1' out2' numbers' ≡ run_by rows from to js ks out1 out2 numbers
-    unfolding run_by run_outcome run_written
-    run_ends r out1' out2' numbers' p = rw (← en, eq-eqb number 0 z, p.count, p.first, p.second, p.third)
+        → run_call (outcome (Ok r)) out1' out2' numbers' ≡ run_by rows from to js ks out1 out2 numbers
+    unfolding run_by outcome run_written
+    run_ends r out1' out2' numbers' p = rw (← z, p.count, p.first, p.second, p.third)
 
 -- ---- at most all stamps are refused
 pub run-count : (rows : List Row) (from to : ℕ) (js ks out1 out2 numbers : List ℕ) (k : ℕ) → answer k ≡ (run_by rows from to js ks out1 out2 numbers).answer
@@ -167,8 +172,8 @@ run-count rows from to js ks out1 out2 numbers k e = go (eqb number 0) e
 
 -- ---- the call that tests its table: the number n that is found, and the rows
 module _ (o : Outcome (List Row)) (rows : List Row) (n : ℕ) (e : unless_refused n rows ≡ o) (from to : ℕ) (js ks out1 out2 numbers : List ℕ) where
-  pub table-refused : (n ≡ 0 → ⊥) → run_call (run_outcome (Answer.Refused n)) out1 out2 numbers ≡ converted_run o from to js ks out1 out2 numbers
-  unfolding converted_run run_outcome
+  pub table-refused : (n ≡ 0 → ⊥) → run_call (refusal n) out1 out2 numbers ≡ converted_run o from to js ks out1 out2 numbers
+  unfolding converted_run
   table-refused h = go n h ∙ ap (λ (x : Outcome (List Row)). converted_run x from to js ks out1 out2 numbers) e
     where
       go : (k : ℕ) → (k ≡ 0 → ⊥) → run_call (refusal k) out1 out2 numbers ≡ converted_run (unless_refused k rows) from to js ks out1 out2 numbers

@@ -3,9 +3,9 @@
 ghost use Rattle.std.specs.Prelude.{◌≡◌, true, false, ◌≤◌, pos, nat_abs, ◌-ℤ◌, eqb};
 ghost use Rattle.std.specs.Float.{binary64};
 ghost use Rattle.std.specs.Float.Ieee.{of_int};
-ghost use Rattle.refusals.specs.Outcome.{onward};
-ghost use Rattle.julian.specs.JulianDate.{julian, julian_outcome};
-ghost use Rattle.leap_table.specs.rows.Announced.{rows_in};
+ghost use Rattle.refusals.specs.Outcome.{onward, outcome};
+ghost use Rattle.julian.specs.JulianDate.{julian};
+ghost use Rattle.leap_table.specs.rows.Announced.{rows_of};
 ghost use Rattle.utc_scales.specs.UtcTai.{utc_to_tai, tai_to_utc};
 ghost use Rattle.runs.specs.ways.Ways.{into_tai, out_of_tai, way_of};
 ghost use Rattle.runs.specs.ways.Asked.{reads_day};
@@ -13,12 +13,16 @@ ghost use Rattle.runs.specs.by_day.Hand as D;
 
 use constants::SECONDS_PER_DAY_F64;
 use constants::scale_numbers::UTC;
-use julian::{JulianAnswer, JulianDate};
-use leap_table::offsets::{DayByRule, DayOffsets};
+use julian::JulianDate;
+use julian::day_number::{DJMAX, DJMIN};
+use leap_table::offsets::DayOffsets;
+use leap_table::rows::AnnouncedRows;
+use refusals::Refusal;
 
 // The day whose midnight is the Julian date `midnight`: `top` is 1.0 where it serves, 0.0 where it was looked up and serves no stamp, and below 0.0 where it
 // was not looked up; `zero` is what the midnight and its Modified Julian Date come to, `leap` and `drift` are the factors of the day's length, and `start` is
 // TAI-UTC at 0h in days.
+// kept: `top` and no enum: `RightHand`, `hand_of` and `serves_none` (specs/by_day/Hand), by which the contracts here go, speak of the fields.
 #[derive(Clone, Copy)]
 pub(crate) struct DayInHand {
     pub midnight: f64,
@@ -29,32 +33,8 @@ pub(crate) struct DayInHand {
     pub start: f64,
 }
 
-// A date by the day in hand, where it serves.
-#[derive(Clone, Copy)]
-pub(crate) enum ByHand {
-    Date(JulianDate),
-    Elsewhere,
-}
-
-// The fraction of the day of a midnight, where a part lies in it.
-#[derive(Clone, Copy)]
-enum InDay {
-    Fraction(f64),
-    Elsewhere,
-}
-
-// The smaller part after a round of TAI to UTC, where the day in hand serves its guess.
-#[derive(Clone, Copy)]
-enum Round {
-    Part(f64),
-    Elsewhere,
-}
-
-const DJMIN: f64 = -68569.5;
-
-const DJMAX: f64 = 1e9;
-
 // A midnight whose day serves no stamp.
+#[tactic(auto, using(floats::proofs::Cases::literals), unfolding(crate::specs::by_day::Hand::serves_none))]
 fn serves_none(midnight: f64, top: f64) -> DayInHand
     ensures { result ≡ D.serves_none midnight top }
 {
@@ -91,6 +71,7 @@ fn hand_of(midnight: f64, mjd: f64, o: DayOffsets) -> DayInHand
     }
 }
 
+// kept: as `mjd_of` in utc_scales::days, which has a `requires`, so that it is not public (a rule of the project).
 fn mjd_of(day: i64) -> f64
     requires { nat_abs day ≤ 1000000000 }
     ensures { result ≡ of_int binary64 (day -ℤ pos 2400001) }
@@ -99,21 +80,18 @@ fn mjd_of(day: i64) -> f64
 }
 
 // The day of a midnight, looked up.
-fn look_up<'a>(
-    midnight: f64,
-    size: usize,
-    months: &'a [i32; 16],
-    seconds: &'a [i32; 16],
-) -> DayInHand
-    ensures { D.RightHand (rows_in size months.now seconds.now) result }
+// kept: beside kept_day of utc's run_texts: what is kept and the last midnight differ, and one body would take the look-up as a closure with its contract.
+// kept: `match`, since both arms give a value: a day that is refused is kept too, as one that serves no stamp.
+fn look_up(midnight: f64, table: &AnnouncedRows) -> DayInHand
+    ensures { D.RightHand (rows_of table.now) result }
 {
     let w = floats::nearest_whole(midnight);
     if midnight - w.value == -0.5 {
         if midnight >= 1.0 {
             if midnight <= DJMAX {
-                return match utc_scales::day_of(w.number, size, months, seconds) {
-                    DayByRule::Refused(_) => serves_none(midnight, 0.0),
-                    DayByRule::Day(o, _) => hand_of(midnight, mjd_of(w.number), o),
+                return match utc_scales::day_of(w.number, table) {
+                    Err(_) => serves_none(midnight, 0.0),
+                    Ok((o, _)) => hand_of(midnight, mjd_of(w.number), o),
                 };
             }
         }
@@ -122,19 +100,13 @@ fn look_up<'a>(
 }
 
 // The day in hand for a stamp whose first part is jd1: it stays where it has this midnight, and is looked up where the stamp before had it too.
-pub(crate) fn next_day<'a>(
-    jd1: f64,
-    hand: DayInHand,
-    size: usize,
-    months: &'a [i32; 16],
-    seconds: &'a [i32; 16],
-) -> DayInHand
-    requires { D.RightHand (rows_in size months.now seconds.now) hand }
-    ensures { D.RightHand (rows_in size months.now seconds.now) result }
+pub(crate) fn next_day(jd1: f64, hand: DayInHand, table: &AnnouncedRows) -> DayInHand
+    requires { D.RightHand (rows_of table.now) hand }
+    ensures { D.RightHand (rows_of table.now) result }
 {
     if jd1 == hand.midnight {
         if hand.top < 0.0 {
-            return look_up(jd1, size, months, seconds);
+            return look_up(jd1, table);
         }
         return hand;
     }
@@ -149,7 +121,8 @@ pub(crate) fn next_day<'a>(
 }
 
 // The fraction of the day of any midnight that jd2 lies in, as `julian::day_number` has it.
-fn fraction_in_day(small: f64) -> InDay
+#[tactic(auto, using(crate::proofs::by_day::Days::none_found))]
+fn fraction_in_day(small: f64) -> Option<f64>
     ensures { D.FindsFraction small result }
 {
     let w = floats::nearest_whole(small);
@@ -157,21 +130,22 @@ fn fraction_in_day(small: f64) -> InDay
     if fraction >= 0.0 {
         if fraction < 1.0 {
             if w.number == 0 {
-                return InDay::Fraction(fraction);
+                return Some(fraction);
             }
         }
     } else if fraction > -1.0 {
         let more = fraction + 1.0;
         if more < 1.0 {
             if w.number == 1 {
-                return InDay::Fraction(more);
+                return Some(more);
             }
         }
     }
-    InDay::Elsewhere
+    None
 }
 
 // The smaller part in TAI.
+#[tactic(auto, unfolding(crate::specs::by_day::Hand::tai_part))]
 fn tai_part(fraction: f64, h: DayInHand) -> f64
     ensures { result ≡ D.tai_part h fraction }
 {
@@ -179,29 +153,23 @@ fn tai_part(fraction: f64, h: DayInHand) -> f64
 }
 
 // UTC to TAI by the day in hand, where its midnight is `big`.
-fn tai_in_range(big: f64, small: f64, hand: DayInHand) -> ByHand
+#[tactic(auto, using(crate::proofs::by_day::Days::none_found))]
+fn tai_in_range(big: f64, small: f64, hand: DayInHand) -> Option<JulianDate>
     ensures { D.FindsTaiOf (julian big small) hand result }
 {
     let sum = big + small;
     if sum >= DJMIN {
         if sum <= DJMAX {
-            return match fraction_in_day(small) {
-                InDay::Elsewhere => ByHand::Elsewhere,
-                InDay::Fraction(f) => {
-                    let part = tai_part(f, hand);
-                    ByHand::Date(JulianDate {
-                        jd1: big,
-                        jd2: part,
-                    })
-                }
-            };
+            let fraction = fraction_in_day(small)?;
+            return Some(JulianDate::new(big, tai_part(fraction, hand)));
         }
     }
-    ByHand::Elsewhere
+    None
 }
 
 // UTC to TAI by the day in hand.
-pub(crate) fn quick_tai(big: f64, small: f64, hand: DayInHand) -> ByHand
+#[tactic(auto, using(crate::proofs::by_day::Days::none_found))]
+pub(crate) fn quick_tai(big: f64, small: f64, hand: DayInHand) -> Option<JulianDate>
     ensures { D.FindsTai (julian big small) hand result }
 {
     if hand.top > 0.0 {
@@ -213,125 +181,104 @@ pub(crate) fn quick_tai(big: f64, small: f64, hand: DayInHand) -> ByHand
             }
         }
     }
-    ByHand::Elsewhere
+    None
 }
 
 // One round of TAI to UTC by the day in hand.
-fn quick_round(big: f64, small: f64, guess: f64, hand: DayInHand) -> Round
+#[tactic(auto, using(crate::proofs::by_day::Days::none_found))]
+fn quick_round(big: f64, small: f64, guess: f64, hand: DayInHand) -> Option<f64>
     ensures { D.FindsRound big small guess hand result }
 {
-    match quick_tai(big, guess, hand) {
-        ByHand::Elsewhere => Round::Elsewhere,
-        ByHand::Date(tai) => {
-            let moved = guess + (big - tai.jd1);
-            Round::Part(moved + (small - tai.jd2))
-        }
-    }
+    let tai = quick_tai(big, guess, hand)?;
+    let moved = guess + (big - tai.jd1);
+    Some(moved + (small - tai.jd2))
 }
 
 // TAI to UTC by the day in hand: three rounds, each on this day.
-fn quick_utc(big: f64, small: f64, hand: DayInHand) -> ByHand
+#[tactic(auto, using(crate::proofs::by_day::Days::none_found))]
+fn quick_utc(big: f64, small: f64, hand: DayInHand) -> Option<JulianDate>
     ensures { D.FindsUtc (julian big small) hand result }
 {
-    match quick_round(big, small, small, hand) {
-        Round::Elsewhere => ByHand::Elsewhere,
-        Round::Part(x) => match quick_round(big, small, x, hand) {
-            Round::Elsewhere => ByHand::Elsewhere,
-            Round::Part(y) => match quick_round(big, small, y, hand) {
-                Round::Elsewhere => ByHand::Elsewhere,
-                Round::Part(z) => ByHand::Date(JulianDate { jd1: big, jd2: z }),
-            },
-        },
-    }
+    let one = quick_round(big, small, small, hand)?;
+    let two = quick_round(big, small, one, hand)?;
+    let three = quick_round(big, small, two, hand)?;
+    Some(JulianDate::new(big, three))
 }
 
+// kept: the two directions apart. One body would take the quick way and the plain one as closures, each with a contract as long as these.
 // UTC to TAI by the day in hand where it serves, and else by the plain conversion.
-fn utc_into_tai_with<'a>(
+fn utc_into_tai_with(
     jd: JulianDate,
     hand: DayInHand,
-    size: usize,
-    months: &'a [i32; 16],
-    seconds: &'a [i32; 16],
-) -> JulianAnswer
-    requires { D.RightHand (rows_in size months.now seconds.now) hand }
-    ensures { julian_outcome result ≡ utc_to_tai (rows_in size months.now seconds.now) jd }
+    table: &AnnouncedRows,
+) -> Result<JulianDate, Refusal>
+    requires { D.RightHand (rows_of table.now) hand }
+    ensures { outcome result ≡ utc_to_tai (rows_of table.now) jd }
 {
     match quick_tai(jd.jd1, jd.jd2, hand) {
-        ByHand::Date(d) => JulianAnswer::Date(d),
-        ByHand::Elsewhere => crate::ways::utc_into_tai(jd, size, months, seconds),
+        Some(d) => Ok(d),
+        None => crate::ways::utc_into_tai(jd, table),
     }
 }
 
 // TAI to UTC in the same way.
-fn tai_into_utc_with<'a>(
+fn tai_into_utc_with(
     jd: JulianDate,
     hand: DayInHand,
-    size: usize,
-    months: &'a [i32; 16],
-    seconds: &'a [i32; 16],
-) -> JulianAnswer
-    requires { D.RightHand (rows_in size months.now seconds.now) hand }
-    ensures { julian_outcome result ≡ tai_to_utc (rows_in size months.now seconds.now) jd }
+    table: &AnnouncedRows,
+) -> Result<JulianDate, Refusal>
+    requires { D.RightHand (rows_of table.now) hand }
+    ensures { outcome result ≡ tai_to_utc (rows_of table.now) jd }
 {
     match quick_utc(jd.jd1, jd.jd2, hand) {
-        ByHand::Date(d) => JulianAnswer::Date(d),
-        ByHand::Elsewhere => crate::ways::tai_into_utc(jd, size, months, seconds),
+        Some(d) => Ok(d),
+        None => crate::ways::tai_into_utc(jd, table),
     }
 }
 
 // UTC in another scale, through TAI.
-fn out_of_utc<'a>(
+fn out_of_utc(
     to: u32,
     jd: JulianDate,
     hand: DayInHand,
-    size: usize,
-    months: &'a [i32; 16],
-    seconds: &'a [i32; 16],
-) -> JulianAnswer
-    requires { D.RightHand (rows_in size months.now seconds.now) hand × (eqb to 0 ≡ false) }
-    ensures { julian_outcome result ≡ onward (utc_to_tai (rows_in size months.now seconds.now) jd)
-        (out_of_tai (rows_in size months.now seconds.now) to) }
+    table: &AnnouncedRows,
+) -> Result<JulianDate, Refusal>
+    requires { D.RightHand (rows_of table.now) hand × (eqb to 0 ≡ false) }
+    ensures { outcome result ≡ onward (utc_to_tai (rows_of table.now) jd)
+        (out_of_tai (rows_of table.now) to) }
 {
-    match utc_into_tai_with(jd, hand, size, months, seconds) {
-        JulianAnswer::Refused(n) => JulianAnswer::Refused(n),
-        JulianAnswer::Date(tai) => crate::ways::out_of_tai_by_formula(to, tai),
-    }
+    let tai = utc_into_tai_with(jd, hand, table)?;
+    crate::ways::out_of_tai_by_formula(to, tai)
 }
 
 // Another scale in UTC, through TAI.
-fn into_utc<'a>(
+fn into_utc(
     from: u32,
     jd: JulianDate,
     hand: DayInHand,
-    size: usize,
-    months: &'a [i32; 16],
-    seconds: &'a [i32; 16],
-) -> JulianAnswer
-    requires { D.RightHand (rows_in size months.now seconds.now) hand × (eqb from 0 ≡ false) }
-    ensures { julian_outcome result ≡ onward (into_tai (rows_in size months.now seconds.now) from jd)
-        (tai_to_utc (rows_in size months.now seconds.now)) }
+    table: &AnnouncedRows,
+) -> Result<JulianDate, Refusal>
+    requires { D.RightHand (rows_of table.now) hand × (eqb from 0 ≡ false) }
+    ensures { outcome result ≡ onward (into_tai (rows_of table.now) from jd)
+        (tai_to_utc (rows_of table.now)) }
 {
-    match crate::ways::into_tai_by_formula(from, jd) {
-        JulianAnswer::Refused(n) => JulianAnswer::Refused(n),
-        JulianAnswer::Date(tai) => tai_into_utc_with(tai, hand, size, months, seconds),
-    }
+    let tai = crate::ways::into_tai_by_formula(from, jd)?;
+    tai_into_utc_with(tai, hand, table)
 }
 
 // The date in scale `to` of a date in scale `from`, where the way reads a day: by the day in hand where it serves, and else by the plain conversion.
-pub(crate) fn convert_with<'a>(
+pub(crate) fn convert_with(
     from: u32,
     to: u32,
     jd: JulianDate,
     hand: DayInHand,
-    size: usize,
-    months: &'a [i32; 16],
-    seconds: &'a [i32; 16],
-) -> JulianAnswer
-    requires { D.RightHand (rows_in size months.now seconds.now) hand × (reads_day from to ≡ true) }
-    ensures { julian_outcome result ≡ way_of (rows_in size months.now seconds.now) from to jd }
+    table: &AnnouncedRows,
+) -> Result<JulianDate, Refusal>
+    requires { D.RightHand (rows_of table.now) hand × (reads_day from to ≡ true) }
+    ensures { outcome result ≡ way_of (rows_of table.now) from to jd }
 {
     if from == UTC {
-        return out_of_utc(to, jd, hand, size, months, seconds);
+        return out_of_utc(to, jd, hand, table);
     }
-    into_utc(from, jd, hand, size, months, seconds)
+    into_utc(from, jd, hand, table)
 }

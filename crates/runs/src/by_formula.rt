@@ -1,26 +1,32 @@
 // A run by one conversion that reads no table, with an offset for each stamp where one is taken. The parts of the stamps, the offsets and the parts of the
 // dates are bytes, eight each, the lowest first.
+// kept: the parts stay bytes in two slices, and the parts that are written and the numbers in three, as C lends them (ct_formula_run).
 mod changes;
 mod offsets;
 mod pairs;
 
 ghost use Rattle.std.specs.Prelude.{◌≡◌, ◌+◌, ◌*◌, ◌≤◌, cond, eqb, length};
+ghost use Rattle.refusals.specs.Outcome.{outcome, number_said};
 ghost use Rattle.std.specs.Float.{binary64};
 ghost use Rattle.std.specs.Float.Ieee.{of_bits};
 ghost use Rattle.std.specs.Float.Ieee.Scale.{finite};
 ghost use Rattle.std.proofs.lemmas.List.Edits.{sets};
 ghost use Rattle.numerals.specs.little_endian.LittleEndian.{u64_at, eight_bytes};
-ghost use Rattle.runs.specs.by_formula.Run.{run_outcome, run_call};
+ghost use Rattle.runs.specs.by_formula.Run.{run_call};
 ghost use Rattle.runs.specs.by_formula.Formula.{formula_run};
-ghost use Rattle.runs.specs.by_formula.Asked.{kind_refusal};
+ghost use Rattle.runs.specs.by_formula.Asked.{kind_number, kind_refusal};
 
-// How many stamps are refused, or the number of the refusal of the whole run.
-#[derive(Clone, Copy)]
-pub enum RunAnswer {
-    Converted(usize),
-    Refused(u32),
-}
+use changes::change_all;
+use offsets::offset_all;
+use pairs::Kind;
+use refusals::Refusal;
 
+// The number of a stamp with a part that is not finite.
+// kept: a byte and no `Result`: it goes into `numbers`, which C reads (ct_convert_run, ct_formula_run).
+pub(crate) const PART_NOT_FINITE: u8 = Refusal::PartNotFinite as u8;
+
+// kept: this and put_pattern, beside `number_at` and `put_number` of ticks: public functions have no `requires` (a rule of the project), so that those of
+// numerals make the test that is spared here.
 // Number i of a list that has it. Read from a part of eight bytes, it needs no test of the length.
 pub(crate) fn pattern_at(s: &[u8], i: usize) -> u64
     requires { 8 * i + 8 ≤ length s.now }
@@ -50,49 +56,35 @@ pub(crate) fn is_number(n: u64) -> bool
 pub fn one_if_refused(number: u8) -> usize
     ensures { (result ≡ cond (eqb number 0) 0 1) × (result ≤ 1) }
 {
-    if number == 0 { 0 } else { 1 }
+    usize::from(number != 0)
 }
 
-// The refusal of the scales and of the lengths, or 0. `kind` is that of the conversion.
-fn formula_refusal(
-    kind: u32,
+// Whether the scales are those of a formula, and the lengths go together. `kind` is that of the conversion.
+#[tactic(auto, unfolding(crate::specs::by_formula::Asked::kind_refusal, refusals::specs::Outcome::number_said, refusals::specs::Refusal::refusal_number))]
+fn judge_formula(
+    kind: Kind,
     size1: usize,
     size2: usize,
     size3: usize,
     room1: usize,
     room2: usize,
     room: usize,
-) -> u32
-    ensures { result ≡ kind_refusal kind size1 size2 size3 room1 room2 room }
+) -> Result<(), Refusal>
+    ensures { number_said result ≡ kind_refusal (kind_number kind) size1 size2 size3 room1 room2 room }
 {
-    if kind == pairs::NONE {
-        return refusals::OUT_OF_LIMIT;
+    if pairs::is_none(kind) {
+        return Err(Refusal::OutOfLimit);
     }
-    if size1 % 8 != 0 {
-        return refusals::LENGTH_WRONG;
+    if size1 % 8 != 0 || size2 % 8 != 0 || size3 % 8 != 0 {
+        return Err(Refusal::LengthWrong);
     }
-    if size2 % 8 != 0 {
-        return refusals::LENGTH_WRONG;
+    if size1 != size2 || size3 != pairs::size_due(kind, size1) {
+        return Err(Refusal::SizesDiffer);
     }
-    if size3 % 8 != 0 {
-        return refusals::LENGTH_WRONG;
+    if room1 < size1 || room2 < size1 || room < size1 / 8 {
+        return Err(Refusal::NoRoom);
     }
-    if size1 != size2 {
-        return refusals::SIZES_DIFFER;
-    }
-    if size3 != pairs::size_due(kind, size1) {
-        return refusals::SIZES_DIFFER;
-    }
-    if room1 < size1 {
-        return refusals::NO_ROOM;
-    }
-    if room2 < size1 {
-        return refusals::NO_ROOM;
-    }
-    if room < size1 / 8 {
-        return refusals::NO_ROOM;
-    }
-    0
+    Ok(())
 }
 
 // The dates in scale `to` of a run of stamps in scale `from`: GPS and TAI, TT and TAI, TT and TCG, TCB and TDB, each way; and TAI and UT1, UT1 and TT, TT and
@@ -109,12 +101,12 @@ pub fn formula_run(
     out1: &mut [u8],
     out2: &mut [u8],
     numbers: &mut [u8],
-) -> RunAnswer
-    ensures { run_call (run_outcome result) out1.new out2.new numbers.new ≡ formula_run from to jd1s.now
+) -> Result<usize, Refusal>
+    ensures { run_call (outcome result) out1.new out2.new numbers.new ≡ formula_run from to jd1s.now
         jd2s.now offsets.now out1.old out2.old numbers.old }
 {
     let found = pairs::formula_of(from, to);
-    let number = formula_refusal(
+    judge_formula(
         found.kind,
         jd1s.len(),
         jd2s.len(),
@@ -122,21 +114,16 @@ pub fn formula_run(
         out1.len(),
         out2.len(),
         numbers.len(),
-    );
-    if number != 0 {
-        return RunAnswer::Refused(number);
-    }
+    )?;
     let n = jd1s.len() / 8;
-    if pairs::takes_offsets(found.kind) {
-        let earlier = found.kind == pairs::EARLIER;
-        let count = offsets::offset_all(earlier, jd1s, jd2s, offsets, n, out1, out2, numbers);
-        return RunAnswer::Converted(count);
-    }
-    if found.kind == pairs::SHIFT {
-        let count = changes::shift_all(found.days, jd1s, jd2s, n, out1, out2, numbers);
-        return RunAnswer::Converted(count);
-    }
-    let kind = found.kind;
-    let count = changes::change_all(kind, found.days, jd1s, jd2s, n, out1, out2, numbers);
-    RunAnswer::Converted(count)
+    let days = found.days;
+    Ok(match found.kind {
+        Kind::Later => offset_all(false, jd1s, jd2s, offsets, n, out1, out2, numbers),
+        Kind::Earlier => offset_all(true, jd1s, jd2s, offsets, n, out1, out2, numbers),
+        Kind::Shift => change_all(Kind::Shift, days, jd1s, jd2s, n, out1, out2, numbers),
+        Kind::TtToTcg => change_all(Kind::TtToTcg, days, jd1s, jd2s, n, out1, out2, numbers),
+        Kind::TcgToTt => change_all(Kind::TcgToTt, days, jd1s, jd2s, n, out1, out2, numbers),
+        Kind::TcbToTdb => change_all(Kind::TcbToTdb, days, jd1s, jd2s, n, out1, out2, numbers),
+        _ => change_all(Kind::TdbToTcb, days, jd1s, jd2s, n, out1, out2, numbers),
+    })
 }

@@ -1,37 +1,45 @@
 // A run of stamps from one scale to another in one call. Refused stamps are numbered and counted. The parts of the stamps and of the dates are bytes, eight
 // each, the lowest first.
+// kept: the parts stay bytes in two slices, and the parts that are written and the numbers in three, as C lends them (ct_convert_run).
 #![tactic(auto)]
 
 ghost use Rattle.std.specs.Prelude.{◌≡◌, true, false, List, ◌+◌, ◌*◌, ◌≤◌, length};
-ghost use Rattle.julian.specs.JulianDate.{julian_outcome};
+ghost use Rattle.std.specs.Float.{binary64};
+ghost use Rattle.std.specs.Float.Ieee.{of_bits};
+ghost use Rattle.refusals.specs.Outcome.{outcome, number_said};
+ghost use Rattle.julian.specs.JulianDate.{julian};
+ghost use Rattle.julian.specs.Finite.{finite_jd};
 ghost use Rattle.leap_table.specs.rows.Table.{Row};
-ghost use Rattle.leap_table.specs.rows.Announced.{rows_in, table_of};
+ghost use Rattle.leap_table.specs.rows.Announced.{rows_of, table_of};
 ghost use Rattle.runs.specs.ways.Ways.{is_run_scale};
 ghost use Rattle.runs.specs.ways.Asked.{reads_day};
-ghost use Rattle.runs.specs.by_formula.Run.{run_outcome, run_call};
+ghost use Rattle.runs.specs.by_formula.Run.{run_call};
 ghost use Rattle.runs.specs.by_formula.Asked.{Roomy, HasPlace, StampPut, RunPut};
 ghost use Rattle.runs.specs.Run.{stamp_answer, run_refusal, run_by, converted_run};
 ghost use Rattle.runs.specs.Asked.{is_short};
 ghost use Rattle.runs.specs.by_day.Hand.{RightHand};
 
 use crate::by_day::DayInHand;
-use crate::by_formula::{RunAnswer, one_if_refused, put_pattern};
+use crate::by_formula::{PART_NOT_FINITE, is_number, one_if_refused, put_pattern};
 use constants::scale_numbers::{GPS, TAI, TCG, TT, are};
-use julian::JulianAnswer;
+use julian::JulianDate;
 use leap_table::rows::AnnouncedRows;
+use numerals::little_endian::nth_u64;
+use refusals::Refusal;
 
 mod by_day;
 pub mod by_formula;
 pub mod ways;
 
 // Both parts of an answer in the places of stamp i, and its number: 0, or that of the refusal, of which the places stay.
-fn put_answer(found: JulianAnswer, i: usize, out1: &mut [u8], out2: &mut [u8]) -> u8
+// kept: `match`, since the refusal becomes the byte of `numbers`, which C reads.
+fn put_answer(found: Result<JulianDate, Refusal>, i: usize, out1: &mut [u8], out2: &mut [u8]) -> u8
     requires { HasPlace i out1.old out2.old }
-    ensures { StampPut (julian_outcome found) i out1.old out2.old result out1.new out2.new }
+    ensures { StampPut (outcome found) i out1.old out2.old result out1.new out2.new }
 {
     match found {
-        JulianAnswer::Refused(number) => (number % 256) as u8,
-        JulianAnswer::Date(jd) => {
+        Err(refusal) => refusal.byte(),
+        Ok(jd) => {
             put_pattern(out1, 8 * i, floats::to_bits(jd.jd1));
             put_pattern(out2, 8 * i, floats::to_bits(jd.jd2));
             0
@@ -40,6 +48,7 @@ fn put_answer(found: JulianAnswer, i: usize, out1: &mut [u8], out2: &mut [u8]) -
 }
 
 // The number of a stamp, and the day in hand after it.
+// kept: a byte and no `Result`: it goes into `numbers`, which C reads (ct_convert_run).
 #[derive(Clone, Copy)]
 struct AfterStamp {
     number: u8,
@@ -47,67 +56,72 @@ struct AfterStamp {
 }
 
 // Converts the stamp at place i, and gives its number and the day in hand for the next.
-fn convert_stamp<'a>(
+fn convert_stamp(
     from: u32,
     to: u32,
     jd1s: &[u8],
     jd2s: &[u8],
     i: usize,
     hand: DayInHand,
-    size: usize,
-    months: &'a [i32; 16],
-    seconds: &'a [i32; 16],
+    table: &AnnouncedRows,
     out1: &mut [u8],
     out2: &mut [u8],
 ) -> AfterStamp
-    requires { HasPlace i out1.old out2.old × (RightHand (rows_in size months.now seconds.now) hand × (reads_day from to ≡ true)) }
-    ensures { StampPut (stamp_answer (rows_in size months.now seconds.now) from to jd1s.now jd2s.now i) i
+    requires { HasPlace i out1.old out2.old × (RightHand (rows_of table.now) hand × (reads_day from to ≡ true)) }
+    ensures { StampPut (stamp_answer (rows_of table.now) from to jd1s.now jd2s.now i) i
         out1.old out2.old result.number out1.new out2.new
-        × RightHand (rows_in size months.now seconds.now) result.hand }
+        × RightHand (rows_of table.now) result.hand }
 {
     let jd = julian::stamp_lists::stamp_of(jd1s, jd2s, i);
-    let next = crate::by_day::next_day(jd.jd1, hand, size, months, seconds);
-    let found = crate::by_day::convert_with(from, to, jd, next, size, months, seconds);
+    let next = crate::by_day::next_day(jd.jd1, hand, table);
+    let found = crate::by_day::convert_with(from, to, jd, next, table);
     let number = put_answer(found, i, out1, out2);
     AfterStamp { number, hand: next }
 }
 
 // Converts n stamps by a way that reads a day, and says how many are refused. The day in hand is kept from stamp to stamp.
-fn convert_all<'a>(
+fn convert_all(
     from: u32,
     to: u32,
     jd1s: &[u8],
     jd2s: &[u8],
     n: usize,
-    size: usize,
-    months: &'a [i32; 16],
-    seconds: &'a [i32; 16],
+    table: &AnnouncedRows,
     out1: &mut [u8],
     out2: &mut [u8],
     numbers: &mut [u8],
 ) -> usize
     requires { Roomy n jd1s.now jd2s.now out1.old out2.old numbers.old × (reads_day from to ≡ true) }
-    ensures { RunPut (stamp_answer (rows_in size months.now seconds.now) from to jd1s.now jd2s.now) n
+    ensures { RunPut (stamp_answer (rows_of table.now) from to jd1s.now jd2s.now) n
         out1.old out2.old numbers.old result out1.new out2.new numbers.new }
 {
     let mut refused = 0;
     let mut hand = crate::by_day::no_day();
-    let mut i = 0;
-    while i < n {
-        let done = convert_stamp(
-            from, to, jd1s, jd2s, i, hand, size, months, seconds, out1, out2,
-        );
-        let number = done.number;
-        let next = done.hand;
-        hand = next;
-        numbers[i] = number;
-        refused += one_if_refused(number);
-        i += 1;
+    for i in 0..n {
+        let done = convert_stamp(from, to, jd1s, jd2s, i, hand, table, out1, out2);
+        hand = done.hand;
+        numbers[i] = done.number;
+        refused += one_if_refused(done.number);
     }
     refused
 }
 
+// Puts a stamp of two patterns into the places i as it is, where both parts are finite, and gives its number.
+fn keep_stamp(a: u64, b: u64, i: usize, out1: &mut [u8], out2: &mut [u8]) -> u8
+    requires { HasPlace i out1.old out2.old }
+    ensures { StampPut (finite_jd (julian (of_bits binary64 a) (of_bits binary64 b))) i out1.old out2.old result
+        out1.new out2.new }
+{
+    if !is_number(a) || !is_number(b) {
+        return PART_NOT_FINITE;
+    }
+    put_pattern(out1, 8 * i, a);
+    put_pattern(out2, 8 * i, b);
+    0
+}
+
 // Converts the stamp at place i by a way that reads no day and is not one formula, and gives its number.
+// kept: from a scale to itself a stamp goes by its patterns: by `julian::finite_jd` it is made two floats and patterns again (45 instructions for 24).
 fn change_stamp(
     from: u32,
     to: u32,
@@ -121,6 +135,11 @@ fn change_stamp(
     ensures { (rows : List Row) → StampPut (stamp_answer rows from to jd1s.now jd2s.now i) i out1.old
         out2.old result out1.new out2.new }
 {
+    if from == to {
+        let a = nth_u64(jd1s, i);
+        let b = nth_u64(jd2s, i);
+        return keep_stamp(a, b, i, out1, out2);
+    }
     let jd = julian::stamp_lists::stamp_of(jd1s, jd2s, i);
     put_answer(
         crate::ways::convert_by_formulas(from, to, jd),
@@ -130,7 +149,8 @@ fn change_stamp(
     )
 }
 
-// Converts n stamps by such a way, and says how many are refused. Its own loop, so that it carries no day.
+// Converts n stamps by such a way, and says how many are refused.
+// kept: its own loop beside `convert_all`, so that it carries no day: a day would be looked for at each stamp.
 fn change_all(
     from: u32,
     to: u32,
@@ -146,17 +166,16 @@ fn change_all(
         numbers.old result out1.new out2.new numbers.new }
 {
     let mut refused = 0;
-    let mut i = 0;
-    while i < n {
+    for i in 0..n {
         let number = change_stamp(from, to, jd1s, jd2s, i, out1, out2);
         numbers[i] = number;
         refused += one_if_refused(number);
-        i += 1;
     }
     refused
 }
 
 // Whether a run converts from and to this scale: UTC, TAI, TT, GPS or TCG.
+#[tactic(auto, unfolding(crate::specs::ways::Ways::is_run_scale))]
 pub fn is_run_scale(n: u32) -> bool
     ensures { result ≡ is_run_scale n }
 {
@@ -197,8 +216,9 @@ fn is_short(from: u32, to: u32) -> bool
     are(from, to, TCG, TT)
 }
 
-// The refusal of the scales and of the lengths, or 0.
-fn run_refusal(
+// Whether the scales are those of a run, and the lengths go together.
+#[tactic(auto, unfolding(crate::specs::Run::run_refusal, refusals::specs::Outcome::number_said, refusals::specs::Refusal::refusal_number))]
+fn judge_run(
     from: u32,
     to: u32,
     size1: usize,
@@ -206,54 +226,40 @@ fn run_refusal(
     room1: usize,
     room2: usize,
     room: usize,
-) -> u32
-    ensures { result ≡ run_refusal from to size1 size2 room1 room2 room }
+) -> Result<(), Refusal>
+    ensures { number_said result ≡ run_refusal from to size1 size2 room1 room2 room }
 {
-    if !is_run_scale(from) {
-        return refusals::OUT_OF_LIMIT;
+    if !is_run_scale(from) || !is_run_scale(to) {
+        return Err(Refusal::OutOfLimit);
     }
-    if !is_run_scale(to) {
-        return refusals::OUT_OF_LIMIT;
-    }
-    if size1 % 8 != 0 {
-        return refusals::LENGTH_WRONG;
-    }
-    if size2 % 8 != 0 {
-        return refusals::LENGTH_WRONG;
+    if size1 % 8 != 0 || size2 % 8 != 0 {
+        return Err(Refusal::LengthWrong);
     }
     if size1 != size2 {
-        return refusals::SIZES_DIFFER;
+        return Err(Refusal::SizesDiffer);
     }
-    if room1 < size1 {
-        return refusals::NO_ROOM;
+    if room1 < size1 || room2 < size1 || room < size1 / 8 {
+        return Err(Refusal::NoRoom);
     }
-    if room2 < size1 {
-        return refusals::NO_ROOM;
-    }
-    if room < size1 / 8 {
-        return refusals::NO_ROOM;
-    }
-    0
+    Ok(())
 }
 
-// By the rows of a table that is tested elsewhere: a size and two arrays that are lent on.
-pub fn convert_run_by_arrays<'a>(
+// By the rows of a table that is tested elsewhere.
+pub fn convert_run_by_rows(
     from: u32,
     to: u32,
     jd1s: &[u8],
     jd2s: &[u8],
-    size: usize,
-    months: &'a [i32; 16],
-    seconds: &'a [i32; 16],
+    table: &AnnouncedRows,
     out1: &mut [u8],
     out2: &mut [u8],
     numbers: &mut [u8],
-) -> RunAnswer
-    ensures { run_call (run_outcome result) out1.new out2.new numbers.new ≡ run_by
-        (rows_in size months.now seconds.now) from to jd1s.now jd2s.now out1.old out2.old
+) -> Result<usize, Refusal>
+    ensures { run_call (outcome result) out1.new out2.new numbers.new ≡ run_by
+        (rows_of table.now) from to jd1s.now jd2s.now out1.old out2.old
         numbers.old }
 {
-    let number = run_refusal(
+    judge_run(
         from,
         to,
         jd1s.len(),
@@ -261,10 +267,7 @@ pub fn convert_run_by_arrays<'a>(
         out1.len(),
         out2.len(),
         numbers.len(),
-    );
-    if number != 0 {
-        return RunAnswer::Refused(number);
-    }
+    )?;
     if is_short(from, to) {
         let none = &jd1s[0..0];
         return crate::by_formula::formula_run(from, to, jd1s, jd2s, none, out1, out2, numbers);
@@ -272,11 +275,9 @@ pub fn convert_run_by_arrays<'a>(
     let n = jd1s.len() / 8;
     if !crate::ways::reads_day(from, to) {
         let count = change_all(from, to, jd1s, jd2s, n, out1, out2, numbers);
-        return RunAnswer::Converted(count);
+        return Ok(count);
     }
-    RunAnswer::Converted(convert_all(
-        from, to, jd1s, jd2s, n, size, months, seconds, out1, out2, numbers,
-    ))
+    Ok(convert_all(from, to, jd1s, jd2s, n, table, out1, out2, numbers))
 }
 
 // The dates in scale `to` of a run of stamps in scale `from`: the parts of stamp i in the places i of `out1` and `out2`, its number in `numbers`, 0 or that of
@@ -292,24 +293,10 @@ pub fn convert_run(
     out1: &mut [u8],
     out2: &mut [u8],
     numbers: &mut [u8],
-) -> RunAnswer
-    ensures { run_call (run_outcome result) out1.new out2.new numbers.new ≡ converted_run (table_of table) from to
+) -> Result<usize, Refusal>
+    ensures { run_call (outcome result) out1.new out2.new numbers.new ≡ converted_run (table_of table) from to
         jd1s.now jd2s.now out1.old out2.old numbers.old }
 {
-    let number = leap_table::rows::table_refusal(table);
-    if number != 0 {
-        return RunAnswer::Refused(number);
-    }
-    convert_run_by_arrays(
-        from,
-        to,
-        jd1s,
-        jd2s,
-        leap_table::rows::size_of(table),
-        &table.months,
-        &table.seconds,
-        out1,
-        out2,
-        numbers,
-    )
+    leap_table::rows::judge_table(&table)?;
+    convert_run_by_rows(from, to, jd1s, jd2s, &table, out1, out2, numbers)
 }

@@ -1,87 +1,38 @@
-// The way of a date from one scale to another, through TAI. A scale is its number. The rows of a table are a size and two arrays that are lent on.
+// The way of a date from one scale to another, through TAI. A scale is its number.
 ghost use Rattle.std.specs.Prelude.{◌≡◌, false, List, eqb};
-ghost use Rattle.julian.specs.JulianDate.{julian_outcome};
+ghost use Rattle.refusals.specs.Outcome.{outcome, seen};
 ghost use Rattle.julian.specs.shifts.Shifts.{plus, converted};
 ghost use Rattle.leap_table.specs.rows.Table.{Row};
-ghost use Rattle.leap_table.specs.rows.Announced.{rows_in};
-ghost use Rattle.scales.specs.Scales.{tai_outcome, tcg_outcome, utc_outcome};
+ghost use Rattle.leap_table.specs.rows.Announced.{rows_of};
 ghost use Rattle.utc_scales.specs.UtcTai.{utc_to_tai, tai_to_utc};
 ghost use Rattle.runs.specs.ways.Ways.{into_tai, out_of_tai, way_of};
 ghost use Rattle.runs.specs.ways.Asked.{is_shifted, days_into_tai, days_out_of_tai, reads_day};
 ghost use Rattle.runs.specs.Asked.{is_short};
 
 use constants::scale_numbers::{GPS, TCG, TT, UTC};
-use julian::{JulianAnswer, JulianDate};
+use julian::JulianDate;
+use leap_table::rows::AnnouncedRows;
+use refusals::Refusal;
 use scales::gps_tai::gps_days;
 use scales::tai_tt::tt_days;
-use scales::{TaiAnswer, TcgAnswer, UtcAnswer};
-use utc_scales::utc_tai::TaiByRule;
-
-// An answer as a date that names no scale.
-fn of_tai(a: TaiAnswer) -> JulianAnswer
-    ensures { julian_outcome result ≡ tai_outcome a }
-{
-    match a {
-        TaiAnswer::Date(tai) => {
-            let jd = tai.0;
-            JulianAnswer::Date(jd)
-        }
-        TaiAnswer::Refused(n) => JulianAnswer::Refused(n),
-    }
-}
-
-fn of_tcg(a: TcgAnswer) -> JulianAnswer
-    ensures { julian_outcome result ≡ tcg_outcome a }
-{
-    match a {
-        TcgAnswer::Date(tcg) => {
-            let jd = tcg.0;
-            JulianAnswer::Date(jd)
-        }
-        TcgAnswer::Refused(n) => JulianAnswer::Refused(n),
-    }
-}
-
-fn of_utc(a: UtcAnswer) -> JulianAnswer
-    ensures { julian_outcome result ≡ utc_outcome a }
-{
-    match a {
-        UtcAnswer::Date(utc) => {
-            let jd = utc.0;
-            JulianAnswer::Date(jd)
-        }
-        UtcAnswer::Refused(n) => JulianAnswer::Refused(n),
-    }
-}
 
 // UTC in TAI, without the rule.
-pub(crate) fn utc_into_tai<'a>(
-    jd: JulianDate,
-    size: usize,
-    months: &'a [i32; 16],
-    seconds: &'a [i32; 16],
-) -> JulianAnswer
-    ensures { julian_outcome result ≡ utc_to_tai (rows_in size months.now seconds.now) jd }
+pub(crate) fn utc_into_tai(jd: JulianDate, table: &AnnouncedRows) -> Result<JulianDate, Refusal>
+    ensures { outcome result ≡ utc_to_tai (rows_of table.now) jd }
 {
-    match utc_scales::utc_tai::utc_to_tai_by_arrays(scales::UTC(jd), size, months, seconds) {
-        TaiByRule::Refused(n) => JulianAnswer::Refused(n),
-        TaiByRule::Date(tai, _) => {
-            let date = tai.0;
-            JulianAnswer::Date(date)
-        }
-    }
+    let (tai, _) = utc_scales::utc_tai::utc_to_tai_by_rows(scales::UTC(jd), table)?;
+    let date = tai.0;
+    Ok(date)
 }
 
 // TAI in UTC.
-pub(crate) fn tai_into_utc<'a>(
-    jd: JulianDate,
-    size: usize,
-    months: &'a [i32; 16],
-    seconds: &'a [i32; 16],
-) -> JulianAnswer
-    ensures { julian_outcome result ≡ tai_to_utc (rows_in size months.now seconds.now) jd }
+#[tactic(auto, using(refusals::proofs::Handed::handed_by))]
+pub(crate) fn tai_into_utc(jd: JulianDate, table: &AnnouncedRows) -> Result<JulianDate, Refusal>
+    ensures { outcome result ≡ tai_to_utc (rows_of table.now) jd }
 {
-    of_utc(utc_scales::utc_tai::tai_to_utc_by_arrays(scales::TAI(jd), size, months, seconds))
+    let utc = utc_scales::utc_tai::tai_to_utc_by_rows(scales::TAI(jd), table)?;
+    let date = utc.0;
+    Ok(date)
 }
 
 // Whether the way reads TAI-UTC on a day.
@@ -104,6 +55,7 @@ fn is_shifted(n: u32) -> bool
     n == GPS
 }
 
+#[tactic(auto, unfolding(crate::specs::ways::Asked::days_into_tai))]
 fn days_into_tai(from: u32) -> f64
     ensures { result ≡ days_into_tai from }
 {
@@ -117,51 +69,55 @@ fn days_out_of_tai(to: u32) -> f64
 }
 
 // The date so many days later, and 9 where a part is not finite.
-fn shifted(jd: JulianDate, days: f64) -> JulianAnswer
-    ensures { julian_outcome result ≡ converted (plus days) jd }
+#[tactic(auto, unfolding(julian::specs::shifts::Shifts::converted))]
+fn shifted(jd: JulianDate, days: f64) -> Result<JulianDate, Refusal>
+    ensures { outcome result ≡ converted (plus days) jd }
 {
     julian::shifts::smaller_part::later(julian::finite_jd(jd), days)
 }
 
+// kept: the two directions apart. They share two tests; a body for both would take the shift and the formula of each as closures.
 // A date of another scale than UTC in TAI. The offset is chosen before it is added, so that the addition stands once in the code.
-pub(crate) fn into_tai_by_formula(from: u32, jd: JulianDate) -> JulianAnswer
+// kept: `inline(always)` here and below, since a result that is handed over in memory is cleared first (13 to 68 instructions fewer for each stamp).
+#[inline(always)]
+pub(crate) fn into_tai_by_formula(from: u32, jd: JulianDate) -> Result<JulianDate, Refusal>
     requires { eqb from 0 ≡ false }
-    ensures { (rows : List Row) → julian_outcome result ≡ into_tai rows from jd }
+    ensures { (rows : List Row) → outcome result ≡ into_tai rows from jd }
 {
     if is_shifted(from) {
         return shifted(jd, days_into_tai(from));
     }
     if from == TCG {
-        return of_tai(scales::tai_tt::tcg_to_tai(scales::TCG(jd)));
+        let tai = scales::tai_tt::tcg_to_tai(scales::TCG(jd))?;
+        let date = tai.0;
+        return Ok(date);
     }
-    JulianAnswer::Date(jd)
+    Ok(jd)
 }
 
 // A date of TAI in another scale than UTC.
-pub(crate) fn out_of_tai_by_formula(to: u32, jd: JulianDate) -> JulianAnswer
+#[inline(always)]
+pub(crate) fn out_of_tai_by_formula(to: u32, jd: JulianDate) -> Result<JulianDate, Refusal>
     requires { eqb to 0 ≡ false }
-    ensures { (rows : List Row) → julian_outcome result ≡ out_of_tai rows to jd }
+    ensures { (rows : List Row) → outcome result ≡ out_of_tai rows to jd }
 {
     if is_shifted(to) {
         return shifted(jd, days_out_of_tai(to));
     }
     if to == TCG {
-        return of_tcg(scales::tai_tt::tai_to_tcg(scales::TAI(jd)));
+        let tcg = scales::tai_tt::tai_to_tcg(scales::TAI(jd))?;
+        let date = tcg.0;
+        return Ok(date);
     }
-    JulianAnswer::Date(jd)
+    Ok(jd)
 }
 
-// The date in scale `to` of a date in scale `from`, where no day is read and the way is not one formula. Refusals as the single calls have them, the first that
-// comes; for the same scale 9.
-pub(crate) fn convert_by_formulas(from: u32, to: u32, jd: JulianDate) -> JulianAnswer
-    requires { (reads_day from to ≡ false) × (is_short from to ≡ false) }
-    ensures { (rows : List Row) → julian_outcome result ≡ way_of rows from to jd }
+// The date in scale `to` of a date in another scale `from`, where no day is read and the way is not one formula. Refusals as the single calls have them, the
+// first that comes.
+pub(crate) fn convert_by_formulas(from: u32, to: u32, jd: JulianDate) -> Result<JulianDate, Refusal>
+    requires { (eqb from to ≡ false) × ((reads_day from to ≡ false) × (is_short from to ≡ false)) }
+    ensures { (rows : List Row) → outcome result ≡ way_of rows from to jd }
 {
-    if from == to {
-        return julian::finite_jd(jd);
-    }
-    match into_tai_by_formula(from, jd) {
-        JulianAnswer::Refused(n) => JulianAnswer::Refused(n),
-        JulianAnswer::Date(tai) => out_of_tai_by_formula(to, tai),
-    }
+    let tai = into_tai_by_formula(from, jd)?;
+    out_of_tai_by_formula(to, tai)
 }

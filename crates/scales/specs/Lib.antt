@@ -1,5 +1,4 @@
 -- What the contracts of `scales` cite, in the order to read it.
-pub mod Scales
 pub mod Formulas
 pub mod Conversions
 -- The words of the theorems: no contract cites them.

@@ -1,34 +1,19 @@
 // GPS weeks and milliseconds of the week, to dates and back.
 ghost use Rattle.std.specs.Prelude.{◌≡◌, ◌<◌, ◌≤◌};
-ghost use Rattle.refusals.specs.Outcome.{onward};
-ghost use Rattle.julian.specs.day_number.Answer.{day_number_and_fraction};
-ghost use Rattle.scales.specs.Scales.{gps_outcome};
+ghost use Rattle.refusals.specs.Outcome.{outcome, seen};
 ghost use Rattle.scales.specs.gps_weeks.WeekDate.{week_midnight, part_of_day, week_date};
-ghost use Rattle.scales.specs.gps_weeks.WeekOf.{week_outcome, product_of, day_millis, week_at, week_of_day, week_of};
-ghost use Rattle.scales.specs.gps_weeks.FullWeek.{full_outcome, by_distance, full_week};
+ghost use Rattle.scales.specs.gps_weeks.WeekOf.{day_millis, week_at, week_of_day, week_of};
+ghost use Rattle.scales.specs.gps_weeks.FullWeek.{by_distance, full_week};
 
-use crate::{GPS, GpsAnswer};
-use julian::{JulianAnswer, JulianDate};
+use crate::GPS;
+use julian::JulianDate;
+use refusals::Refusal;
 
 // A week, counted from 1980-01-06 0h GPS, and the milliseconds of it that have passed.
 #[derive(Clone, Copy)]
 pub struct WeekTime {
     pub week: u32,
     pub millis: u32,
-}
-
-// A week and its milliseconds, or the number of the refusal.
-#[derive(Clone, Copy)]
-pub enum WeekAnswer {
-    At(WeekTime),
-    Refused(u32),
-}
-
-// A week, or the number of the refusal.
-#[derive(Clone, Copy)]
-pub enum FullWeekAnswer {
-    Week(u32),
-    Refused(u32),
 }
 
 // The day number of 1980-01-06.
@@ -54,6 +39,7 @@ const TEN_BITS: u32 = 1024;
 const LAST_REFERENCE: u32 = 99_000;
 
 // The Julian date of the midnight that begins a day from 1 on.
+#[tactic(auto, using(crate::proofs::gps_weeks::Parts::parts))]
 fn midnight_of(day: u32) -> f64
     requires { 0 < day }
     ensures { result ≡ week_midnight day }
@@ -62,6 +48,7 @@ fn midnight_of(day: u32) -> f64
 }
 
 // Milliseconds as a part of a day of 86,400 s.
+#[tactic(auto, using(crate::proofs::gps_weeks::Parts::parts))]
 fn part_of_day(millis: u32) -> f64
     ensures { result ≡ part_of_day millis }
 {
@@ -69,18 +56,19 @@ fn part_of_day(millis: u32) -> f64
 }
 
 // The GPS date: midnight of its day in jd1, the milliseconds of the day in jd2. 18 for a week above 100,000 or 604,800,000 milliseconds or more.
-pub fn from_week(week: u32, millis: u32) -> GpsAnswer
-    ensures { gps_outcome result ≡ week_date week millis }
+#[tactic(auto, using(crate::proofs::Seen::judged), unfolding(crate::specs::gps_weeks::WeekDate::week_date))]
+pub fn from_week(week: u32, millis: u32) -> Result<GPS, Refusal>
+    ensures { seen (λ s. s.0) result ≡ week_date week millis }
 {
     if week > LAST_WEEK {
-        return GpsAnswer::Refused(refusals::OUT_OF_LIMIT);
+        return Err(Refusal::OutOfLimit);
     }
     if millis >= MILLIS_PER_WEEK {
-        return GpsAnswer::Refused(refusals::OUT_OF_LIMIT);
+        return Err(Refusal::OutOfLimit);
     }
     let jd1 = midnight_of(FIRST_DAY + 7 * week + millis / MILLIS_PER_DAY);
     let jd2 = part_of_day(millis % MILLIS_PER_DAY);
-    GpsAnswer::Date(GPS(JulianDate { jd1, jd2 }))
+    Ok(GPS(JulianDate { jd1, jd2 }))
 }
 
 // The milliseconds of a fraction of a day, a half going up. Nearly every count is from 1 to 2^52, where one cast does.
@@ -95,85 +83,80 @@ fn millis_of(fraction: f64) -> u64
 }
 
 // The week of so many milliseconds since midnight of day 0.
-fn week_at(count: u64) -> WeekAnswer
-    ensures { week_outcome result ≡ week_at count }
+#[tactic(auto, using(crate::proofs::Seen::judged), unfolding(crate::specs::gps_weeks::WeekOf::week_at))]
+fn week_at(count: u64) -> Result<WeekTime, Refusal>
+    ensures { outcome result ≡ week_at count }
 {
     if count < FIRST_MILLI {
-        return WeekAnswer::Refused(refusals::OUT_OF_LIMIT);
+        return Err(Refusal::OutOfLimit);
     }
     let since = count - FIRST_MILLI;
     let week = since / MILLIS_PER_WEEK as u64;
     if week > LAST_WEEK as u64 {
-        return WeekAnswer::Refused(refusals::OUT_OF_LIMIT);
+        return Err(Refusal::OutOfLimit);
     }
     let millis = since % MILLIS_PER_WEEK as u64;
-    WeekAnswer::At(WeekTime {
+    Ok(WeekTime {
         week: week as u32,
         millis: millis as u32,
     })
 }
 
 // The limits are judged by the rounded count, so that a day's last half millisecond is in the next.
-fn week_of_day(day: i64, fraction: f64) -> WeekAnswer
-    ensures { week_outcome result ≡ week_of_day day (day_millis fraction) }
+// kept: `from_zero` behind its test; `u64::try_from` would be the same test and no plainer.
+fn week_of_day(day: i64, fraction: f64) -> Result<WeekTime, Refusal>
+    ensures { outcome result ≡ week_of_day day (day_millis fraction) }
 {
     if day < 0 {
-        return WeekAnswer::Refused(refusals::OUT_OF_LIMIT);
+        return Err(Refusal::OutOfLimit);
     }
     let days = time_of_day::from_zero(day);
     if days >= PAST_ALL_WEEKS {
-        return WeekAnswer::Refused(refusals::OUT_OF_LIMIT);
+        return Err(Refusal::OutOfLimit);
     }
     week_at(days * MILLIS_PER_DAY as u64 + millis_of(fraction))
 }
 
-fn week_of_parts(jd1: f64, jd2: f64) -> WeekAnswer
-    ensures { week_outcome result ≡ onward (day_number_and_fraction jd1 jd2) (λ n. week_of_day n.day (day_millis n.fraction)) }
-{
-    match julian::day_number::day_number_and_fraction(jd1, jd2) {
-        julian::day_number::DayAnswer::Refused(number) => WeekAnswer::Refused(number),
-        julian::day_number::DayAnswer::Day(found) => week_of_day(found.day, found.fraction),
-    }
-}
-
 // The week of a GPS date, and the milliseconds of it, to the nearest. Refusals in order: 9, 6, and 18 for a rounded date outside weeks 0 to 100,000.
-pub fn to_week(gps: GPS) -> WeekAnswer
-    ensures { week_outcome result ≡ week_of gps.0 }
+#[tactic(auto, using(crate::proofs::Seen::judged), unfolding(crate::specs::gps_weeks::WeekOf::week_of))]
+pub fn to_week(gps: GPS) -> Result<WeekTime, Refusal>
+    ensures { outcome result ≡ week_of gps.0 }
 {
-    match julian::finite_jd(gps.0) {
-        JulianAnswer::Refused(number) => WeekAnswer::Refused(number),
-        JulianAnswer::Date(jd) => week_of_parts(jd.jd1, jd.jd2),
-    }
+    let jd = julian::finite_jd(gps.0)?;
+    let found = julian::day_number::day_number_and_fraction(jd.jd1, jd.jd2)?;
+    week_of_day(found.day, found.fraction)
 }
 
 // Of the weeks with those ten bits, the one at most `back` weeks before the reference or the next; 19 where both are 512 away.
-fn by_distance(reference: u32, back: u32) -> FullWeekAnswer
+#[tactic(auto, using(crate::proofs::Seen::judged), unfolding(crate::specs::gps_weeks::FullWeek::by_distance))]
+fn by_distance(reference: u32, back: u32) -> Result<u32, Refusal>
     requires { (back ≤ reference) × (reference ≤ 99000) }
-    ensures { full_outcome result ≡ by_distance reference back }
+    ensures { outcome result ≡ by_distance reference back }
 {
     if back == TEN_BITS / 2 {
-        return FullWeekAnswer::Refused(refusals::WEEK_NOT_DECIDED);
+        return Err(Refusal::WeekNotDecided);
     }
     if back < TEN_BITS / 2 {
-        FullWeekAnswer::Week(reference - back)
+        Ok(reference - back)
     } else {
-        FullWeekAnswer::Week(reference - back + TEN_BITS)
+        Ok(reference - back + TEN_BITS)
     }
 }
 
 // The week with those ten lowest bits that lies nearest the reference and is not below 0. Refusals in order: 18 for ten bits above 1,023 or a reference above
 // 99,000; 19 where two weeks are equally near.
-pub fn full_week(bits: u32, reference: u32) -> FullWeekAnswer
-    ensures { full_outcome result ≡ full_week bits reference }
+#[tactic(auto, using(crate::proofs::Seen::judged), unfolding(crate::specs::gps_weeks::FullWeek::full_week))]
+pub fn full_week(bits: u32, reference: u32) -> Result<u32, Refusal>
+    ensures { outcome result ≡ full_week bits reference }
 {
     if bits >= TEN_BITS {
-        return FullWeekAnswer::Refused(refusals::OUT_OF_LIMIT);
+        return Err(Refusal::OutOfLimit);
     }
     if reference > LAST_REFERENCE {
-        return FullWeekAnswer::Refused(refusals::OUT_OF_LIMIT);
+        return Err(Refusal::OutOfLimit);
     }
     if reference < bits {
-        return FullWeekAnswer::Week(bits);
+        return Ok(bits);
     }
     by_distance(reference, (reference - bits) % TEN_BITS)
 }

@@ -1,19 +1,22 @@
 -- The call on a run as a whole: the refusals of the lengths, what no refusal says, and the answer. Assumes nothing.
-use Prim.Native.Nat.{ℕ, ◌*◌, ◌/◌, ◌%◌, ◌<◌, ◌≤◌}
+use Prim.Native.Nat.{ℕ, ◌/◌, ◌%◌, ◌<◌, ◌≤◌}
 use native.Mathlib.Omega.{arith}
 use native.Mathlib.Nat.{div-mul-le_self}
-use mathlib.Core.Path.{◌≡◌, refl, sym, ◌∙◌}
+use mathlib.Core.Path.{◌≡◌, refl, sym}
 use mathlib.Core.Bool.{Bool, true, false, cond, ◌&&◌}
 use mathlib.Core.List.{List}
 use lib.Dec.{eqb, leb}
 use lib.ListN.{length}
 use borrow.Author.Tests.{eq-eqb, ne_eqb, le-leb, lt-leb, eqb-true, leb-true}
-use Rattle.refusals.specs.Outcome.{Outcome, answer, refusal}
+use Rattle.std.specs.Prelude.{Result, Ok, IsErrAnd}
+use Rattle.refusals.specs.declared.Refusal.{Refusal}
+use Rattle.refusals.specs.Refusal.{refusal_number}
+use Rattle.refusals.proofs.Handed.{handed_on, number_low}
+use Rattle.refusals.specs.Outcome.{Outcome, answer, refusal, outcome}
 use Rattle.julian.specs.declared.JulianDate.{JulianDate}
 use Rattle.since_launch.specs.declared.Place.{Place}
-use Rattle.since_launch.specs.declared.RunMillis.TheVariants as Answer
 use Rattle.since_launch.specs.Millis.{place_at}
-use Rattle.since_launch.specs.Run.{stamp_millis, millis_refused, run_millis_outcome, millis_call, millis_written, run_lengths_refusal}
+use Rattle.since_launch.specs.Run.{stamp_millis, millis_refused, millis_call, millis_written, run_lengths_refusal}
 use Rattle.since_launch.specs.Run.{millis_by, millis_from, millis_of_run}
 use Rattle.since_launch.specs.Asked.{RoomForRun, MillisRunPut}
 use Rattle.since_launch.proofs.Puts.{at_most}
@@ -77,15 +80,16 @@ module _ (size1 size2 room1 room2 : ℕ) where
   fitting z = fitting_by (eqb (size1 % 8) 0) (eqb (size2 % 8) 0) (eqb size1 size2) (leb size1 room1) (leb (size1 / 8) room2) refl refl refl refl refl z
 
 -- ---- the call from a launch whose place is known
-module _ (launch : Place) (js ks out numbers : List ℕ) (number : ℕ)
-    (en : number ≡ run_lengths_refusal (length js) (length ks) (length out) (length numbers)) where
-  pub run-refused : (number ≡ 0 → ⊥) → millis_call (run_millis_outcome (Answer.Refused number)) out numbers ≡ millis_by launch js ks out numbers
-  unfolding millis_by run_millis_outcome
-  run-refused h = rw (← en, ne_eqb number 0 h)
+module _ (launch : Place) (js ks out numbers : List ℕ) where
+  pub run-refused : (s : Result ℕ Refusal) (k : Refusal) → IsErrAnd s (λ e. e ≡ k)
+      → refusal_number k ≡ run_lengths_refusal (length js) (length ks) (length out) (length numbers)
+      → millis_call (outcome s) out numbers ≡ millis_by launch js ks out numbers
+  unfolding millis_by
+  run-refused s k p e = rw (handed_on s k p, ← e, ne_eqb (refusal_number k) 0 (λ z. omega (arith, z, number_low k)))
 
-  module _ (z : number ≡ 0) where
+  module _ (z : 0 ≡ run_lengths_refusal (length js) (length ks) (length out) (length numbers)) where
     fits : Fitting (length js) (length ks) (length out) (length numbers)
-    fits = fitting (length js) (length ks) (length out) (length numbers) (sym en ∙ z)
+    fits = fitting (length js) (length ks) (length out) (length numbers) (sym z)
 
     pub roomy : RoomForRun (length js / 8) js out numbers
     roomy = record {
@@ -95,19 +99,20 @@ module _ (launch : Place) (js ks out numbers : List ℕ) (number : ℕ)
     }
 
     pub run_ends : (r : ℕ) (out' numbers' : List ℕ) → MillisRunPut (stamp_millis launch js ks) (length js / 8) out numbers r out' numbers'
-        → millis_call (run_millis_outcome (Answer.Written r)) out' numbers' ≡ millis_by launch js ks out numbers
-    unfolding millis_by run_millis_outcome millis_written
-    run_ends r out' numbers' p = rw (← en, eq-eqb number 0 z, p.count, p.first, p.second)
+        → millis_call (outcome (Ok r)) out' numbers' ≡ millis_by launch js ks out numbers
+    unfolding millis_by outcome millis_written
+    run_ends r out' numbers' p = rw (← z, p.count, p.first, p.second)
 
 -- ---- the call
 module _ (from : JulianDate) (js ks out numbers : List ℕ) where
-  pub launch-out : (k : ℕ) → place_at from ≡ refusal k → millis_call (run_millis_outcome (Answer.Refused k)) out numbers ≡ millis_of_run from js ks out numbers
-  unfolding millis_of_run millis_from run_millis_outcome
-  launch-out k e = rw e
-
-  pub launch-in : (p : Place) → place_at from ≡ answer p → millis_by p js ks out numbers ≡ millis_of_run from js ks out numbers
+  pub launch-out : (s : Result ℕ Refusal) (k : Refusal) → IsErrAnd s (λ e. e ≡ k) → refusal (refusal_number k) ≡ place_at from
+      → millis_call (outcome s) out numbers ≡ millis_of_run from js ks out numbers
   unfolding millis_of_run millis_from
-  launch-in p e = rw e
+  launch-out s k p e = rw (handed_on s k p, ← e)
+
+  pub launch-in : (p : Place) → answer p ≡ place_at from → millis_by p js ks out numbers ≡ millis_of_run from js ks out numbers
+  unfolding millis_of_run millis_from
+  launch-in p e = rw (← e)
 
   -- at most all stamps are refused
   pub run-count : (k : ℕ) → answer k ≡ (millis_of_run from js ks out numbers).answer → k ≤ length js / 8

@@ -3,7 +3,7 @@ use Prim.Native.Nat.{ℕ, ◌+◌, ◌-◌, ◌*◌, ◌/◌, ◌%◌, ◌≤◌
 use native.Mathlib.Omega.{arith}
 use mathlib.Core.Path.{◌≡◌}
 use borrow.Author.Tests.{le-leb, lt-leb, le-ltb}
-use Rattle.refusals.specs.Outcome.{Outcome, refusal}
+use Rattle.refusals.specs.Outcome.{refusal}
 use Rattle.since_launch.specs.Millis.{nearest_count, in_range, count_of}
 
 -- a product with 84375 in two parts

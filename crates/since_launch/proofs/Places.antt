@@ -7,6 +7,8 @@ use mathlib.Core.Bool.{Bool, true, false, cond, ◌&&◌}
 use lib.Dec.{T}
 use lib.IntN.{ℤ, pos, ◌+ℤ◌}
 use lib.Ieee.{Float, binary64, fits}
+use Rattle.std.specs.Prelude.{Result, Ok, Err, IsErrAnd}
+use Rattle.refusals.specs.declared.Refusal.{Refusal}
 use Rattle.refusals.specs.Outcome.{Outcome, answer, refusal, onward}
 use Rattle.rounding.specs.Value.{plus_z, minus_z}
 use Rattle.rounding.proofs.Casts.{add_pair, one_side}
@@ -26,7 +28,7 @@ use Rattle.time_of_day.specs.TimeShown.{from_zero}
 use Rattle.time_of_day.proofs.EvenFloat.{from-plus}
 use Rattle.since_launch.specs.declared.Place.{Place}
 use Rattle.since_launch.specs.Millis.{place_of, place_in, place_at, units_of, count_of, since_launch, millis_from_to}
-use Rattle.since_launch.specs.Asked.{PlaceWithin}
+use Rattle.since_launch.specs.Asked.{PlaceWithin, AllPlaced}
 use Rattle.since_launch.proofs.Units.{units-in-day}
 
 -- the days since day -68570
@@ -129,3 +131,9 @@ from-launch from to e p h g = go (finite_parts from) refl g
         let t = finite-is to e h in
         rw (t.0, i) (ap (since_launch p) (sym t.1) ∙ ap (λ (o : Outcome Place). onward o (λ q. count_of (units_of p) (units_of q))) (place-finite to t.0))
     go false f i = let z : ◌≡◌ {A = ℕ} 0 1 = cc in absurd (omega arith)
+
+-- a refusal that is handed on has no place
+pub none_placed : (s : Result Place Refusal) (k : Refusal) → IsErrAnd s (λ e. e ≡ k) → AllPlaced s
+unfolding AllPlaced
+none_placed (Err e) k p = tt
+none_placed (Ok a) k p = absurd p

@@ -7,7 +7,7 @@ use mathlib.Core.Bool.{Bool, true, false, cond}
 use mathlib.Core.List.{List}
 use lib.Dec.{eqb}
 use lib.ListN.{length, set, length-set}
-use lib.Seq.{sets, length-sets}
+use lib.Seq.{length-sets}
 use Rattle.refusals.specs.Outcome.{Outcome, answer, refusal}
 use Rattle.numerals.specs.little_endian.LittleEndian.{eight_bytes, with_nth64}
 use Rattle.numerals.proofs.little_endian.Puts.{put-64-is}
@@ -70,15 +70,15 @@ module _ (f : ℕ → Outcome ℕ) (n : ℕ) (out₀ numbers₀ : List ℕ) wher
     pub few : refused ≤ i
     few = omega (arith, p.put.count, at_most f i)
 
-    pub putting_goes : (out' : List ℕ) (r one : ℕ) → i < n → MillisPut (f i) i out r out' → one ≡ cond (eqb r 0) 0 1
-        → Putting f n out₀ numbers₀ out' (set numbers i r) (refused + one) (i + 1)
+    pub putting_goes : (out' : List ℕ) (r next : ℕ) → i < n → MillisPut (f i) i out r out' → next ≡ refused + cond (eqb r 0) 0 1
+        → Putting f n out₀ numbers₀ out' (set numbers i r) next (i + 1)
     unfolding with_all with_millis_numbers millis_refused
-    putting_goes out' r one h s e =
-        subst (λ (j : ℕ). Putting f n out₀ numbers₀ out' (set numbers i r) (refused + one) j) (sym (add-one i))
+    putting_goes out' r next h s e =
+        subst (λ (j : ℕ). Putting f n out₀ numbers₀ out' (set numbers i r) next j) (sym (add-one i))
         (record {
           high = omega arith;
           put = record {
-            count = (λ k. p.put.count k + (e ∙ ap (λ (x : ℕ). cond (eqb x 0) 0 1) s.number) k);
+            count = e ∙ (λ k. p.put.count k + ap (λ (x : ℕ). cond (eqb x 0) 0 1) s.number k);
             first = s.bytes ∙ ap (with_millis (f i) i) p.put.first;
             second = (λ k. set (p.put.second k) i (s.number k));
           };

@@ -1,5 +1,5 @@
 -- The units of a fraction of a day are its exact value times 2 ^ 52, cut down: the product with 2 ^ 52 is exact. Assumes nothing.
-use mathlib.Core.Path.{◌≡◌, refl, sym, ap, ◌∙◌, subst}
+use mathlib.Core.Path.{◌≡◌, sym, ap, ◌∙◌, subst}
 use Prim.Native.Nat.{ℕ, ◌+◌, ◌*◌, ◌^◌, ◌≤◌, ◌<◌}
 use native.Mathlib.Nat.{lt_of_lt_of_le, mul_assoc, mul-one, zero-mul, lt_of_mul-lt-mul_right}
 use native.Mathlib.Omega.{arith}
@@ -16,7 +16,7 @@ use Rattle.rounding.proofs.Casts.{Cut, up_cut, down_cut, trunc_val}
 use Rattle.time_of_day.specs.HalfEven.{two52_f, grid_units}
 use Rattle.time_of_day.proofs.EvenFloat.{from-plus}
 use Rattle.time_of_day.proofs.EvenExact.{two52_val}
-use Rattle.time_of_day.proofs.Fractions.{AsUnits, in_units, size_is}
+use Rattle.time_of_day.proofs.Fractions.{in_units, size_is}
 
 rep_times : (g k : ℕ) → Rep g → Rep (g * 2 ^ k)
 rep_times g k r = record {

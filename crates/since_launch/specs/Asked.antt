@@ -1,9 +1,8 @@
 -- What the functions below the calls ask and ensure. Assumes nothing.
-use Rattle.std.specs.Prelude.{ℕ, ◌*◌, ◌≤◌, ◌≡◌, List, length}
+use Rattle.std.specs.Prelude.{ℕ, ◌*◌, ◌≤◌, ◌≡◌, List, length, Result, Ok, Err}
+use Rattle.refusals.specs.declared.Refusal.{Refusal}
 use Rattle.refusals.specs.Outcome.{Outcome}
 use Rattle.since_launch.specs.declared.Place.{Place}
-use Rattle.since_launch.specs.declared.PlaceAnswer.{PlaceAnswer}
-use Rattle.since_launch.specs.declared.PlaceAnswer.TheVariants.{At, Refused}
 use Rattle.since_launch.specs.Run.{millis_number_byte, with_millis, with_all, with_millis_numbers, millis_refused}
 
 -- a place that a date can have: day 1000000000 is the last, and no fraction has more units than a day
@@ -11,9 +10,9 @@ pub record PlaceWithin (p : Place) : Type 0 where
   pub days : p.days ≤ 1000068570
   pub units : p.units ≤ 4503599627370496
 
-unfoldable pub AllPlaced : PlaceAnswer → Type 0
-AllPlaced (At p) = PlaceWithin p
-AllPlaced (Refused k) = Unit {0}
+unfoldable pub AllPlaced : Result Place Refusal → Type 0
+AllPlaced (Ok p) = PlaceWithin p
+AllPlaced (Err k) = Unit {0}
 
 -- n stamps are there, and places for them
 pub record RoomForRun (n : ℕ) (js out numbers : List ℕ) : Type 0 where

@@ -1,7 +1,7 @@
 -- The whole milliseconds from one date to another of the same uniform scale. Written from the customer's request: "to the nearest, halves up", on document 01's
 -- day and fraction, both as a whole number of 2 ^ -52 day; 9 for a part that is not finite, 18 for a result that is not 0 to 2 ^ 40 - 1, and between them 6,
 -- document 01's, where a date has no day. A day of a uniform scale has 86,400,000 ms, and a unit of 2 ^ -52 day 84375 / 2 ^ 42 ms. Assumes nothing.
-use Rattle.std.specs.Prelude.{ℕ, ◌+◌, ◌-◌, ◌*◌, ◌/◌, ◌^◌, cond, ◌&&◌, leb, ltb, ℤ, pos, ◌+ℤ◌}
+use Rattle.std.specs.Prelude.{ℕ, ◌+◌, ◌-◌, ◌*◌, ◌/◌, cond, ◌&&◌, leb, ltb, pos, ◌+ℤ◌}
 use Rattle.refusals.specs.Outcome.{Outcome, answer, refusal, onward}
 use Rattle.time_of_day.specs.TimeShown.{from_zero}
 use Rattle.time_of_day.specs.HalfEven.{grid_units}
@@ -10,18 +10,6 @@ use Rattle.julian.specs.declared.day_number.DayNumber.{DayNumber}
 use Rattle.julian.specs.day_number.Answer.{day_number_and_fraction}
 use Rattle.julian.specs.Finite.{finite_parts, finite_jd}
 use Rattle.since_launch.specs.declared.Place.{Place}
-use Rattle.since_launch.specs.declared.PlaceAnswer.{PlaceAnswer}
-use Rattle.since_launch.specs.declared.PlaceAnswer.TheVariants as P
-use Rattle.since_launch.specs.declared.MillisAnswer.{MillisAnswer}
-use Rattle.since_launch.specs.declared.MillisAnswer.TheVariants as M
-
-unfoldable pub place_outcome : PlaceAnswer → Outcome Place
-place_outcome (P.At p) = answer p
-place_outcome (P.Refused number) = refusal number
-
-unfoldable pub millis_outcome : MillisAnswer → Outcome ℕ
-millis_outcome (M.Millis m) = answer m
-millis_outcome (M.Refused number) = refusal number
 
 -- ---- a date's place
 

@@ -8,8 +8,6 @@ use Rattle.numerals.specs.little_endian.LittleEndian.{eight_bytes}
 use Rattle.julian.specs.declared.JulianDate.{JulianDate}
 use Rattle.julian.specs.stamp_lists.Stamps.{stamp_of}
 use Rattle.since_launch.specs.declared.Place.{Place}
-use Rattle.since_launch.specs.declared.RunMillis.{RunMillis}
-use Rattle.since_launch.specs.declared.RunMillis.TheVariants as Answer
 use Rattle.since_launch.specs.Millis.{place_at, since_launch}
 
 -- ---- one stamp
@@ -44,10 +42,6 @@ millis_refused f zero = 0
 millis_refused f (suc k) = millis_refused f k + cond (eqb (millis_number_byte (f k)) 0) 0 1
 
 -- ---- the call
-
-unfoldable pub run_millis_outcome : RunMillis → Outcome ℕ
-run_millis_outcome (Answer.Written n) = answer n
-run_millis_outcome (Answer.Refused k) = refusal k
 
 -- the answer, and what is left in the slices that are written
 pub record MillisCall : Type 0 where

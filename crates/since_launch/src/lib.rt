@@ -1,30 +1,17 @@
 // Whole milliseconds from the launch to a stamp of the same uniform scale. For one stamp, and for each of a run.
 #![tactic(auto)]
 
-ghost use Rattle.std.specs.Prelude.{◌≡◌, ◌+◌, ◌*◌, ◌≤◌, cond, eqb, length};
-ghost use Rattle.time_of_day.specs.HalfEven.{grid_units};
+ghost use Rattle.std.specs.Prelude.{◌≡◌, ◌+◌, ◌*◌, ◌≤◌, length};
+ghost use Rattle.refusals.specs.Outcome.{outcome, number_said};
 ghost use Rattle.julian.specs.JulianDate.{julian};
 ghost use Rattle.julian.specs.day_number.Ranges.{InDays};
-ghost use Rattle.since_launch.specs.Millis.{place_outcome, millis_outcome, place_of, place_in, place_at, units_of, nearest_count, count_of};
+ghost use Rattle.since_launch.specs.Millis.{place_of, place_in, place_at, units_of, nearest_count, count_of};
 ghost use Rattle.since_launch.specs.Millis.{since_launch, millis_from_to};
-ghost use Rattle.since_launch.specs.Run.{run_millis_outcome, millis_call, run_lengths_refusal, stamp_millis, millis_by, millis_of_run};
+ghost use Rattle.since_launch.specs.Run.{millis_call, run_lengths_refusal, stamp_millis, millis_by, millis_of_run};
 ghost use Rattle.since_launch.specs.Asked.{PlaceWithin, AllPlaced, RoomForRun, MillisPut, MillisRunPut};
 
-use julian::{JulianAnswer, JulianDate};
-
-// Whole milliseconds, or the number of the refusal.
-#[derive(Clone, Copy)]
-pub enum MillisAnswer {
-    Millis(u64),
-    Refused(u32),
-}
-
-// How many stamps are refused, or the number of the refusal of the whole call.
-#[derive(Clone, Copy)]
-pub enum RunMillis {
-    Written(usize),
-    Refused(u32),
-}
+use julian::JulianDate;
+use refusals::Refusal;
 
 // A date's place in units of 2^-52 day: the days since day -68570, before which no date is answered, and the units since midnight.
 #[derive(Clone, Copy)]
@@ -32,15 +19,6 @@ struct Place {
     days: u64,
     units: u64,
 }
-
-// A date's place, or the number of the refusal.
-#[derive(Clone, Copy)]
-enum PlaceAnswer {
-    At(Place),
-    Refused(u32),
-}
-
-const TWO_52: f64 = 4503599627370496.0;
 
 // A day's units of 2^-52.
 const DAY_UNITS: u64 = 4503599627370496;
@@ -68,41 +46,30 @@ const HIGH_BITS: u64 = 65536;
 // 2^40.
 const TOO_MANY: u64 = 1099511627776;
 
-// The units in a fraction, cut down where the fraction lies between two.
-fn grid_units(fraction: f64) -> u64
-    ensures { result ≡ grid_units fraction }
-{
-    time_of_day::from_zero(floats::saturating_i64(fraction * TWO_52))
-}
-
 fn place_of(found: julian::day_number::DayNumber) -> Place
     requires { InDays found.day }
     ensures { result ≡ place_of found }
 {
     Place {
         days: time_of_day::from_zero(found.day + DAYS_BEFORE_0),
-        units: grid_units(found.fraction),
+        units: time_of_day::grid_units(found.fraction),
     }
 }
 
 // 6 for a rounded sum out of the range.
-fn place_in(jd1: f64, jd2: f64) -> PlaceAnswer
-    ensures { (place_outcome result ≡ place_in (julian jd1 jd2)) × AllPlaced result }
+fn place_in(jd1: f64, jd2: f64) -> Result<Place, Refusal>
+    ensures { (outcome result ≡ place_in (julian jd1 jd2)) × AllPlaced result }
 {
-    match julian::day_number::day_number_and_fraction(jd1, jd2) {
-        julian::day_number::DayAnswer::Refused(number) => PlaceAnswer::Refused(number),
-        julian::day_number::DayAnswer::Day(found) => PlaceAnswer::At(place_of(found)),
-    }
+    let found = julian::day_number::day_number_and_fraction(jd1, jd2)?;
+    Ok(place_of(found))
 }
 
 // 9 for a part that is not finite, before it.
-fn place_at(date: JulianDate) -> PlaceAnswer
-    ensures { (place_outcome result ≡ place_at date) × AllPlaced result }
+fn place_at(date: JulianDate) -> Result<Place, Refusal>
+    ensures { (outcome result ≡ place_at date) × AllPlaced result }
 {
-    match julian::finite_jd(date) {
-        JulianAnswer::Refused(number) => PlaceAnswer::Refused(number),
-        JulianAnswer::Date(jd) => place_in(jd.jd1, jd.jd2),
-    }
+    let jd = julian::finite_jd(date)?;
+    place_in(jd.jd1, jd.jd2)
 }
 
 // The nearest millisecond to so many units, up to two days, a half going up: the product has up to 70 bits, and is made in two parts.
@@ -116,71 +83,60 @@ fn nearest_count(units: u64) -> u64
 }
 
 // The milliseconds from one place to another. Two days are added, so that no number is below 0, and taken off again.
-fn count_of(from: Place, to: Place) -> MillisAnswer
+fn count_of(from: Place, to: Place) -> Result<u64, Refusal>
     requires { PlaceWithin from × PlaceWithin to }
-    ensures { millis_outcome result ≡ count_of (units_of from) (units_of to) }
+    ensures { outcome result ≡ count_of (units_of from) (units_of to) }
 {
     if to.days + 1 < from.days {
-        return MillisAnswer::Refused(refusals::OUT_OF_LIMIT);
+        return Err(Refusal::OutOfLimit);
     }
     let days = to.days + 1 - from.days;
     if days > MOST_DAYS {
-        return MillisAnswer::Refused(refusals::OUT_OF_LIMIT);
+        return Err(Refusal::OutOfLimit);
     }
     let count = days * MILLIS_PER_DAY + nearest_count(to.units + DAY_UNITS - from.units);
     if count < 2 * MILLIS_PER_DAY {
-        return MillisAnswer::Refused(refusals::OUT_OF_LIMIT);
+        return Err(Refusal::OutOfLimit);
     }
     let millis = count - 2 * MILLIS_PER_DAY;
     if millis >= TOO_MANY {
-        return MillisAnswer::Refused(refusals::OUT_OF_LIMIT);
+        return Err(Refusal::OutOfLimit);
     }
-    MillisAnswer::Millis(millis)
+    Ok(millis)
 }
 
 // The milliseconds from a launch whose place is known.
-fn since(launch: Place, to: JulianDate) -> MillisAnswer
+fn since(launch: Place, to: JulianDate) -> Result<u64, Refusal>
     requires { PlaceWithin launch }
-    ensures { millis_outcome result ≡ since_launch launch to }
+    ensures { outcome result ≡ since_launch launch to }
 {
-    match place_at(to) {
-        PlaceAnswer::Refused(number) => MillisAnswer::Refused(number),
-        PlaceAnswer::At(place) => count_of(launch, place),
-    }
+    let place = place_at(to)?;
+    count_of(launch, place)
 }
 
 // The whole milliseconds from one date to another of the same uniform scale, to the nearest, a half going up. Refusals in order: 9 a part of either that is not
 // finite, 6 a rounded sum of either out of the range, 18 a result that is not 0 to 2^40 - 1.
-pub fn milliseconds(from: JulianDate, to: JulianDate) -> MillisAnswer
-    ensures { millis_outcome result ≡ millis_from_to from to }
+pub fn milliseconds(from: JulianDate, to: JulianDate) -> Result<u64, Refusal>
+    ensures { outcome result ≡ millis_from_to from to }
 {
-    match julian::finite_jd(to) {
-        JulianAnswer::Refused(number) => MillisAnswer::Refused(number),
-        JulianAnswer::Date(stamp) => match place_at(from) {
-            PlaceAnswer::Refused(number) => MillisAnswer::Refused(number),
-            PlaceAnswer::At(launch) => since(launch, stamp),
-        },
-    }
+    let stamp = julian::finite_jd(to)?;
+    let launch = place_at(from)?;
+    since(launch, stamp)
 }
 
 // Writes the milliseconds of the stamp at place i, and says its number.
+// kept: `match`, since the refusal becomes the byte of `numbers`, which C reads.
 fn put_stamp(launch: Place, jd1s: &[u8], jd2s: &[u8], i: usize, out: &mut [u8]) -> u8
     requires { PlaceWithin launch × (8 * i + 8 ≤ length out.old) }
     ensures { MillisPut (stamp_millis launch jd1s.now jd2s.now i) i out.old result out.new }
 {
     match since(launch, julian::stamp_lists::stamp_of(jd1s, jd2s, i)) {
-        MillisAnswer::Millis(millis) => {
+        Ok(millis) => {
             numerals::little_endian::put_nth_u64(out, i, millis);
             0
         }
-        MillisAnswer::Refused(number) => (number % 256) as u8,
+        Err(refusal) => refusal.byte(),
     }
-}
-
-fn one_if_refused(number: u8) -> usize
-    ensures { (result ≡ cond (eqb number 0) 0 1) × (result ≤ 1) }
-{
-    if number == 0 { 0 } else { 1 }
 }
 
 // Writes the milliseconds of n stamps, and says how many are refused.
@@ -197,36 +153,36 @@ fn put_all(
         numbers.new }
 {
     let mut refused = 0;
-    let mut i = 0;
-    while i < n {
+    for i in 0..n {
         let number = put_stamp(launch, jd1s, jd2s, i, out);
         numbers[i] = number;
-        refused += one_if_refused(number);
-        i += 1;
+        if number != 0 {
+            refused += 1;
+        }
     }
     refused
 }
 
-// The refusal of the lengths, or 0.
-fn lengths_refusal(size1: usize, size2: usize, room1: usize, room2: usize) -> u32
-    ensures { result ≡ run_lengths_refusal size1 size2 room1 room2 }
+// Whether the lengths go together.
+fn judge_lengths(size1: usize, size2: usize, room1: usize, room2: usize) -> Result<(), Refusal>
+    ensures { number_said result ≡ run_lengths_refusal size1 size2 room1 room2 }
 {
     if size1 % 8 != 0 {
-        return refusals::LENGTH_WRONG;
+        return Err(Refusal::LengthWrong);
     }
     if size2 % 8 != 0 {
-        return refusals::LENGTH_WRONG;
+        return Err(Refusal::LengthWrong);
     }
     if size1 != size2 {
-        return refusals::SIZES_DIFFER;
+        return Err(Refusal::SizesDiffer);
     }
     if room1 < size1 {
-        return refusals::NO_ROOM;
+        return Err(Refusal::NoRoom);
     }
     if room2 < size1 / 8 {
-        return refusals::NO_ROOM;
+        return Err(Refusal::NoRoom);
     }
-    0
+    Ok(())
 }
 
 // A run from a launch whose place is known.
@@ -236,17 +192,14 @@ fn run_from(
     jd2s: &[u8],
     out: &mut [u8],
     numbers: &mut [u8],
-) -> RunMillis
+) -> Result<usize, Refusal>
     requires { PlaceWithin launch }
-    ensures { millis_call (run_millis_outcome result) out.new numbers.new ≡ millis_by launch jd1s.now jd2s.now
+    ensures { millis_call (outcome result) out.new numbers.new ≡ millis_by launch jd1s.now jd2s.now
         out.old numbers.old }
 {
-    let number = lengths_refusal(jd1s.len(), jd2s.len(), out.len(), numbers.len());
-    if number != 0 {
-        return RunMillis::Refused(number);
-    }
+    judge_lengths(jd1s.len(), jd2s.len(), out.len(), numbers.len())?;
     let n = jd1s.len() / 8;
-    RunMillis::Written(put_all(launch, jd1s, jd2s, n, out, numbers))
+    Ok(put_all(launch, jd1s, jd2s, n, out, numbers))
 }
 
 // The milliseconds from the launch to each stamp of a run: stamp i is bytes 8 i to 8 i + 7 of both lists of parts; its milliseconds go into the same bytes of
@@ -259,12 +212,10 @@ pub fn milliseconds_of_run(
     jd2s: &[u8],
     out: &mut [u8],
     numbers: &mut [u8],
-) -> RunMillis
-    ensures { millis_call (run_millis_outcome result) out.new numbers.new ≡ millis_of_run from jd1s.now jd2s.now
+) -> Result<usize, Refusal>
+    ensures { millis_call (outcome result) out.new numbers.new ≡ millis_of_run from jd1s.now jd2s.now
         out.old numbers.old }
 {
-    match place_at(from) {
-        PlaceAnswer::Refused(number) => RunMillis::Refused(number),
-        PlaceAnswer::At(launch) => run_from(launch, jd1s, jd2s, out, numbers),
-    }
+    let launch = place_at(from)?;
+    run_from(launch, jd1s, jd2s, out, numbers)
 }

@@ -1,4 +1,9 @@
 // What was compared, and how much of it was outside SOFA's tolerance.
+ghost use Rattle.std.specs.Prelude.{◌≤◌};
+
+// The first part of the dates that SOFA's checks convert from scale to scale.
+pub(crate) const DAY: f64 = 2453750.5;
+
 #[derive(Clone, Copy)]
 pub(crate) struct Tally {
     pub compared: u64,
@@ -13,16 +18,9 @@ pub(crate) fn start() -> Tally {
 }
 
 pub(crate) fn counted(t: Tally, right: bool) -> Tally {
-    let compared = std::num::wrapping_add_u64(t.compared, 1);
-    if right {
-        return Tally {
-            compared,
-            outside: t.outside,
-        };
-    }
     Tally {
-        compared,
-        outside: std::num::wrapping_add_u64(t.outside, 1),
+        compared: t.compared.wrapping_add(1),
+        outside: t.outside.wrapping_add(u64::from(!right)),
     }
 }
 
@@ -48,6 +46,21 @@ pub(crate) fn near_date(
     let status = counted(t, answered);
     let one = near(status, float_at(out, 0), first, first_tolerance);
     near(one, float_at(out, 8), second, second_tolerance)
+}
+
+// What a conversion answers into so many bytes, of which the first 16 are a date: that day, and the second part that is published for it, within 1e-12.
+pub(crate) fn near_call<F: FnOnce(&mut [u8]) -> i64>(
+    t: Tally,
+    size: usize,
+    second: f64,
+    call: F,
+) -> Tally
+    requires in_bounds { size ≤ 24 }
+    requires callable { F.IsAlwaysCallable call }
+{
+    let mut out = [0u8; 24];
+    let code = call(&mut out[..size]);
+    near_date(t, code == size as i64, &out, DAY, 1e-6, second, 1e-12)
 }
 
 pub(crate) fn say(words: &[u8], number: u64) {

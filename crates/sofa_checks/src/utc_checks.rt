@@ -1,86 +1,13 @@
 // UTC: the conversions that read the table, and a leap second from and to the calendar.
 use crate::tally;
-use crate::tally::Tally;
-
-fn utctai(t: Tally) -> Tally {
-    let mut out = [0u8; 24];
-    let table = [0u8; 136];
-    let code = capi::utc_calls::ct_utc_to_tai(2453750.5, 0.892100694, &table, &mut out);
-    tally::near_date(
-        t,
-        code == 24,
-        &out,
-        2453750.5,
-        1e-6,
-        0.8924826384444444444,
-        1e-12,
-    )
-}
-
-fn taiutc(t: Tally) -> Tally {
-    let mut out = [0u8; 16];
-    let table = [0u8; 136];
-    let code = capi::utc_calls::ct_tai_to_utc(2453750.5, 0.892482639, &table, &mut out);
-    tally::near_date(
-        t,
-        code == 16,
-        &out,
-        2453750.5,
-        1e-6,
-        0.8921006945555555556,
-        1e-12,
-    )
-}
-
-fn utcut1(t: Tally) -> Tally {
-    let mut out = [0u8; 24];
-    let table = [0u8; 136];
-    let code = capi::utc_calls::ct_utc_to_ut1_with_dut1(
-        2453750.5,
-        0.892100694,
-        0.3341,
-        &table,
-        &mut out,
-    );
-    tally::near_date(
-        t,
-        code == 24,
-        &out,
-        2453750.5,
-        1e-6,
-        0.8921045608981481481,
-        1e-12,
-    )
-}
-
-fn ut1utc(t: Tally) -> Tally {
-    let mut out = [0u8; 16];
-    let table = [0u8; 136];
-    let code = capi::utc_calls::ct_ut1_to_utc_with_dut1(
-        2453750.5,
-        0.892104561,
-        0.3341,
-        &table,
-        &mut out,
-    );
-    tally::near_date(
-        t,
-        code == 16,
-        &out,
-        2453750.5,
-        1e-6,
-        0.8921006941018518519,
-        1e-12,
-    )
-}
+use crate::tally::{DAY, Tally, near_call};
+use capi::utc_calls;
 
 // SOFA publishes the sum of the parts.
 fn dtf2d(t: Tally) -> Tally {
     let mut out = [0u8; 16];
     let table = [0u8; 136];
-    let code = capi::utc_calls::ct_utc_from_calendar(
-        1994, 6, 30, 23, 59, 60.13599, &table, &mut out,
-    );
+    let code = utc_calls::ct_utc_from_calendar(1994, 6, 30, 23, 59, 60.13599, &table, &mut out);
     let status = tally::counted(t, code == 16);
     let sum = tally::float_at(&out, 0) + tally::float_at(&out, 8);
     tally::near(status, sum, 2449534.49999, 1e-6)
@@ -97,7 +24,18 @@ fn d2dtf(t: Tally) -> Tally {
 }
 
 pub(crate) fn checked(t: Tally) -> Tally {
-    let tai = taiutc(utctai(t));
-    let ut1 = ut1utc(utcut1(tai));
-    d2dtf(dtf2d(ut1))
+    let table = [0u8; 136];
+    let t = near_call(t, 24, 0.8924826384444444444, |out| {
+        utc_calls::ct_utc_to_tai(DAY, 0.892100694, &table, out)
+    });
+    let t = near_call(t, 16, 0.8921006945555555556, |out| {
+        utc_calls::ct_tai_to_utc(DAY, 0.892482639, &table, out)
+    });
+    let t = near_call(t, 24, 0.8921045608981481481, |out| {
+        utc_calls::ct_utc_to_ut1_with_dut1(DAY, 0.892100694, 0.3341, &table, out)
+    });
+    let t = near_call(t, 16, 0.8921006941018518519, |out| {
+        utc_calls::ct_ut1_to_utc_with_dut1(DAY, 0.892104561, 0.3341, &table, out)
+    });
+    d2dtf(dtf2d(t))
 }

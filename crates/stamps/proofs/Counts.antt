@@ -8,13 +8,14 @@ use lib.Signed.{lt_z}
 use mir.Syntax.{w64}
 use mir.Val.{SFits, to_z, of_z}
 use mir.Facts.{to_z-of_z}
-use Rattle.refusals.specs.Outcome.{answer, refusal, onward}
+use Rattle.std.specs.Prelude.{Result, Ok, Err}
+use Rattle.refusals.specs.declared.Refusal.{Refusal}
+use Rattle.refusals.specs.Refusal.{refusal_number}
+use Rattle.refusals.specs.Outcome.{answer, refusal, onward, outcome}
 use Rattle.calendar.specs.Gregorian.{gregorian_date}
 use Rattle.calendar.proofs.Years.{valid_of, gregorian_valid}
 use Rattle.julian.specs.declared.day_number.DayNumber.{DayNumber}
-use Rattle.julian.specs.declared.day_number.DayAnswer.{DayAnswer}
-use Rattle.julian.specs.declared.day_number.DayAnswer.TheVariants.{Day, Refused}
-use Rattle.julian.specs.day_number.Answer.{day_outcome, day_number_and_fraction}
+use Rattle.julian.specs.day_number.Answer.{day_number_and_fraction}
 use Rattle.julian.specs.declared.JulianDate.{JulianDate}
 use Rattle.julian.specs.Calendar.{fields, julian_to_calendar}
 use Rattle.leap_table.specs.rows.Table.{Row}
@@ -24,19 +25,19 @@ use Rattle.utc.proofs.iso_texts.TextCalls.{fields-refused-by, fields-given-by}
 use Rattle.utc.proofs.laws.DayTexts.{text-refused-by, has-text-by}
 use Rattle.stamps.specs.Listing.{one_if_refused}
 
-module _ (rows : List Row) (jd : JulianDate) (res : DayAnswer) (e : day_outcome res ≡ day_number_and_fraction jd.jd1 jd.jd2) where
-  pub day-refused : (k : ℕ) → res ≡ Refused k → 1 ≡ one_if_refused (iso_text_expanded rows jd)
-  unfolding day_outcome julian_to_calendar onward one_if_refused
+module _ (rows : List Row) (jd : JulianDate) (res : Result DayNumber Refusal) (e : outcome res ≡ day_number_and_fraction jd.jd1 jd.jd2) where
+  pub day-refused : (k : Refusal) → res ≡ Err k → 1 ≡ one_if_refused (iso_text_expanded rows jd)
+  unfolding outcome julian_to_calendar onward one_if_refused
   day-refused k is =
-      let d : day_number_and_fraction jd.jd1 jd.jd2 ≡ refusal k = sym e ∙ ap day_outcome is in
-      sym (ap one_if_refused (fields-refused-by expanded_form rows jd k (rw d refl)))
+      let d : day_number_and_fraction jd.jd1 jd.jd2 ≡ refusal (refusal_number k) = sym e ∙ ap outcome is in
+      sym (ap one_if_refused (fields-refused-by expanded_form rows jd (refusal_number k) (rw d refl)))
 
-  pub day-given : (n : DayNumber) → res ≡ Day n → cond (lt_z n.day (negsuc 31737)) 1 0 ≡ one_if_refused (iso_text_expanded rows jd)
-  unfolding day_outcome julian_to_calendar onward one_if_refused
+  pub day-given : (n : DayNumber) → res ≡ Ok n → cond (lt_z n.day (negsuc 31737)) 1 0 ≡ one_if_refused (iso_text_expanded rows jd)
+  unfolding outcome julian_to_calendar onward one_if_refused
   day-given n is = by (lt_z n.day (negsuc 31737)) (gregorian_valid n.day)
     where
       given : julian_to_calendar jd.jd1 jd.jd2 ≡ answer (fields (gregorian_date n.day) n.fraction)
-      given = let d : day_number_and_fraction jd.jd1 jd.jd2 ≡ answer n = sym e ∙ ap day_outcome is in rw d refl
+      given = let d : day_number_and_fraction jd.jd1 jd.jd2 ≡ answer n = sym e ∙ ap outcome is in rw d refl
 
       by : (b : Bool) → valid_of (gregorian_date n.day) ≡ cond b (refusal 1) (answer tt) → cond b 1 0 ≡ one_if_refused (iso_text_expanded rows jd)
       by true v = sym (ap one_if_refused

@@ -13,6 +13,9 @@ use lib.Ieee.Bits.{is_true}
 use lib.Ieee.Fits.{add-fits}
 use lib.Ieee.Scale.{finite}
 use borrow.Author.Tests.{le-ltb}
+use Rattle.std.specs.Prelude.{Ok}
+use Rattle.refusals.specs.Outcome.{outcome}
+use Rattle.refusals.specs.Refusal.{refusal_number}
 use Rattle.rounding.specs.Value.{Val, L, minus_z}
 use Rattle.rounding.proofs.Value.{L-pos, add_rounds}
 use Rattle.rounding.proofs.Signed.{plus-of, minus-of, dist, dist_zero}
@@ -21,9 +24,7 @@ use Rattle.rounding.proofs.Nearest.{rn_le}
 use Rattle.rounding.proofs.TwoSumFloat.{At, rounds-at}
 use Rattle.rounding.proofs.Compare.{le_true, le_show}
 use Rattle.floats.specs.Whole.{nearest_int, nought}
-use Rattle.julian.specs.declared.day_number.DayAnswer.TheVariants.{Day}
 use Rattle.julian.specs.day_number.DayNumber.{c_djmin, c_djmax, in_julian_range, accepted, day_number, day_of}
-use Rattle.julian.specs.day_number.Answer.{day_outcome}
 use Rattle.julian.proofs.day_number.Units.{E, E-L, E_pos, H, H-L, W, L-W, min_L, nought-L}
 use Rattle.julian.proofs.day_number.SignedUnits.{has-val}
 use Rattle.julian.proofs.day_number.NearestInt.{sat_plus, sat_minus}
@@ -142,8 +143,8 @@ not_early (negsuc n) h = le-ltb 31737 n (omega arith)
 
 pub late-shown : (rows : List Row) (jd : JulianDate) → T (fits binary64 jd.jd1) → T (fits binary64 jd.jd2) → Late jd.jd1 jd.jd2
     → 0 ≡ one_if_refused (iso_text_expanded rows jd)
-unfolding day_outcome day_of
+unfolding outcome day_of refusal_number
 late-shown rows jd f1 f2 l =
     let day = day_of jd.jd1 jd.jd2 in
-    let given = day-given rows jd (Day day) (sym (answered jd.jd1 jd.jd2 (late-accepted jd.jd1 jd.jd2 l))) day refl in
+    let given = day-given rows jd (Ok day) (sym (answered jd.jd1 jd.jd2 (late-accepted jd.jd1 jd.jd2 l))) day refl in
     ap (λ (b : Bool). cond {A = ℕ} b 1 0) (sym (not_early (day_number jd.jd1 jd.jd2) (late-day jd.jd1 jd.jd2 f1 f2 l))) ∙ given

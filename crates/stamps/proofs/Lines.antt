@@ -6,18 +6,19 @@ use mathlib.Core.Path.{◌≡◌, refl, sym, ap, ◌∙◌}
 use mathlib.Core.List.{List, [], ◌∷◌}
 use lib.ListN.{length}
 use borrow.Author.Tests.{eq-eqb, ne_eqb}
-use Rattle.refusals.specs.Outcome.{Outcome, answer}
+use Rattle.std.specs.Prelude.{Result, Ok, Err}
+use Rattle.refusals.specs.declared.Refusal.{Refusal}
+use Rattle.refusals.specs.Refusal.{refusal_number}
+use Rattle.refusals.specs.Outcome.{Outcome, answer, outcome}
 use Rattle.julian.specs.declared.JulianDate.{JulianDate}
 use Rattle.leap_table.specs.rows.Table.{Row}
 use Rattle.utc.specs.iso_texts.Expanded.{iso_text_expanded}
 use Rattle.stamps.specs.declared.Reporting.{Reporting}
-use Rattle.stamps.specs.declared.BlockAnswer.{BlockAnswer}
-use Rattle.stamps.specs.declared.BlockAnswer.TheVariants.{Stamps, Refused}
-use Rattle.stamps.specs.Block.{block_of, block_outcome, stamp_at}
+use Rattle.stamps.specs.Block.{block_of, stamp_at}
 use Rattle.numerals.specs.digits.Placed.{Placed}
 use Rattle.stamps.specs.Listing.{numeral, text_at, shown, stamp_line, one_if_refused, refused_in, header, block_refused}
 use Rattle.stamps.specs.Parts.{line_of, lines_in, lines_from}
-use Rattle.stamps.proofs.Blocks.{block-accepted, block-number}
+use Rattle.stamps.proofs.Blocks.{block-accepted}
 use Rattle.numerals.proofs.digits.Places.{then, placed-as}
 
 module _ {d d1 d2 d3 d4 : List ℕ} {at r1 r2 r3 r4 : ℕ} where
@@ -45,20 +46,16 @@ unfolding lines_from
 lines_more how rows s line k p q le = rw add-one (then p q le)
 
 -- ---- which line it is
-module _ (s : List ℕ) (line : ℕ) (r : BlockAnswer) (e : block_outcome r ≡ block_of s) where
-  module _ (k : ℕ) (is : r ≡ Refused k) where
-    pub refused-number : (1 ≤ k) × (k ≤ 28)
-    unfolding block_outcome
-    refused-number = block-number s k (sym (ap block_outcome is) ∙ e)
+module _ (s : List ℕ) (line : ℕ) (r : Result ℕ Refusal) (e : outcome r ≡ block_of s) where
+  module _ (k : Refusal) (is : r ≡ Err k) where
+    pub refused-line : (how : Reporting) (rows : List Row) → block_refused how s (refusal_number k) ≡ line_of how rows (block_of s) s line
+    unfolding line_of outcome
+    refused-line how rows = ap (λ (o : Outcome ℕ). line_of how rows o s line) (sym (ap outcome is) ∙ e)
 
-    pub refused-line : (how : Reporting) (rows : List Row) → block_refused how s k ≡ line_of how rows (block_of s) s line
-    unfolding line_of block_outcome
-    refused-line how rows = ap (λ (o : Outcome ℕ). line_of how rows o s line) (sym (ap block_outcome is) ∙ e)
-
-  module _ (n : ℕ) (is : r ≡ Stamps n) where
+  module _ (n : ℕ) (is : r ≡ Ok n) where
     block-is : answer n ≡ block_of s
-    unfolding block_outcome
-    block-is = sym (ap block_outcome is) ∙ e
+    unfolding outcome
+    block-is = sym (ap outcome is) ∙ e
 
     pub stamps-few : n ≤ 4000
     stamps-few = (block-accepted s n block-is).0

@@ -9,18 +9,20 @@ use lib.ListN.{length, take, drop, length-append}
 use lib.Seq.{length-take-le}
 use lib.Dec.{leb}
 use borrow.Author.Tests.{le-leb, lt-leb, leb-false}
-use Rattle.refusals.specs.Outcome.{Outcome, answer}
+use Rattle.std.specs.Prelude.{Result, Ok, Err, IsErrAnd}
+use Rattle.refusals.specs.declared.Refusal.{Refusal}
+use Rattle.refusals.proofs.Handed.{handed_on}
+use Rattle.refusals.specs.Outcome.{Outcome, answer, outcome, number_said}
 use Rattle.leap_table.specs.declared.rows.AnnouncedRows.{AnnouncedRows}
 use Rattle.leap_table.specs.rows.Table.{Row}
 use Rattle.leap_table.specs.rows.Announced.{rows_of, table_of, unless_refused}
-use Rattle.leap_table.proofs.rows.TablesTaken.{not_taken, taken}
+use Rattle.leap_table.proofs.rows.TablesTaken.{call_refused, call_taken}
 use Rattle.stamps.specs.declared.Reporting.{Reporting}
 use Rattle.stamps.specs.declared.Part.{Part}
-use Rattle.stamps.specs.declared.LinesAnswer.TheVariants.{Lines, Refused}
 use Rattle.stamps.specs.Block.{block_of}
 use Rattle.numerals.specs.digits.Placed.{pasted, Placed}
 use Rattle.stamps.specs.Listing.{line_room}
-use Rattle.stamps.specs.Parts.{line_of, lines_in, lines_from, held_lines, part_lines, part_text, part_of, PartPlaced, lines_outcome, scratch_holds, PartCall}
+use Rattle.stamps.specs.Parts.{line_of, lines_in, lines_from, held_lines, part_lines, part_text, part_of, PartPlaced, scratch_holds, PartCall}
 use Rattle.stamps.proofs.Blocks.{few-lines}
 
 module _ (how : Reporting) (rows : List Row) (s : List ℕ) where
@@ -104,8 +106,8 @@ module _ (how : Reporting) (rows : List Row) (s : List ℕ) where
     pub stops_full : k < left → PartPlaced how rows s line d (record { written = at; line = line + k; done = false }) d'
     stops_full h = part_placed false (sym (lt-leb (lines_in (block_of s)) (line + k) (omega arith)))
 
-    pub stops_done : left ≤ k → PartPlaced how rows s line d (record { written = at; line = line + k; done = true }) d'
-    stops_done h = part_placed true (sym (le-leb (lines_in (block_of s)) (line + k) (omega arith)))
+    pub stops_done : left ≡ k → PartPlaced how rows s line d (record { written = at; line = line + left; done = true }) d'
+    stops_done h = rw h (part_placed true (sym (le-leb (lines_in (block_of s)) (line + k) (omega arith))))
 
 -- ---- what a caller learns
 module _ {how : Reporting} {rows : List Row} {s d d' : List ℕ} {line : ℕ} {r : Part} (p : PartPlaced how rows s line d r d') where
@@ -129,16 +131,22 @@ module _ {how : Reporting} {rows : List Row} {s d d' : List ℕ} {line : ℕ} {r
       let few = few-lines s in
       (omega arith, omega arith)
 
--- ---- the call that tests its table, by the number that the test answers
-module _ (how : Reporting) (t : AnnouncedRows) (n : ℕ) (e : unless_refused n (rows_of t) ≡ table_of t) (s : List ℕ) (line : ℕ) (d : List ℕ) where
-  pub part-refused : (n ≡ 0 → ⊥) → PartCall how (table_of t) s line d (Refused n) d
-  unfolding lines_outcome scratch_holds
-  part-refused h = record { says = not_taken t n e _ h; holds = ap (λ (o : Outcome (List ℕ)). scratch_holds o d) (not_taken t n e _ h) }
-
-  pub part-taken : n ≡ 0 → (r : Part) (d' : List ℕ) → PartPlaced how (rows_of t) s line d r d' → PartCall how (table_of t) s line d (Lines r) d'
-  unfolding lines_outcome scratch_holds
-  part-taken h r d' p =
+-- ---- the call that tests its table, by the result of the test
+module _ (how : Reporting) (t : AnnouncedRows) (judged : Result Unit Refusal) (e : unless_refused (number_said judged) (rows_of t) ≡ table_of t)
+    (s : List ℕ) (line : ℕ) (d : List ℕ) where
+  pub part-refused : (k : Refusal) → judged ≡ Err k → (r : Result Part Refusal) → IsErrAnd r (λ e. e ≡ k) → PartCall how (table_of t) s line d r d
+  unfolding scratch_holds
+  part-refused k is r on =
       record {
-        says = ap answer p.says ∙ taken t n e (λ rows. answer (part_of how rows s line (length d))) h;
-        holds = p.holds ∙ ap (λ (o : Outcome (List ℕ)). scratch_holds o d) (taken t n e (λ rows. answer (part_text how rows s line (length d))) h);
+        says = handed_on r k on ∙ call_refused t judged e _ k is;
+        holds = ap (λ (o : Outcome (List ℕ)). scratch_holds o d) (call_refused t judged e _ k is);
+      }
+
+  pub part-taken : (u : Unit) → judged ≡ Ok u → (r : Part) (d' : List ℕ) → PartPlaced how (rows_of t) s line d r d'
+      → PartCall how (table_of t) s line d (Ok r) d'
+  unfolding outcome scratch_holds
+  part-taken u is r d' p =
+      record {
+        says = ap answer p.says ∙ call_taken t judged e (λ rows. answer (part_of how rows s line (length d))) u is;
+        holds = p.holds ∙ ap (λ (o : Outcome (List ℕ)). scratch_holds o d) (call_taken t judged e (λ rows. answer (part_text how rows s line (length d))) u is);
       }

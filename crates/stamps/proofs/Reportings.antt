@@ -1,5 +1,5 @@
 -- A refusal as the code tells it is the refusal of the definition: which values it read, and its words by the way of reporting. Assumes nothing.
-use Prim.Native.Nat.{ℕ, ◌+◌, ◌*◌, ◌≤◌, ◌<◌}
+use Prim.Native.Nat.{ℕ, ◌+◌, ◌*◌, ◌<◌}
 use native.Mathlib.Omega.{arith}
 use mathlib.Core.Path.{◌≡◌, sym, ap, subst, ◌∙◌}
 use mathlib.Core.Bool.{Bool, true, false, cond}
@@ -11,15 +11,16 @@ use lib.Signed.{lt_z, mag}
 use mir.Syntax.{w32}
 use mir.Val.{SFits, to_z, of_z}
 use borrow.Author.Tests.{ltb-false}
-use Rattle.refusals.specs.Outcome.{Outcome, answer}
+use Rattle.std.specs.Prelude.{Result, Ok, Err}
+use Rattle.refusals.specs.declared.Refusal.{Refusal}
+use Rattle.refusals.specs.Refusal.{refusal_number}
+use Rattle.refusals.proofs.Handed.{number_low, number_high}
+use Rattle.refusals.specs.Outcome.{Outcome, answer, outcome}
 use Rattle.numerals.specs.little_endian.LittleEndian.{four_at, u32_at}
 use Rattle.calendar.proofs.Years.{DateInRange}
 use Rattle.julian.specs.declared.JulianDate.{JulianDate}
 use Rattle.julian.specs.declared.CalendarFields.{CalendarFields}
-use Rattle.julian.specs.declared.CalendarAnswer.{CalendarAnswer}
-use Rattle.julian.specs.declared.CalendarAnswer.TheVariants.{Fields, Refused}
-use Rattle.julian.specs.Calendar.{calendar_outcome, julian_to_calendar}
-use Rattle.utc.specs.declared.text.TextAnswer.{TextAnswer}
+use Rattle.julian.specs.Calendar.{julian_to_calendar}
 use Rattle.utc.specs.iso_texts.TextCall.{TextCall}
 use Rattle.julian.proofs.Dates.{date-in-range, read-fields}
 use Rattle.reasons.specs.declared.Values.{Values}
@@ -57,10 +58,12 @@ module _ (how : Reporting) (n : ℕ) (e : how ≡ Sentences n) where
   unfolding came
   block-values s size second p q = (λ i. Block n (p i) (q i)) ∙ ap (λ (h : Reporting). Block (came h s) (u32_at s 0) (u32_at s 4)) (sym e)
 
--- a number from 1 to 28 has its sentence
-pub as_given : (k : ℕ) (v : Values) {p ys : List ℕ} {res : TextAnswer} → 1 ≤ k → k ≤ 28 → TextCall (sentence k v) p res ys
-    → TextCall (answer (render (record { number = k; named = offending k v }))) p res ys
-as_given k v {p} {ys} {res} low high call = subst (λ (o : Outcome (List ℕ)). TextCall o p res ys) (sentence-is k v low high) call
+-- a refusal has its sentence
+pub as_given : (k : Refusal) (n : ℕ) → n ≡ refusal_number k → (v : Values) {p ys : List ℕ} {res : Result ℕ Refusal} → TextCall (sentence n v) p res ys
+    → TextCall (answer (render (record { number = refusal_number k; named = offending (refusal_number k) v }))) p res ys
+as_given k n e v {p} {ys} {res} call =
+    subst (λ (o : Outcome (List ℕ)). TextCall o p res ys)
+    (ap (λ (n : ℕ). sentence n v) e ∙ sentence-is (refusal_number k) v (number_low k) (number_high k)) call
 
 pub block-width : (n size second : ℕ) → n < 18446744073709551616 → size < 4294967296 → second < 4294967296 → OfWidth (Block n size second)
 unfolding OfWidth
@@ -84,11 +87,11 @@ year_fits : (y : ℤ) → lt_z y (negsuc 4899) ≡ false → lt_z (pos 2733194) 
 year_fits (pos n) l h = omega (arith, ltb-false 2733194 n h)
 year_fits (negsuc n) l h = omega (arith, ltb-false 4899 n l)
 
-module _ (jd : JulianDate) (res : CalendarAnswer) (e : calendar_outcome res ≡ julian_to_calendar jd.jd1 jd.jd2) where
-  module _ (c : CalendarFields) (is : res ≡ Fields c) where
+module _ (jd : JulianDate) (res : Result CalendarFields Refusal) (e : outcome res ≡ julian_to_calendar jd.jd1 jd.jd2) where
+  module _ (c : CalendarFields) (is : res ≡ Ok c) where
     given : julian_to_calendar jd.jd1 jd.jd2 ≡ answer c
-    unfolding calendar_outcome
-    given = sym e ∙ ap calendar_outcome is
+    unfolding outcome
+    given = sym e ∙ ap outcome is
 
     range : DateInRange c.date
     range = date-in-range jd.jd1 jd.jd2 c given
@@ -105,6 +108,6 @@ module _ (jd : JulianDate) (res : CalendarAnswer) (e : calendar_outcome res ≡ 
         read-fields Date c.date (record { sfits = year_fits c.date.year range.year_low range.year_high }) range.month-high range.day-high
         ∙ ap (values_by jd) (sym given)
 
-  pub parts-values : (k : ℕ) → res ≡ Refused k → Parts jd.jd1 jd.jd2 ≡ refused_values jd
-  unfolding values_by calendar_outcome
-  parts-values k is = ap (values_by jd) (sym (ap calendar_outcome is) ∙ e)
+  pub parts-values : (k : Refusal) → res ≡ Err k → Parts jd.jd1 jd.jd2 ≡ refused_values jd
+  unfolding values_by outcome
+  parts-values k is = ap (values_by jd) (sym (ap outcome is) ∙ e)

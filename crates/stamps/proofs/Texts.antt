@@ -11,19 +11,19 @@ use lib.Dec.{leb}
 use lib.IntN.{ℤ, pos, negsuc, nat_abs}
 use lib.Signed.{lt_z}
 use borrow.Author.Tests.{le-leb, ltb-false}
-use Rattle.refusals.specs.Outcome.{Outcome, answer, refusal, onward}
+use Rattle.std.specs.Prelude.{Result, Ok, Err}
+use Rattle.std.specs.Result.{result_unwrap_or}
+use Rattle.refusals.specs.declared.Refusal.{Refusal}
+use Rattle.refusals.specs.Refusal.{refusal_number}
+use Rattle.refusals.specs.Outcome.{Outcome, answer, refusal, onward, outcome}
 use Rattle.julian.specs.declared.JulianDate.{JulianDate}
 use Rattle.julian.specs.declared.CalendarFields.{CalendarFields}
 use Rattle.julian.specs.Calendar.{julian_to_calendar}
 use Rattle.leap_table.specs.rows.Table.{Row}
-use Rattle.utc.specs.declared.text.TextAnswer.{TextAnswer}
-use Rattle.utc.specs.declared.text.TextAnswer.TheVariants.{Written, Refused}
-use Rattle.utc.specs.text.Answer.{text_outcome, text_written, buffer_after}
+use Rattle.utc.specs.text.Answer.{text_written, buffer_after}
 use Rattle.leap_table.specs.declared.offsets.Rule.{Rule}
 use Rattle.leap_table.specs.offsets.Rule.{forget}
-use Rattle.utc.specs.declared.iso_texts.TextByRule.{TextByRule}
-use Rattle.utc.specs.declared.iso_texts.TextByRule.TheVariants as Ruled
-use Rattle.utc.specs.iso_texts.ByRule.{expanded_by_rule, text_by_rule_outcome, TextRuleCall}
+use Rattle.utc.specs.iso_texts.ByRule.{expanded_by_rule, TextRuleCall}
 use Rattle.utc.specs.iso_texts.Expanded.{expanded_form, iso_text_expanded}
 use Rattle.utc.specs.iso_texts.TextCall.{written, buffer_holds, TextCall}
 use Rattle.julian.proofs.Dates.{date-in-range}
@@ -124,34 +124,40 @@ unfolding written buffer_holds onward
 reported-refused (answer t) p k b h e = let m = b t refl in absurd (refused-by t p k (omega arith) e)
 reported-refused (refusal j) p k b h e = let same : j ≡ k = cc in (ap refusal same, refl)
 
-module _ {rows' : List Row} (rows : List Row) (jd : JulianDate) (same : rows' ≡ rows) {p ys : List ℕ} {res : TextByRule}
-    (call : TextRuleCall (expanded_by_rule rows' jd) p res ys) where
+module _ (rows : List Row) (jd : JulianDate) {p ys : List ℕ} {res : Result (ℕ × Rule) Refusal} (call : TextRuleCall (expanded_by_rule rows jd) p res ys) where
   -- the call without the rule
-  plain : (t : TextAnswer) → text_outcome t ≡ forget (text_by_rule_outcome res) → TextCall (iso_text_expanded rows jd) p t ys
-  plain t e = call-as _ _ _ _ _ (sym (expanded-forgets rows jd) ∙ ap (λ (l : List Row). forget (expanded_by_rule l jd)) (sym same))
-      (rule-call-forgets _ _ _ _ _ e call)
+  plain : (t : Result ℕ Refusal) → outcome t ≡ forget (outcome res) → TextCall (iso_text_expanded rows jd) p t ys
+  plain t e = call-as _ _ _ _ _ (sym (expanded-forgets rows jd)) (rule-call-forgets _ _ _ _ _ e call)
 
-  pub text-written : (how : Reporting) (n : ℕ) (rule : Rule) → res ≡ Ruled.Written n rule → (n ≡ length (shown how jd (iso_text_expanded rows jd)))
+  pub text-written : (how : Reporting) (n : ℕ) (rule : Rule) → res ≡ Ok (n, rule) → (n ≡ length (shown how jd (iso_text_expanded rows jd)))
       × (ys ≡ shown how jd (iso_text_expanded rows jd) ++ drop (length (shown how jd (iso_text_expanded rows jd))) p)
-  unfolding text_outcome text_by_rule_outcome forget onward
+  unfolding outcome forget onward
   text-written how n rule e =
-      let call' = plain (Written n) (ap (λ (x : TextByRule). forget (text_by_rule_outcome x)) (sym e)) in
+      let call' = plain (Ok n) (ap (λ (x : Result (ℕ × Rule) Refusal). forget (outcome x)) (sym e)) in
       let w = reported-written how jd (iso_text_expanded rows jd) p n (sym call'.says) in
       (w.0, call'.holds ∙ w.1)
 
-  pub text_refused : (k : ℕ) → res ≡ Ruled.Refused k → 27 ≤ length p → (iso_text_expanded rows jd ≡ refusal k) × (ys ≡ p)
-  unfolding text_outcome text_by_rule_outcome forget onward
+  pub text_refused : (k : Refusal) → res ≡ Err k → 27 ≤ length p → (iso_text_expanded rows jd ≡ refusal (refusal_number k)) × (ys ≡ p)
+  unfolding outcome forget onward
   text_refused k e h =
-      let call' = plain (Refused k) (ap (λ (x : TextByRule). forget (text_by_rule_outcome x)) (sym e)) in
-      let w = reported-refused (iso_text_expanded rows jd) p k (brief rows jd) h (sym call'.says) in
+      let call' = plain (Err k) (ap (λ (x : Result (ℕ × Rule) Refusal). forget (outcome x)) (sym e)) in
+      let w = reported-refused (iso_text_expanded rows jd) p (refusal_number k) (brief rows jd) h (sym call'.says) in
       (w.0, call'.holds ∙ w.1)
 
 -- ---- a text that is surely there
-module _ {t p ys : List ℕ} {res : TextAnswer} (call : TextCall (answer t) p res ys) where
-  pub given-written : (n : ℕ) → res ≡ Written n → (n ≡ length t) × (ys ≡ t ++ drop (length t) p)
-  unfolding text_outcome written buffer_holds onward text_written buffer_after
-  given-written n e = let w = written-by t p n (leb (length t) (length p)) (sym call.says ∙ ap text_outcome e) in (w.0, call.holds ∙ w.1)
+module _ {t p ys : List ℕ} {res : Result ℕ Refusal} (call : TextCall (answer t) p res ys) where
+  pub given-written : (n : ℕ) → res ≡ Ok n → (n ≡ length t) × (ys ≡ t ++ drop (length t) p)
+  unfolding outcome written buffer_holds onward text_written buffer_after
+  given-written n e = let w = written-by t p n (leb (length t) (length p)) (sym call.says ∙ ap outcome e) in (w.0, call.holds ∙ w.1)
 
-  pub given-fits : (k : ℕ) → res ≡ Refused k → length t ≤ length p → ⊥
-  unfolding text_outcome written onward
-  given-fits k e h = refused-by t p k h (sym call.says ∙ ap text_outcome e)
+  pub given-fits : (k : Refusal) → res ≡ Err k → length t ≤ length p → ⊥
+  unfolding outcome written onward
+  given-fits k e h = refused-by t p (refusal_number k) h (sym call.says ∙ ap outcome e)
+
+  -- where it fits, its length stands for the answer
+  pub given-whole : length t ≤ length p → (n : ℕ) → n ≡ result_unwrap_or res 0 → (n ≡ length t) × (ys ≡ t ++ drop (length t) p)
+  given-whole h n e = by res refl
+    where
+      by : (x : Result ℕ Refusal) → res ≡ x → (n ≡ length t) × (ys ≡ t ++ drop (length t) p)
+      by (Ok m) q = let w = given-written m q in (e ∙ ap (λ (x : Result ℕ Refusal). result_unwrap_or x 0) q ∙ w.0, w.1)
+      by (Err k) q = absurd (given-fits k q h)

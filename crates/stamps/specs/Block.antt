@@ -6,13 +6,6 @@ use Rattle.refusals.specs.Outcome.{Outcome, answer, refusal}
 use Rattle.numerals.specs.little_endian.LittleEndian.{u32_at, u64_at}
 use Rattle.julian.specs.declared.JulianDate.{JulianDate}
 use Rattle.julian.specs.JulianDate.{julian}
-use Rattle.stamps.specs.declared.BlockAnswer.{BlockAnswer}
-use Rattle.stamps.specs.declared.BlockAnswer.TheVariants.{Stamps, Refused}
-
--- the outcome that each case of the enum is
-unfoldable pub block_outcome : BlockAnswer → Outcome ℕ
-block_outcome (Stamps n) = answer n
-block_outcome (Refused k) = refusal k
 
 -- the number of stamps; refusals in order: 14 under 8 bytes, 12 sizes that differ, 13 a size above 4,000, 14 another length than the sizes say
 unfoldable pub block_of : List ℕ → Outcome ℕ

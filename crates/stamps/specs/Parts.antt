@@ -1,12 +1,11 @@
 -- The listing by line numbers, and the part of it that a scratch holds. Written from document 01, "The program that lists a block" ("It writes through a
 -- 4,096-byte scratch"), for a scratch of any length, and document 02, item 8, for a table that may be refused. Assumes nothing.
-use Rattle.std.specs.Prelude.{ℕ, zero, suc, ◌+◌, ◌-◌, ◌≡◌, List, [], ◌++◌, cond, length, drop, leb, eqb}
-use Rattle.refusals.specs.Outcome.{Outcome, answer, refusal, onward}
+use Rattle.std.specs.Prelude.{ℕ, zero, suc, ◌+◌, ◌-◌, ◌≡◌, List, [], ◌++◌, cond, length, drop, leb, eqb, Result}
+use Rattle.refusals.specs.declared.Refusal.{Refusal}
+use Rattle.refusals.specs.Outcome.{Outcome, answer, refusal, onward, outcome}
 use Rattle.leap_table.specs.rows.Table.{Row}
 use Rattle.stamps.specs.declared.Reporting.{Reporting}
 use Rattle.stamps.specs.declared.Part.{Part}
-use Rattle.stamps.specs.declared.LinesAnswer.{LinesAnswer}
-use Rattle.stamps.specs.declared.LinesAnswer.TheVariants.{Lines, Refused}
 use Rattle.stamps.specs.Block.{block_of}
 use Rattle.stamps.specs.Listing.{line_room, header, block_refused, refused_in, stamp_line}
 
@@ -50,17 +49,13 @@ pub record PartPlaced (how : Reporting) (rows : List Row) (s : List ℕ) (line :
   pub says : r ≡ part_of how rows s line (length before)
   pub holds : after ≡ part_text how rows s line (length before) ++ drop (length (part_text how rows s line (length before))) before
 
--- ---- the call that tests its table: the part by the table's rows, or the table's refusal and the scratch as it was
-unfoldable pub lines_outcome : LinesAnswer → Outcome Part
-lines_outcome (Lines p) = answer p
-lines_outcome (Refused k) = refusal k
-
 unfoldable pub scratch_holds : Outcome (List ℕ) → List ℕ → List ℕ
 scratch_holds (answer t) before = t ++ drop (length t) before
 scratch_holds (refusal k) before = before
 
-pub record PartCall (how : Reporting) (table : Outcome (List Row)) (s : List ℕ) (line : ℕ) (before : List ℕ) (r : LinesAnswer) (after : List ℕ) : Type 0 where
-  pub says : lines_outcome r ≡ onward table (λ rows. answer (part_of how rows s line (length before)))
+pub record PartCall (how : Reporting) (table : Outcome (List Row)) (s : List ℕ) (line : ℕ) (before : List ℕ) (r : Result Part Refusal)
+    (after : List ℕ) : Type 0 where
+  pub says : outcome r ≡ onward table (λ rows. answer (part_of how rows s line (length before)))
   pub holds : after ≡ scratch_holds (onward table (λ rows. answer (part_text how rows s line (length before)))) before
 
 -- what a caller writes that asks for parts from line 0 on, each from the line that the part before it named: the line after k parts, and the k parts

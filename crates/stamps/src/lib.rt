@@ -6,20 +6,17 @@ mod place;
 mod reported;
 
 ghost use Rattle.std.specs.Prelude.{◌≡◌, ◌≤◌, ◌<◌};
-ghost use Rattle.stamps.specs.Block.{block_outcome, block_of, stamp_at};
+ghost use Rattle.refusals.specs.Outcome.{outcome};
+ghost use Rattle.stamps.specs.Block.{block_of, stamp_at};
 
 use julian::JulianDate;
 pub use listing::{next_part, next_part_by_rows};
-
-// The number of stamps, or the number of the refusal.
-#[derive(Clone, Copy)]
-pub enum BlockAnswer {
-    Stamps(usize),
-    Refused(u32),
-}
+use refusals::Refusal;
 
 // How a listing reports a refusal: by its number, or by its sentence. Of a refused block the sentence may name how many bytes came in all, of which the block
 // has the first.
+// kept: an enum and no closures: each caller names its variant, and `PartPlaced` and the theorems above it speak of it; three matches stand for it, the room
+// of a line, the refusal of a date and that of a block, so that three closures would travel in its place.
 #[derive(Clone, Copy)]
 pub enum Reporting {
     Numbers,
@@ -27,6 +24,7 @@ pub enum Reporting {
 }
 
 // What `next_part` put into the scratch: how many bytes, which line comes next, and whether the listing ends here.
+// kept: a flag and no `Option`, since the last part has bytes and a line too.
 #[derive(Clone, Copy)]
 pub struct Part {
     pub written: usize,
@@ -34,36 +32,32 @@ pub struct Part {
     pub done: bool,
 }
 
-// A part of the listing, or the number of the refusal.
-#[derive(Clone, Copy)]
-pub enum LinesAnswer {
-    Lines(Part),
-    Refused(u32),
-}
-
 // How many stamps the block has. Refusals in order: 14 under 8 bytes, 12, 13, then 14.
-pub fn block_stamps(block: &[u8]) -> BlockAnswer
-    ensures { block_outcome result ≡ block_of block.now }
+#[tactic(auto, unfolding(crate::specs::Block::block_of, refusals::specs::Outcome::outcome, refusals::specs::Refusal::refusal_number))]
+pub fn block_stamps(block: &[u8]) -> Result<usize, Refusal>
+    ensures { outcome result ≡ block_of block.now }
 {
     if block.len() < 8 {
-        return BlockAnswer::Refused(refusals::LENGTH_WRONG);
+        return Err(Refusal::LengthWrong);
     }
     let size = numerals::little_endian::u32_at(block, 0);
     let second_size = numerals::little_endian::u32_at(block, 4);
     if size != second_size {
-        return BlockAnswer::Refused(refusals::SIZES_DIFFER);
+        return Err(Refusal::SizesDiffer);
     }
     if size > 4000 {
-        return BlockAnswer::Refused(refusals::TOO_MANY_STAMPS);
+        return Err(Refusal::TooManyStamps);
     }
     let stamps = size as usize;
     if block.len() != 8 + 16 * stamps {
-        return BlockAnswer::Refused(refusals::LENGTH_WRONG);
+        return Err(Refusal::LengthWrong);
     }
-    BlockAnswer::Stamps(stamps)
+    Ok(stamps)
 }
 
 // Stamp i of a block with so many stamps.
+// kept: `stamps` beside the block: block_stamps reads and judges it once, and each stamp's place goes by it.
+#[tactic(auto, unfolding(crate::specs::Block::jd1_bits, crate::specs::Block::jd2_bits, crate::specs::Block::stamp_at))]
 pub(crate) fn stamp_at(block: &[u8], stamps: usize, i: usize) -> JulianDate
     requires { (i < stamps) × (stamps ≤ 4000) }
     ensures { result ≡ stamp_at block.now stamps i }

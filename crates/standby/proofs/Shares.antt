@@ -2,12 +2,9 @@
 use mathlib.Core.Path.{◌≡◌, ap}
 use Prim.Native.Nat.{ℕ, ◌+◌, ◌*◌, ◌≤◌, ◌<◌}
 use native.Mathlib.Omega.{arith}
-use native.Mathlib.Nat.{mul-add, add-mul, div-add-mod', mod-lt, le_of_mul-le-mul_right, lt_of_mul-lt-mul_right, mul-le-mul}
+use native.Mathlib.Nat.{mul-add, add-mul, div-add-mod', mod-lt, le_of_mul-le-mul_right, lt_of_mul-lt-mul_right}
 use borrow.Author.Tests.{lt-ltb, le-ltb}
 use Rattle.standby.specs.Bills.{share_down, remainder, cent_left, bill, shares}
-
-pub small_product : (a b c d : ℕ) → a ≤ c → b ≤ d → a * b ≤ c * d
-small_product a b c d h k = mul-le-mul h k
 
 module _ (total a b : ℕ) (h : 0 < a + b) where
   abbrev m : ℕ

@@ -2,12 +2,14 @@
 use mathlib.Core.Path.{◌≡◌, refl, ap, sym, subst, ◌∙◌}
 use mathlib.Core.Bool.{Bool, true, false, true≢false, cond, ◌&&◌}
 use mathlib.Core.List.{List}
-use Prim.Native.Nat.{ℕ, ◌+◌, ◌-◌, ◌≤◌, ◌<◌}
+use Prim.Native.Nat.{ℕ, ◌+◌, ◌-◌, ◌≤◌}
 use native.Mathlib.Omega.{arith}
-use lib.Dec.{leb, ltb}
+use lib.Dec.{leb}
 use lib.IntN.{ℤ, pos, negsuc, nat_abs}
 use lib.Signed.{lt_z}
-use borrow.Author.Tests.{lt-leb, le-leb, eq-eqb, ne_eqb, leb-true, ltb-false, le-ltb}
+use borrow.Author.Tests.{leb-true, ltb-false, le-ltb}
+use Rattle.std.specs.Prelude.{Result, Ok, Err}
+use Rattle.refusals.specs.declared.Refusal.{Refusal}
 use Rattle.refusals.specs.Outcome.{Outcome, answer, refusal, onward}
 use Rattle.calendar.specs.declared.CalendarDate.{CalendarDate}
 use Rattle.calendar.specs.Refusals.{valid_date, next_of}
@@ -22,45 +24,17 @@ use Rattle.leap_table.proofs.offsets.TableSeconds.{seconds-in-range}
 use Rattle.leap_table.proofs.offsets.WholeSeconds.{late}
 use Rattle.standby.specs.declared.UtcTime.{UtcTime}
 use Rattle.standby.specs.declared.Instant.{Instant}
-use Rattle.standby.specs.declared.InstantAnswer.TheVariants as I
 use Rattle.standby.specs.Times.{in_its_day, last_minute, tai_ms, instant_on, instant}
 
 -- ---- the answer's cases
-pub same-instant : {a b : Instant} → I.At a ≡ I.At b → a ≡ b
+pub same-instant : {a b : Instant} → ◌≡◌ {A = Result Instant Refusal} (Ok a) (Ok b) → a ≡ b
 same-instant e = cc
 
-pub never-at : (n : ℕ) (i : Instant) {A : Type 0} → I.Refused n ≡ I.At i → A
+pub never-at : (n : Refusal) (i : Instant) {A : Type 0} → ◌≡◌ {A = Result Instant Refusal} (Err n) (Ok i) → A
 never-at n i e = let z : ◌≡◌ {A = ℕ} 0 1 = cc in absurd (omega arith)
 
 -- ---- the time of the day
 module _ (t : UtcTime) (last : ℕ) where
-  pub late-hour : 23 < t.hour → false ≡ in_its_day t last
-  unfolding in_its_day
-  late-hour h = rw (lt-leb t.hour 23 h)
-
-  module _ (hh : t.hour ≤ 23) where
-    pub late-minute : 59 < t.minute → false ≡ in_its_day t last
-    unfolding in_its_day
-    late-minute h = rw (le-leb t.hour 23 hh, lt-leb t.minute 59 h)
-
-    module _ (hm : t.minute ≤ 59) where
-      pub many-millis : 999 < t.millis → false ≡ in_its_day t last
-      unfolding in_its_day
-      many-millis h = rw (le-leb t.hour 23 hh, le-leb t.minute 59 hm, lt-leb t.millis 999 h)
-
-      module _ (hs : t.millis ≤ 999) where
-        pub in_last_minute : t.hour ≡ 23 → t.minute ≡ 59 → ltb t.second last ≡ in_its_day t last
-        unfolding in_its_day
-        in_last_minute p q = rw (le-leb t.hour 23 hh, le-leb t.minute 59 hm, le-leb t.millis 999 hs, eq-eqb t.hour 23 p, eq-eqb t.minute 59 q)
-
-        pub in_other_hour : (t.hour ≡ 23 → ⊥) → ltb t.second 60 ≡ in_its_day t last
-        unfolding in_its_day
-        in_other_hour p = rw (le-leb t.hour 23 hh, le-leb t.minute 59 hm, le-leb t.millis 999 hs, ne_eqb t.hour 23 p)
-
-        pub in_other_minute : t.hour ≡ 23 → (t.minute ≡ 59 → ⊥) → ltb t.second 60 ≡ in_its_day t last
-        unfolding in_its_day
-        in_other_minute p q = rw (le-leb t.hour 23 hh, le-leb t.minute 59 hm, le-leb t.millis 999 hs, eq-eqb t.hour 23 p, ne_eqb t.minute 59 q)
-
   -- what a time of the day is
   pub few_millis : in_its_day t last ≡ true → t.millis ≤ 999
   unfolding in_its_day

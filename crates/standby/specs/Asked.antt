@@ -1,17 +1,16 @@
 -- What the functions below `standby_bill` ask of their arguments, and ensure. Assumes nothing.
-use Rattle.std.specs.Prelude.{ℕ, ◌+◌, ◌≤◌, ◌<◌, ◌≡◌, false, pos}
+use Rattle.std.specs.Prelude.{ℕ, ◌+◌, ◌≤◌, ◌<◌, ◌≡◌, false, pos, Result, Ok}
 use Rattle.std.specs.Int.Signed.{lt_z}
-use Rattle.refusals.specs.Outcome.{Outcome, answer}
+use Rattle.refusals.specs.declared.Refusal.{Refusal}
+use Rattle.refusals.specs.Outcome.{Outcome, answer, seen}
 use Rattle.calendar.specs.declared.CalendarDate.{CalendarDate}
 use Rattle.calendar.specs.Refusals.{next_of}
 use Rattle.leap_table.specs.declared.rows.AnnouncedRows.{AnnouncedRows}
 use Rattle.leap_table.specs.rows.Announced.{rows_of, table_of}
 use Rattle.standby.specs.declared.UtcTime.{UtcTime}
 use Rattle.standby.specs.declared.Instant.{Instant}
-use Rattle.standby.specs.declared.InstantAnswer.{InstantAnswer}
-use Rattle.standby.specs.declared.InstantAnswer.TheVariants as I
 use Rattle.standby.specs.Times.{mjd_day}
-use Rattle.standby.specs.Answers.{instant_ms, instant_outcome}
+use Rattle.standby.specs.Instants.{instant_ms}
 
 -- a table that is taken, and a date from 1972 on with its day and its next date
 pub record Dated (table : AnnouncedRows) (t : UtcTime) (day : ℕ) (next : CalendarDate) : Type 0 where
@@ -26,10 +25,10 @@ pub record SmallInstant (i : Instant) : Type 0 where
   pub few_seconds : i.seconds < 1000000000000000000
   pub few_millis : i.millis ≤ 999
 
--- the answer is the outcome o, and an instant is small
-pub record InstantIs (o : Outcome ℕ) (r : InstantAnswer) : Type 0 where
-  pub says : instant_outcome r ≡ o
-  pub small : (i : Instant) → r ≡ I.At i → SmallInstant i
+-- the result says the outcome o in milliseconds, and an instant is small
+pub record InstantIs (o : Outcome ℕ) (r : Result Instant Refusal) : Type 0 where
+  pub says : seen instant_ms r ≡ o
+  pub small : (i : Instant) → r ≡ Ok i → SmallInstant i
 
 pub record StartFirst (start end : Instant) : Type 0 where
   pub small_start : SmallInstant start

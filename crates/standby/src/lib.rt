@@ -3,17 +3,18 @@
 #![tactic(auto)]
 
 ghost use Rattle.std.specs.Prelude.{◌≡◌, ◌+◌, ◌*◌, ◌≤◌, ◌<◌};
-ghost use Rattle.refusals.specs.Outcome.{answer, onward};
+ghost use Rattle.refusals.specs.Outcome.{answer, onward, outcome};
 ghost use Rattle.leap_table.specs.rows.Announced.{rows_of, table_of};
 ghost use Rattle.standby.specs.Times.{in_its_day, last_minute, time_seconds};
 ghost use Rattle.standby.specs.Times as T;
 ghost use Rattle.standby.specs.Bills.{over_limit, shares, bill_between, standby_bill};
 ghost use Rattle.standby.specs.Bills as B;
-ghost use Rattle.standby.specs.Answers.{instant_ms, instant_outcome, bill_outcome};
+ghost use Rattle.standby.specs.Instants.{instant_ms};
 ghost use Rattle.standby.specs.Asked.{Dated, InstantIs, SmallInstant, StartFirst, InLimits};
 
-use calendar::{CalendarDate, MjdAnswer, NextDay};
+use calendar::CalendarDate;
 use leap_table::rows::AnnouncedRows;
+use refusals::Refusal;
 
 // The longest of each: quarters, cents a quarter, metres.
 const LIMIT: u64 = 1_000_000;
@@ -38,31 +39,18 @@ pub struct Bill {
     pub second: u64,
 }
 
-// A bill, or the number of the refusal.
-#[derive(Clone, Copy)]
-pub enum BillAnswer {
-    Billed(Bill),
-    Refused(u32),
-}
-
 // Whole TAI seconds from 0h TAI of Modified Julian Date 0, and milliseconds. In milliseconds alone the last years would not fit 64 bits.
-#[derive(Clone, Copy)]
+#[derive(Clone, Copy, PartialEq, Eq, PartialOrd, Ord)]
 struct Instant {
     seconds: u64,
     millis: u32,
 }
 
-// An instant, or the number of the refusal.
-#[derive(Clone, Copy)]
-enum InstantAnswer {
-    At(Instant),
-    Refused(u32),
-}
-
 // The seconds of the day's last minute: 60, and one more or less where the table steps with the next date. `offset` is TAI-UTC on the date.
-fn last_minute(t: UtcTime, next: CalendarDate, offset: u32, table: AnnouncedRows) -> u32
-    requires { (offset ≡ T.offset_on_date (rows_of table) t) × (offset ≤ 60) }
-    ensures { result ≡ last_minute (rows_of table) t next }
+#[tactic(auto, unfolding(crate::specs::Times::last_minute))]
+fn last_minute(t: UtcTime, next: CalendarDate, offset: u32, table: &AnnouncedRows) -> u32
+    requires { (offset ≡ T.offset_on_date (rows_of table.now) t) × (offset ≤ 60) }
+    ensures { result ≡ last_minute (rows_of table.now) t next }
 {
     if next.year == t.year {
         if next.month == t.month as u32 {
@@ -73,6 +61,7 @@ fn last_minute(t: UtcTime, next: CalendarDate, offset: u32, table: AnnouncedRows
 }
 
 // Whether the time is one of a day whose last minute has `last` seconds.
+#[tactic(auto, unfolding(crate::specs::Times::in_its_day))]
 fn in_its_day(t: UtcTime, last: u32) -> bool
     ensures { result ≡ in_its_day t last }
 {
@@ -94,6 +83,7 @@ fn in_its_day(t: UtcTime, last: u32) -> bool
 }
 
 // The seconds of the day before the time.
+#[tactic(auto, unfolding(crate::specs::Times::time_seconds))]
 fn time_seconds(t: UtcTime) -> u64
     ensures { (result ≡ time_seconds t) × (result < 1000000) }
 {
@@ -101,56 +91,42 @@ fn time_seconds(t: UtcTime) -> u64
 }
 
 // The instant of a time on Modified Julian Date `day`, whose next date is `next`. Refusal 4: the time is not in the day.
-fn at_time(t: UtcTime, day: u64, next: CalendarDate, table: AnnouncedRows) -> InstantAnswer
-    requires { Dated table t day next }
-    ensures { InstantIs (T.instant_on (rows_of table) t next) result }
+fn at_time(
+    t: UtcTime,
+    day: u64,
+    next: CalendarDate,
+    table: &AnnouncedRows,
+) -> Result<Instant, Refusal>
+    requires { Dated table.now t day next }
+    ensures { InstantIs (T.instant_on (rows_of table.now) t next) result }
 {
     let offset = leap_table::offsets::whole_seconds_by_rows(t.year, t.month as u32, table);
     let last = last_minute(t, next, offset, table);
     if in_its_day(t, last) {
-        InstantAnswer::At(Instant {
+        Ok(Instant {
             seconds: 86400 * day + time_seconds(t) + offset as u64,
             millis: t.millis,
         })
     } else {
-        InstantAnswer::Refused(refusals::TIME_NOT_IN_DAY)
+        Err(Refusal::TimeNotInDay)
     }
 }
 
 // The instant of a UTC time from 1972 on. Refusals in order: 1 the year, 2 the month, 3 the day, 5 no next day, 4 the time.
-fn instant_of(t: UtcTime, table: AnnouncedRows) -> InstantAnswer
-    requires { table_of table ≡ answer (rows_of table) }
-    ensures { InstantIs (T.instant (rows_of table) t) result }
+fn instant_of(t: UtcTime, table: &AnnouncedRows) -> Result<Instant, Refusal>
+    requires { table_of table.now ≡ answer (rows_of table.now) }
+    ensures { InstantIs (T.instant (rows_of table.now) t) result }
 {
     if t.year < 1972 {
-        return InstantAnswer::Refused(refusals::YEAR_BEFORE_FIRST);
+        return Err(Refusal::YearBeforeFirst);
     }
-    match calendar::modified_julian_day(t.year, t.month as i32, t.day as i32) {
-        MjdAnswer::Refused(number) => InstantAnswer::Refused(number),
-        MjdAnswer::Mjd(n) => {
-            match calendar::next_calendar_day(t.year, t.month as i32, t.day as i32) {
-                NextDay::Refused(number) => InstantAnswer::Refused(number),
-                NextDay::Date(next) => at_time(t, n as u64, next, table),
-            }
-        }
-    }
-}
-
-// Whether a is earlier than b.
-fn is_before(a: Instant, b: Instant) -> bool
-    requires { (SmallInstant a) × (SmallInstant b) }
-    ensures { result ≡ B.is_before (instant_ms a) (instant_ms b) }
-{
-    if a.seconds < b.seconds {
-        return true;
-    }
-    if b.seconds < a.seconds {
-        return false;
-    }
-    a.millis < b.millis
+    let day = calendar::modified_julian_day(t.year, t.month as i32, t.day as i32)?;
+    let next = calendar::next_calendar_day(t.year, t.month as i32, t.day as i32)?;
+    at_time(t, day as u64, next, table)
 }
 
 // The started quarter hours from start to end: those of the started seconds, so that no milliseconds are counted, which might not fit.
+#[tactic(auto, unfolding(crate::specs::Bills::quarters))]
 fn quarters_between(start: Instant, end: Instant) -> u64
     requires { StartFirst start end }
     ensures { result ≡ B.quarters_between (instant_ms start) (instant_ms end) }
@@ -163,6 +139,9 @@ fn quarters_between(start: Instant, end: Instant) -> u64
 }
 
 // Whether a number of the bill is over its limit.
+// kept: rate and metres are no struct: `standby_bill` has them one by one, as ct_standby_bill does, and `shared` takes them as `u64`; a struct would be filled
+// once and taken apart at each use.
+#[tactic(auto, unfolding(crate::specs::Bills::over_limit))]
 fn over_limit(quarters: u64, rate: u32, first_metres: u32, second_metres: u32) -> bool
     ensures { result ≡ over_limit quarters rate first_metres second_metres }
 {
@@ -179,6 +158,7 @@ fn over_limit(quarters: u64, rate: u32, first_metres: u32, second_metres: u32) -
 }
 
 // Both shares rounded down, and the cent that may be left over to the larger remainder, to the first where they tie.
+#[tactic(auto, unfolding(crate::specs::Bills::shares))]
 fn shared(quarters: u64, rate: u64, first_metres: u64, second_metres: u64) -> Bill
     requires { InLimits quarters rate first_metres second_metres }
     ensures { result ≡ shares quarters (quarters * rate) first_metres second_metres }
@@ -212,21 +192,21 @@ fn bill_between(
     rate: u32,
     first_metres: u32,
     second_metres: u32,
-) -> BillAnswer
+) -> Result<Bill, Refusal>
     requires { (SmallInstant start) × (SmallInstant end) }
-    ensures { bill_outcome result ≡ bill_between (instant_ms start) (instant_ms end) rate first_metres second_metres }
+    ensures { outcome result ≡ bill_between (instant_ms start) (instant_ms end) rate first_metres second_metres }
 {
-    if is_before(end, start) {
-        return BillAnswer::Refused(refusals::END_BEFORE_START);
+    if end < start {
+        return Err(Refusal::EndBeforeStart);
     }
     let quarters = quarters_between(start, end);
     if over_limit(quarters, rate, first_metres, second_metres) {
-        return BillAnswer::Refused(refusals::BILL_NUMBER_OVER_LIMIT);
+        return Err(Refusal::BillNumberOverLimit);
     }
     if first_metres + second_metres == 0 {
-        return BillAnswer::Refused(refusals::BOTH_LENGTHS_ZERO);
+        return Err(Refusal::BothLengthsZero);
     }
-    BillAnswer::Billed(shared(
+    Ok(shared(
         quarters,
         rate as u64,
         first_metres as u64,
@@ -243,18 +223,11 @@ pub fn standby_bill(
     first_metres: u32,
     second_metres: u32,
     table: AnnouncedRows,
-) -> BillAnswer
-    ensures { bill_outcome result ≡ onward (table_of table) (λ rows. standby_bill rows start end rate first_metres second_metres) }
+) -> Result<Bill, Refusal>
+    ensures { outcome result ≡ onward (table_of table) (λ rows. standby_bill rows start end rate first_metres second_metres) }
 {
-    let number = leap_table::rows::table_refusal(table);
-    if number != 0 {
-        return BillAnswer::Refused(number);
-    }
-    match instant_of(start, table) {
-        InstantAnswer::Refused(number) => BillAnswer::Refused(number),
-        InstantAnswer::At(s) => match instant_of(end, table) {
-            InstantAnswer::Refused(number) => BillAnswer::Refused(number),
-            InstantAnswer::At(e) => bill_between(s, e, rate, first_metres, second_metres),
-        },
-    }
+    leap_table::rows::judge_table(&table)?;
+    let from = instant_of(start, &table)?;
+    let to = instant_of(end, &table)?;
+    bill_between(from, to, rate, first_metres, second_metres)
 }

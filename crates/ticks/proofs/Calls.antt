@@ -7,12 +7,15 @@ use mathlib.Core.List.{List, ◌++◌}
 use lib.ListN.{length, drop, length-append}
 use lib.Dec.{eqb}
 use borrow.Author.Tests.{eqb-true, ne_eqb}
-use Rattle.refusals.specs.Outcome.{answer, refusal, onward}
+use Rattle.std.specs.Prelude.{Result, Ok}
+use Rattle.refusals.specs.declared.Refusal.{Refusal}
+use Rattle.refusals.specs.Refusal.{refusal_number}
+use Rattle.refusals.specs.Outcome.{answer, refusal, onward, outcome}
 use Rattle.numerals.specs.little_endian.LittleEndian.{eight_bytes}
-use Rattle.ticks.specs.declared.TicksAnswer.TheVariants.{Written, Refused}
 use Rattle.ticks.specs.Passes.{millis_at}
 use Rattle.ticks.specs.judging.Refusing.{number_at, numbers_in, refused_by}
-use Rattle.ticks.specs.Ticks.{passes_of, bytes_of, placed_ticks, ticks_outcome, lent_after, TicksCall}
+use Rattle.ticks.specs.Ticks.{passes_of, bytes_of, placed_ticks, lent_after, TicksCall}
+use Rattle.ticks.proofs.Refused.{not-zero}
 use Rattle.ticks.proofs.judging.Ladder.{ladder_passed}
 
 pub length-bytes : (f : ℕ → ℕ) (k : ℕ) → length (bytes_of f k) ≡ 8 * k
@@ -33,16 +36,16 @@ module _ (ps ms ts out : List ℕ) where
   unfolding placed_ticks
   is_answer e = rw e
 
-  pub refused-call : (k : ℕ) → k ≡ refused_by ps ms ts (length out) → (k ≡ 0 → ⊥) → TicksCall (placed_ticks ps ms ts (length out)) out (Refused k) out
-  unfolding ticks_outcome onward lent_after
-  refused-call k e h = rw (is-refused k e h) (record { says = refl; holds = refl })
+  pub refused-call : (r : Result ℕ Refusal) (k : Refusal) → outcome r ≡ refusal (refusal_number k) → refusal_number k ≡ refused_by ps ms ts (length out)
+      → TicksCall (placed_ticks ps ms ts (length out)) out r out
+  unfolding onward lent_after
+  refused-call r k i e = rw (is-refused (refusal_number k) e (not-zero k)) (record { says = i; holds = refl })
 
-  pub written-call : (out' : List ℕ) (k : ℕ) → k ≡ refused_by ps ms ts (length out) → k ≡ 0
+  pub written-call : (out' : List ℕ) → refused_by ps ms ts (length out) ≡ 0
       → out' ≡ bytes_of (λ x. millis_at (passes_of ps ms) (number_at ts x)) (numbers_in ts) ++ drop (8 * numbers_in ts) out
-      → TicksCall (placed_ticks ps ms ts (length out)) out (Written (length ts)) out'
-  unfolding ticks_outcome onward lent_after
-  written-call out' k ek e eo =
-      let z : refused_by ps ms ts (length out) ≡ 0 = sym ek ∙ e in
+      → TicksCall (placed_ticks ps ms ts (length out)) out (Ok (length ts)) out'
+  unfolding outcome onward lent_after
+  written-call out' z eo =
       let f : ℕ → ℕ = λ x. millis_at (passes_of ps ms) (number_at ts x) in
       let n : length (bytes_of f (numbers_in ts)) ≡ length ts = length-bytes f (numbers_in ts)
       ∙ eights (length ts) (ladder_passed ps ms ts (length out) z).ticks-whole in

@@ -1,4 +1,5 @@
 -- The laws of ticks between passes: the product by halves, the search, the line, and what the call writes.
+pub mod Refused
 pub mod Halves
 pub mod Search
 pub mod Lines

@@ -1,10 +1,10 @@
 -- Numbers written one after the other into a lent list, and the list after the last. Assumes nothing.
-use Prim.Native.Nat.{ℕ, ◌+◌, ◌-◌, ◌*◌, ◌<◌, ◌≤◌}
+use Prim.Native.Nat.{ℕ, ◌+◌, ◌*◌, ◌<◌, ◌≤◌}
 use native.Mathlib.Omega.{arith}
 use native.Mathlib.Numerals.{add-one}
 use mathlib.Core.Path.{◌≡◌, refl, sym, ap, ◌∙◌}
-use mathlib.Core.List.{List, [], ◌++◌}
-use lib.ListN.{length, take, drop, length-append, take-append-drop}
+use mathlib.Core.List.{List, ◌++◌}
+use lib.ListN.{length, take, drop, length-append}
 use lib.Seq.{sets, sets-eq, length-sets, length-take-le, take_at, drop_at, drop-drop}
 use Rattle.numerals.specs.little_endian.LittleEndian.{eight_bytes}
 use Rattle.ticks.specs.Ticks.{bytes_of}
@@ -55,9 +55,3 @@ module _ (f : ℕ → ℕ) (k : ℕ) (out₀ : List ℕ) where
             ap (λ (x : ℕ). drop x out') q ∙ ap (drop (8 * i + 8)) eo ∙ put-drop out (8 * i) m w ∙ later out out₀ (8 * i) p.rest
             ∙ ap (λ (x : ℕ). drop x out₀) (sym q);
       }
-
-  pub placing_ends : (out : List ℕ) (i j n : ℕ) → Placing f k out₀ out i j → i ≡ n → out ≡ bytes_of f n ++ drop (8 * n) out₀
-  placing_ends out i j n p e =
-      sym (take-append-drop (8 * i) out)
-      ∙ (λ x. p.done x ++ p.rest x)
-      ∙ ap (λ (m : ℕ). bytes_of f m ++ drop (8 * m) out₀) e

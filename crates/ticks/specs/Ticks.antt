@@ -1,10 +1,9 @@
 -- Lists of ticks and milliseconds as bytes, eight for a number, the lowest first, and what the lent list holds after the call. Written from document 02, item
 -- 10, and item 2: "spare places of a lent list stay, here and later". Which lists are refused says ticks::judging. Assumes nothing.
-use Rattle.std.specs.Prelude.{ℕ, zero, suc, ◌≡◌, cond, List, [], ◌++◌, length, drop, eqb}
-use Rattle.refusals.specs.Outcome.{Outcome, answer, refusal, onward}
+use Rattle.std.specs.Prelude.{ℕ, zero, suc, ◌≡◌, cond, List, [], ◌++◌, length, drop, eqb, Result}
+use Rattle.refusals.specs.declared.Refusal.{Refusal}
+use Rattle.refusals.specs.Outcome.{Outcome, answer, refusal, onward, outcome}
 use Rattle.numerals.specs.little_endian.LittleEndian.{eight_bytes}
-use Rattle.ticks.specs.declared.TicksAnswer.{TicksAnswer}
-use Rattle.ticks.specs.declared.TicksAnswer.TheVariants.{Written, Refused}
 use Rattle.ticks.specs.judging.Refusing.{number_at, numbers_in, refused_by}
 use Rattle.ticks.specs.Passes.{Passes, millis_at}
 
@@ -23,16 +22,12 @@ placed_ticks ps ms ts room =
     (answer (bytes_of (λ i. millis_at (passes_of ps ms) (number_at ts i)) (numbers_in ts)))
     (refusal (refused_by ps ms ts room))
 
-unfoldable pub ticks_outcome : TicksAnswer → Outcome ℕ
-ticks_outcome (Written n) = answer n
-ticks_outcome (Refused k) = refusal k
-
 -- the results at the start of the lent list and the rest as it was; refused, all as it was
 unfoldable pub lent_after : Outcome (List ℕ) → List ℕ → List ℕ
 lent_after (answer bytes) l = bytes ++ drop (length bytes) l
 lent_after (refusal k) l = l
 
 -- r is the number of bytes written, or the refusal, and the lent list, which held `before`, holds `after`
-pub record TicksCall (o : Outcome (List ℕ)) (before : List ℕ) (r : TicksAnswer) (after : List ℕ) : Type 0 where
-  pub says : ticks_outcome r ≡ onward o (λ bytes. answer (length bytes))
+pub record TicksCall (o : Outcome (List ℕ)) (before : List ℕ) (r : Result ℕ Refusal) (after : List ℕ) : Type 0 where
+  pub says : outcome r ≡ onward o (λ bytes. answer (length bytes))
   pub holds : after ≡ lent_after o before

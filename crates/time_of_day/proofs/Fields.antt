@@ -11,7 +11,7 @@ use Rattle.rounding.specs.Value.{Val}
 use Rattle.rounding.proofs.Own.{plus-of, minus-of, signed_of}
 use Rattle.rounding.proofs.Compare.{lt_says}
 use Rattle.time_of_day.specs.TimeShown.{minute_of, time_of, day_end}
-use Rattle.time_of_day.specs.ExactTime.{second, time_ms, GoodTime}
+use Rattle.time_of_day.specs.ExactTime.{time_ms, GoodTime}
 use Rattle.time_of_day.proofs.Fractions.{zero_val}
 
 total : (m r : ℕ) → 3600000 * (m / 60) + 60000 * (m % 60) + 1000 * (r / 1000) + r % 1000 ≡ 60000 * m + r

@@ -1,7 +1,6 @@
 -- The laws of UTC text, in the order to read them.
 pub mod TextCalls
 pub mod TextRules
-pub mod NamedForms
 pub mod TextDays
 pub mod EachForm
 pub mod CarriedRules

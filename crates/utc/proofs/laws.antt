@@ -3,8 +3,9 @@
 pub mod FromCalendars
 pub mod Parts
 pub mod ShortDays
--- DayTexts: which dates have a text. Numbers, DateNumbers: the numbers that a text and a date can be refused with. Lengths: of every text.
+-- DayTexts: which dates have a text. Refusals, Numbers, DateNumbers: the numbers that a text and a date can be refused with. Lengths: of every text.
 pub mod DayTexts
+pub mod Refusals
 pub mod Numbers
 pub mod DateNumbers
 pub mod Lengths

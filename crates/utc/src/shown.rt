@@ -3,11 +3,13 @@
 ghost use Rattle.std.specs.Prelude.{◌≡◌, ◌≤◌};
 ghost use Rattle.floats.specs.Whole.{away};
 ghost use Rattle.time_of_day.specs.Milliseconds.{whole_leap, fraction_seconds, millis_of};
-ghost use Rattle.time_of_day.specs.TimeShown.{minute_of, time_of, day_end, count_by, shown_of};
+ghost use Rattle.time_of_day.specs.TimeShown.{minute_of, time_of, day_end, count_by, shown_by};
+ghost use Rattle.utc.specs.iso_texts.Named.{form_named};
 
 mod half_even;
 
-pub(crate) use half_even::{even_count, time_shown_half_even};
+use crate::iso_texts::NamedForm;
+pub(crate) use half_even::even_count;
 use time_of_day::{TimeOfDay, TimeShown};
 
 // The leap that counts for the day's length: only one of more than half a second in size.
@@ -18,6 +20,7 @@ pub(crate) fn whole_leap(leap: f64) -> f64
 }
 
 // The seconds of the day, in the Rust's order of operations.
+#[tactic(auto, unfolding(time_of_day::specs::Milliseconds::fraction_seconds))]
 fn seconds(fraction: f64, leap: f64) -> f64
     ensures { result ≡ fraction_seconds fraction leap }
 {
@@ -25,6 +28,7 @@ fn seconds(fraction: f64, leap: f64) -> f64
 }
 
 // Rust's milliseconds, for every two floats.
+#[tactic(auto, unfolding(time_of_day::specs::Milliseconds::millis_of))]
 fn milliseconds(fraction: f64, leap: f64) -> i64
     ensures { result ≡ millis_of away fraction leap }
 {
@@ -32,6 +36,7 @@ fn milliseconds(fraction: f64, leap: f64) -> i64
 }
 
 // The same as a count.
+#[tactic(auto, unfolding(time_of_day::specs::TimeShown::count_by))]
 pub(crate) fn millis_shown(fraction: f64, leap: f64) -> u64
     ensures { result ≡ count_by away fraction leap }
 {
@@ -39,6 +44,7 @@ pub(crate) fn millis_shown(fraction: f64, leap: f64) -> u64
 }
 
 // The milliseconds at which the next day begins. The Rust has no case for a leap below 0, which only announced rows give.
+#[tactic(auto, unfolding(time_of_day::specs::TimeShown::day_end))]
 pub(crate) fn day_end(leap: f64) -> u64
     ensures { (result ≡ day_end leap) × (result ≤ 86401000) }
 {
@@ -59,6 +65,7 @@ pub(crate) fn minute_of_day(millis: u32) -> u32
     if minute < 1439 { minute } else { 1439 }
 }
 
+#[tactic(auto, unfolding(time_of_day::specs::TimeShown::time_of))]
 fn time_of(millis: u32) -> TimeOfDay
     ensures { result ≡ time_of millis }
 {
@@ -72,12 +79,23 @@ fn time_of(millis: u32) -> TimeOfDay
     }
 }
 
-// The time of day that the text shows, milliseconds rounded halves away from zero.
-pub(crate) fn time_shown(fraction: f64, leap: f64) -> TimeShown
-    ensures { result ≡ shown_of away fraction leap }
+// The milliseconds of a fraction of a day with the leap that counts, by the form of text.
+#[tactic(auto, unfolding(crate::specs::iso_texts::Named::form_named))]
+pub(crate) fn count_of(textForm: NamedForm, fraction: f64, leap: f64) -> u64
+    ensures { result ≡ (form_named textForm).count fraction leap }
+{
+    match textForm {
+        NamedForm::Standard | NamedForm::Expanded => millis_shown(fraction, leap),
+        NamedForm::HalfEven => even_count(fraction, leap),
+    }
+}
+
+// The time of day that a text shows.
+pub(crate) fn time_shown(textForm: NamedForm, fraction: f64, leap: f64) -> TimeShown
+    ensures { result ≡ shown_by (form_named textForm).count fraction leap }
 {
     let day_leap = whole_leap(leap);
-    let count = millis_shown(fraction, day_leap);
+    let count = count_of(textForm, fraction, day_leap);
     if count < day_end(day_leap) {
         TimeShown::At(time_of(count as u32))
     } else {

@@ -9,14 +9,8 @@ ghost use Rattle.utc.specs.text.Layout.{signed, wide};
 
 use calendar::CalendarDate;
 pub use expanded::put_text_expanded;
+use refusals::Refusal;
 use time_of_day::TimeOfDay;
-
-// How many bytes were written, or the number of the refusal.
-#[derive(Clone, Copy)]
-pub enum TextAnswer {
-    Written(usize),
-    Refused(u32),
-}
 
 // The text with seven places for the year; a sign may stand in the third or the fourth.
 fn wide_bytes(third: u8, fourth: u8, size: u32, date: CalendarDate, time: TimeOfDay) -> [u8; 26]
@@ -53,16 +47,21 @@ fn wide_bytes(third: u8, fourth: u8, size: u32, date: CalendarDate, time: TimeOf
 }
 
 // The text of a year of four digits: three places are skipped, and the copy has a fixed length.
-fn put_basic(year: u32, date: CalendarDate, time: TimeOfDay, out: &mut [u8]) -> TextAnswer
+fn put_basic(
+    year: u32,
+    date: CalendarDate,
+    time: TimeOfDay,
+    out: &mut [u8],
+) -> Result<usize, Refusal>
     ensures { TextPut (four year ++ after_year date time) out.old result out.new }
 {
     let fourth = year::fourth(false, year);
     let all = wide_bytes(b'0', fourth, year, date, time);
     if out.len() < 23 {
-        return TextAnswer::Refused(refusals::NO_ROOM);
+        return Err(Refusal::NoRoom);
     }
     let n = numerals::place::copy(&all[3..], out);
-    TextAnswer::Written(n)
+    Ok(n)
 }
 
 // The text of any year.
@@ -72,7 +71,7 @@ fn put_wide(
     date: CalendarDate,
     time: TimeOfDay,
     out: &mut [u8],
-) -> TextAnswer
+) -> Result<usize, Refusal>
     ensures { TextPut (signed negative size ++ after_year date time) out.old result out.new }
 {
     let third = year::third(negative, size);
@@ -80,14 +79,14 @@ fn put_wide(
     let all = wide_bytes(third, fourth, size, date, time);
     let skip = year::skipped(negative, size);
     if out.len() < 26 - skip {
-        return TextAnswer::Refused(refusals::NO_ROOM);
+        return Err(Refusal::NoRoom);
     }
     let n = numerals::place::copy(&all[skip..], out);
-    TextAnswer::Written(n)
+    Ok(n)
 }
 
 // The text at the buffer's start; where it does not fit, 11 and nothing is written.
-pub fn put_text(date: CalendarDate, time: TimeOfDay, out: &mut [u8]) -> TextAnswer
+pub fn put_text(date: CalendarDate, time: TimeOfDay, out: &mut [u8]) -> Result<usize, Refusal>
     ensures { TextPut (utc_text date time) out.old result out.new }
 {
     let negative = year::negative(date.year);

@@ -10,19 +10,9 @@
 // the program prints.
 #![tactic(auto)]
 
-ghost use Rattle.std.specs.Prelude.{◌≡◌, length};
-
+use block_io::{BLOCK_SPACE, block_space};
 use stamps::Reporting;
 use std::io::Write;
-
-// One byte more than the longest block, 8 + 16 * 4000 bytes, so that a longer input is noticed.
-const BLOCK_SPACE: usize = 64009;
-
-fn block_space() -> [u8; BLOCK_SPACE]
-    ensures { 64009 ≡ length result }
-{
-    [0; BLOCK_SPACE]
-}
 
 // What standard error is told. A message that standard error does not take is lost.
 fn tell<W: Write>(errors: &mut W, message: &[u8]) {

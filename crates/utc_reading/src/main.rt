@@ -10,14 +10,14 @@
 #![tactic(auto)]
 
 use std::io::Read;
-use utc::text::TextAnswer;
 
 // Where the reading stands.
+// kept: a flag and no `Option`, since the index goes on beside it, and each step gives all three anew.
 #[derive(Clone, Copy)]
 struct At {
     // the index of the line that is being read
     index: u64,
-    // how many of its bytes are kept; where it has more than can be, the largest number
+    // how many of its bytes are kept; where it has more than can be, the largest number, and no `Option`: one comparison with the space tells both
     kept: usize,
     // whether the input may have more, and the output took all lines so far
     more: bool,
@@ -26,10 +26,10 @@ struct At {
 // The answer is whether the output took it.
 fn put_answer(text: &[u8], index: u64) -> bool {
     let mut out = [0u8; 64];
-    match readings::answer_line(text, index, leap_table::rows::no_rows(), &mut out) {
-        TextAnswer::Refused(_) => false,
-        TextAnswer::Written(n) => io::write_all(1, &out[..n]),
-    }
+    let Ok(n) = readings::answer_line(text, index, leap_table::rows::no_rows(), &mut out) else {
+        return false;
+    };
+    io::write_all(1, &out[..n])
 }
 
 // A line of more than 4,096 bytes is refused as a text outside the grammar, whatever it holds: as an empty one is.
@@ -41,16 +41,11 @@ fn end_line(line: &[u8], at: At) -> bool {
     put_answer(&line[..kept], at.index)
 }
 
-// No run comes to the last number.
-fn next_index(index: u64) -> u64 {
-    if index < u64::MAX { index + 1 } else { index }
-}
-
 // One byte more of the line, or the line's end.
 fn take_byte(c: u8, line: &mut [u8], at: At) -> At {
     if c == b'\n' {
         return At {
-            index: next_index(at.index),
+            index: at.index.saturating_add(1),
             kept: 0,
             more: end_line(line, at),
         };
@@ -73,10 +68,11 @@ fn take_byte(c: u8, line: &mut [u8], at: At) -> At {
 
 fn take_bytes(bytes: &[u8], line: &mut [u8], start: At) -> At {
     let mut at = start;
-    let mut i = 0;
-    while i < bytes.len() && at.more {
-        at = take_byte(bytes[i], line, at);
-        i += 1;
+    for c in bytes {
+        if !at.more {
+            break;
+        }
+        at = take_byte(*c, line, at);
     }
     at
 }
@@ -94,16 +90,16 @@ fn take_end(line: &[u8], at: At) -> At {
 }
 
 // A read that fails counts as the end of the input.
+// kept: `match`, since a failed read ends the input as an empty one does, and else bytes are taken.
 fn read_some<R: Read>(input: &mut R, line: &mut [u8], at: At) -> At {
     let mut space = io::buffer();
     match input.read(&mut space) {
-        Err(_) => take_end(line, at),
-        Ok(0) => take_end(line, at),
+        Err(_) | Ok(0) => take_end(line, at),
         Ok(n) => take_bytes(&space[..n], line, at),
     }
 }
 
-// A proved loop has to end, and nothing says that an input does: so the turns are counted, from a number that no run uses up.
+// A proved loop has to end, and nothing says that an input does: so the turns are counted, up to a number that no run comes to.
 fn main(rt: HostRuntime) {
     let mut input = rt.stdin();
     let mut line = io::buffer();
@@ -112,9 +108,10 @@ fn main(rt: HostRuntime) {
         kept: 0,
         more: true,
     };
-    let mut turns = u64::MAX;
-    while turns > 0 && at.more {
+    for _ in 0..u64::MAX {
         at = read_some(&mut input, &mut line, at);
-        turns -= 1;
+        if !at.more {
+            return;
+        }
     }
 }

@@ -1,10 +1,10 @@
 -- UTC to TAI and back step by step: what each is where the day number and the date's offsets are known. Assumes nothing.
-use mathlib.Core.Path.{◌≡◌, refl, ap, ◌∙◌}
+use mathlib.Core.Path.{◌≡◌, ap, ◌∙◌}
 use mathlib.Core.List.{List}
 use Prim.Native.Nat.{ℕ}
 use lib.IntN.{pos}
 use lib.Ieee.{Float}
-use Rattle.refusals.specs.Outcome.{Outcome, answer, refusal, onward}
+use Rattle.refusals.specs.Outcome.{answer, refusal}
 use Rattle.refusals.proofs.Onward.{went, stopped, came}
 use Rattle.floats.specs.Whole.{nought, half}
 use Rattle.calendar.specs.declared.CalendarDate.{CalendarDate}
@@ -21,7 +21,7 @@ use Rattle.leap_table.specs.offsets.Leap.{offsets, day_offsets}
 use Rattle.utc_scales.specs.days.Dates.{offset_at0h, offsets_of}
 use Rattle.utc_scales.proofs.days.Midnights.{midnight_of_day, valid_midnight, offsets-valid}
 use Rattle.utc_scales.proofs.days.Steps.{no_date}
-use Rattle.utc_scales.specs.UtcTai.{tai_from_midnight, tai_fraction, refined, rounds, refine_utc_fraction}
+use Rattle.utc_scales.specs.UtcTai.{tai_from_midnight, tai_fraction}
 
 -- ---- a pair of parts with no day number
 pub tai-no-date : (x y : Float) (n : ℕ) → day_number_and_fraction x y ≡ refusal n → (rows : List Row) → tai_fraction rows x y ≡ refusal n
@@ -38,24 +38,6 @@ module _ (rows : List Row) (x y : Float) (d : DayNumber) (e : day_number_and_fra
       → tai_fraction rows x y ≡ answer (tai_from_midnight x (midnight_of_day d.day) o d.fraction)
   unfolding tai_fraction
   tai-of-day r o p = went _ (fields-of x y d e) ∙ went _ p ∙ went _ (valid_midnight d.day r (offsets-valid rows d.day o p))
-
--- ---- three rounds
-pub three-rounds : (rows : List Row) (big small : Float)
-    → onward (onward (refined rows big small small) (refined rows big small)) (refined rows big small) ≡ refine_utc_fraction rows big small
-unfolding refine_utc_fraction rounds onward
-three-rounds rows big small = go (refined rows big small small)
-  where
-    go : (o : Outcome Float) → onward (onward o (refined rows big small)) (refined rows big small) ≡ onward o (rounds rows big small 2)
-    go (answer x) = next (refined rows big small x)
-      where
-        next : (o : Outcome Float) → onward o (refined rows big small) ≡ onward o (rounds rows big small 1)
-        next (answer y) = end (refined rows big small y)
-          where
-            end : (o : Outcome Float) → o ≡ onward o (rounds rows big small 0)
-            end (answer z) = refl
-            end (refusal n) = refl
-        next (refusal n) = refl
-    go (refusal n) = refl
 
 -- ---- the offset at 0h, from the offsets of the day
 pub offsets-first : (rows : List Row) (t : CalendarDate) (o : DayOffsets) → offsets_of rows t ≡ answer o → offset_at0h rows t ≡ answer o.at_0h

@@ -2,20 +2,21 @@
 ghost use Rattle.std.specs.Prelude.{◌≡◌, ◌≤◌, pos, nat_abs, ◌-ℤ◌};
 ghost use Rattle.std.specs.Float.{binary64};
 ghost use Rattle.std.specs.Float.Ieee.{of_int};
-ghost use Rattle.refusals.specs.Outcome.{onward};
+ghost use Rattle.refusals.specs.Outcome.{outcome};
 ghost use Rattle.calendar.specs.Gregorian.{gregorian_date};
-ghost use Rattle.julian.specs.JulianDate.{julian_outcome};
-ghost use Rattle.julian.specs.DayFraction.{fraction_outcome};
-ghost use Rattle.leap_table.specs.rows.Announced.{rows_in};
+ghost use Rattle.leap_table.specs.rows.Announced.{rows_of};
 ghost use Rattle.leap_table.specs.offsets.Rule.{with_rule};
-ghost use Rattle.leap_table.specs.offsets.Answers.{seconds_by_rule_outcome};
-ghost use Rattle.utc_scales.specs.days.LargerPart.{first_is_kept, kept_parts, put_beside, placed};
+ghost use Rattle.utc_scales.specs.days.LargerPart.{first_is_kept, kept_parts, put_beside};
 ghost use Rattle.utc_scales.specs.days.Dates.{offset_at0h};
 ghost use Rattle.utc_scales.specs.days.DateRule.{rule_on};
 
-use julian::{FractionAnswer, JulianAnswer, JulianDate};
-use leap_table::offsets::SecondsByRule;
+use julian::JulianDate;
+use leap_table::offsets::Rule;
+use leap_table::rows::AnnouncedRows;
+use refusals::Refusal;
 
+// A date by its larger part in size, and whether that is jd1.
+// kept: beside `split` and `put_back` of julian's smaller_part: on equal sizes those change jd1, these jd2; one body would take the comparison as a closure.
 #[derive(Clone, Copy)]
 pub struct Parts {
     pub larger: f64,
@@ -24,12 +25,14 @@ pub struct Parts {
 }
 
 // Whether jd1 counts as the larger part.
+#[tactic(auto, unfolding(crate::specs::days::LargerPart::first_is_kept))]
 fn first_is_kept(jd: JulianDate) -> bool
     ensures { result ≡ first_is_kept jd }
 {
     floats::at_least_in_size(jd.jd1, jd.jd2)
 }
 
+#[tactic(auto, unfolding(crate::specs::days::LargerPart::kept_parts))]
 pub(crate) fn kept_parts(jd: JulianDate) -> Parts
     ensures { result ≡ kept_parts jd }
 {
@@ -49,6 +52,7 @@ pub(crate) fn kept_parts(jd: JulianDate) -> Parts
 }
 
 // The larger part in its place, and x for the smaller one.
+#[tactic(auto, unfolding(crate::specs::days::LargerPart::put_beside))]
 pub(crate) fn put_beside(p: Parts, x: f64) -> JulianDate
     ensures { result ≡ put_beside p x }
 {
@@ -65,35 +69,13 @@ pub(crate) fn put_beside(p: Parts, x: f64) -> JulianDate
     }
 }
 
-// The same, where the smaller part was not refused.
-pub(crate) fn placed(p: Parts, x: FractionAnswer) -> JulianAnswer
-    ensures { julian_outcome result ≡ onward (fraction_outcome x) (placed p) }
-{
-    match x {
-        FractionAnswer::Refused(number) => JulianAnswer::Refused(number),
-        FractionAnswer::Fraction(f) => JulianAnswer::Date(put_beside(p, f)),
-    }
-}
-
 // TAI-UTC at 0h of the date of a day number, and its rule.
-pub fn offset_at_0h<'a>(
-    day: i64,
-    size: usize,
-    months: &'a [i32; 16],
-    seconds: &'a [i32; 16],
-) -> SecondsByRule
-    ensures { seconds_by_rule_outcome result ≡ with_rule (offset_at0h (rows_in size months.now seconds.now) (gregorian_date day))
-        (rule_on (rows_in size months.now seconds.now) (gregorian_date day)) }
+pub fn offset_at_0h(day: i64, table: &AnnouncedRows) -> Result<(f64, Rule), Refusal>
+    ensures { outcome result ≡ with_rule (offset_at0h (rows_of table.now) (gregorian_date day))
+        (rule_on (rows_of table.now) (gregorian_date day)) }
 {
     let t = calendar::gregorian_date(day);
-    leap_table::offsets::offset_at_0h_by_arrays(
-        t.year,
-        t.month as i32,
-        t.day as i32,
-        size,
-        months,
-        seconds,
-    )
+    leap_table::offsets::offset_at_0h_by_rows(t.year, t.month as i32, t.day as i32, table)
 }
 
 // The Modified Julian Date at 0h: the Rust's `calendar_to_julian` of the date gives the same, by the calendar's inverse law.

@@ -1,5 +1,5 @@
 -- A table in bytes: what becomes of it, which bytes count, and the table of no rows; and a call that goes on with its rows. Assumes nothing.
-use Prim.Native.Nat.{ℕ, zero, suc, ◌+◌, ◌*◌, ◌<◌}
+use Prim.Native.Nat.{ℕ, ◌+◌, ◌*◌, ◌<◌}
 use native.Mathlib.Omega.{arith}
 use mathlib.Core.Path.{◌≡◌, refl, sym, ap, ◌∙◌}
 use mathlib.Core.Bool.{Bool, true, false, cond}
@@ -8,29 +8,43 @@ use mathlib.Core.List.{List, [], ◌∷◌, ◌++◌}
 use lib.Dec.{eqb, leb}
 use lib.ListN.{length, get_or, replicate}
 use borrow.Author.Tests.{eq-eqb, eqb-true}
-use Rattle.refusals.specs.Outcome.{Outcome, answer, refusal, onward}
+use Rattle.std.specs.Prelude.{Result, Ok, Err}
+use Rattle.refusals.specs.declared.Refusal.{Refusal}
+use Rattle.refusals.specs.Refusal.{refusal_number}
+use Rattle.refusals.specs.Outcome.{Outcome, answer, refusal, onward, seen}
+use Rattle.refusals.proofs.Handed.{seen_handed, seen_answered}
 use Rattle.numerals.specs.little_endian.LittleEndian.{four_at, u32_at, four_bytes, signed32, i32_at}
 use Rattle.leap_table.specs.rows.Table.{Row, fixed, last_month, last_seconds}
-use Rattle.leap_table.specs.rows.Announced.{least, rows_to, announced_size, table_of, Decision, sizes, order, step, taken, unless_refused}
+use Rattle.leap_table.specs.rows.Announced.{least, rows_to, announced_size, table_of, Decision, sizes, order, step, taken}
 use Rattle.leap_table.proofs.rows.Tables.{least-right}
 use Rattle.leap_table.proofs.rows.TableLaws.{table-decided}
 use Rattle.leap_table.proofs.rows.TablesTaken.{table_none}
 use Rattle.c_answers.specs.table.TableBytes.{signed_from, record_in, of_length, table_bytes}
 use Rattle.c_answers.proofs.table.Reading.{place_of, same-table}
+use Prim.Native.Nat.{zero, suc}
+use Rattle.leap_table.specs.rows.Announced.{unless_refused}
 
--- ---- the number of a refusal, and a call that goes on with the rows
-module _ {B : Type 0} (rows : List Row) {o : Outcome (List Row)} (n : ℕ) (e : unless_refused n rows ≡ o) (next : List Row → Outcome B) where
-  pub not_taken : (n ≡ 0 → ⊥) → onward o next ≡ refusal n
-  unfolding onward
-  not_taken h = sym (go n h ∙ ap (λ (p : Outcome (List Row)). onward p next) e)
-    where
-      go : (k : ℕ) → (k ≡ 0 → ⊥) → refusal k ≡ onward (unless_refused k rows) next
-      go zero h = absurd (h refl)
-      go (suc k) h = refl
+-- a judge that does not refuse, as the code after an `if let Err(..)` has it
+pub not-refused : (r : Result Unit Refusal) → ((k : Refusal) → r ≡ Err k → ⊥) → r ≡ Ok tt
+not-refused (Ok u) h = refl
+not-refused (Err k) h = absurd (h k refl)
 
-  pub gone-on : n ≡ 0 → next rows ≡ onward o next
-  unfolding onward
-  gone-on h = ap (λ (k : ℕ). onward (unless_refused k rows) next) (sym h) ∙ ap (λ (p : Outcome (List Row)). onward p next) e
+-- ---- a table that is judged, or read and judged: what a call refuses by it, and what a call goes on with. `rows` gives the rows of what is answered.
+module _ {A : Type 0} (rows : A → List Row) (r : Result A Refusal) {o : Outcome (List Row)} (e : seen rows r ≡ o) where
+  pub refused_by : (k : Refusal) → r ≡ Err k → refusal (refusal_number k) ≡ o
+  refused_by k p = sym (seen_handed rows p) ∙ e
+
+  pub taken_by : (a : A) → r ≡ Ok a → answer (rows a) ≡ o
+  taken_by a p = sym (seen_answered rows p) ∙ e
+
+  module _ {B : Type 0} (next : List Row → Outcome B) where
+    pub not_taken : (k : Refusal) → r ≡ Err k → onward o next ≡ refusal (refusal_number k)
+    unfolding onward
+    not_taken k p = sym (ap (λ (x : Outcome (List Row)). onward x next) (refused_by k p))
+
+    pub gone-on : (a : A) → r ≡ Ok a → next (rows a) ≡ onward o next
+    unfolding onward
+    gone-on a p = ap (λ (x : Outcome (List Row)). onward x next) (taken_by a p)
 
 -- ---- 14, 20, 21 and 22 occur, and no other number
 pub numbers : (s : List ℕ) (k : ℕ) → table_bytes s ≡ refusal k → (k ≡ 14) ⊎ ((k ≡ 20) ⊎ ((k ≡ 21) ⊎ (k ≡ 22)))
@@ -134,3 +148,17 @@ unequal_sizes = refl
 pub one-byte-more : table_bytes (row_bytes 2 ten_years (last_seconds + 1) ++ (0 ∷ [])) ≡ refusal 14
 unfolding table_bytes of_length
 one-byte-more = refl
+
+-- ---- a call by its table, where the table is judged by a number, 0 for none refused
+module _ {B : Type 0} (rows : List Row) {o : Outcome (List Row)} (n : ℕ) (e : unless_refused n rows ≡ o) (next : List Row → Outcome B) where
+  pub not_taken_by_number : (n ≡ 0 → ⊥) → onward o next ≡ refusal n
+  unfolding onward
+  not_taken_by_number h = sym (go n h ∙ ap (λ (p : Outcome (List Row)). onward p next) e)
+    where
+      go : (k : ℕ) → (k ≡ 0 → ⊥) → refusal k ≡ onward (unless_refused k rows) next
+      go zero h = absurd (h refl)
+      go (suc k) h = refl
+
+  pub gone-on-by-number : n ≡ 0 → next rows ≡ onward o next
+  unfolding onward
+  gone-on-by-number h = ap (λ (k : ℕ). onward (unless_refused k rows) next) (sym h) ∙ ap (λ (p : Outcome (List Row)). onward p next) e

@@ -11,16 +11,23 @@ use lib.ListN.{length, get_or, set, length-set}
 use lib.Seq.{get_or-set_same, get_or-set_other}
 use borrow.Author.Count.{below_more}
 use borrow.Author.Tests.{eq-eqb, ne_eqb, eqb-true, leb-true, leb-false}
-use Rattle.refusals.specs.Outcome.{Outcome, answer, refusal}
+use Rattle.std.specs.Prelude.{Result, Ok, Err}
+use Rattle.refusals.specs.declared.Refusal.{Refusal}
+use Rattle.refusals.specs.Refusal.{refusal_number}
+use Rattle.refusals.specs.Outcome.{Outcome, answer, refusal, seen, number_said}
+use Rattle.refusals.proofs.Handed.{number_low}
 use Rattle.numerals.specs.little_endian.LittleEndian.{u32_at, i32_at}
 use Rattle.leap_table.specs.declared.rows.AnnouncedRows.{AnnouncedRows}
 use Rattle.leap_table.specs.rows.Table.{Row, fixed}
-use Rattle.leap_table.specs.rows.Announced.{least, announced_size, rows_of, rows_in, announced_table, table_of, unless_refused, Judged}
+use Rattle.leap_table.specs.rows.Announced.{least, announced_size, rows_of, announced_table, table_of, unless_refused}
 use Rattle.leap_table.proofs.rows.Tables.{least-right}
 use Rattle.leap_table.proofs.rows.TableLaws.{spare-unread}
-use Rattle.leap_table.proofs.rows.ByParts.{least-low, rows_in_lem}
-use Rattle.leap_table.proofs.rows.TablesTaken.{sizes-differ, sizes-large, table_none, none_rows, when_taken}
-use Rattle.c_answers.specs.table.TableBytes.{signed_from, record_in, of_length, table_bytes, size_in, ReadFrom}
+use Rattle.leap_table.proofs.rows.TablesTaken.{sizes-differ, sizes-large, table_none, none_rows}
+use Rattle.c_answers.specs.table.TableBytes.{signed_from, record_in, of_length, table_bytes}
+use Rattle.leap_table.specs.rows.Announced.{announced_row, rows_to, rows_in, Judged}
+use Rattle.leap_table.proofs.rows.ByParts.{least-low}
+use mathlib.Core.List.{[], ◌∷◌, ◌++◌}
+use Rattle.leap_table.proofs.rows.TablesTaken.{when_taken}
 
 -- ---- the numbers of an array by their places
 pub place_of : (s : List ℕ) (at n i : ℕ) → i < n → get_or (signed_from s at n) i (pos 0) ≡ i32_at s (at + 4 * i)
@@ -81,6 +88,14 @@ pub of_136 : (s : List ℕ) (t : AnnouncedRows) → length s ≡ 136 → table_o
 unfolding table_bytes
 of_136 s t e p = ap (of_length (length s)) p
 
+pub of_length_136 : (n : ℕ) (o : Outcome (List Row)) → n ≡ 136 → o ≡ of_length n o
+unfolding of_length
+of_length_136 n o h = rw (eq-eqb n 136 h)
+
+pub wrong_length : (n : ℕ) (o : Outcome (List Row)) → (n ≡ 136 → ⊥) → refusal 14 ≡ of_length n o
+unfolding of_length
+wrong_length n o h = rw (ne_eqb n 136 h)
+
 pub of_another : (s : List ℕ) (o : Outcome (List Row)) → (length s ≡ 136 → ⊥) → of_length (length s) o ≡ table_bytes s
 unfolding table_bytes of_length
 of_another s o h = rw (ne_eqb (length s) 136 h)
@@ -101,24 +116,82 @@ reads_none s t a b p q e f =
 
 pub refuses-none : (n : ℕ) (t : AnnouncedRows) → n ≡ 136 → eqb t.months_size 0 && eqb t.seconds_size 0 ≡ true
     → answer (rows_of t) ≡ of_length n (table_of t)
-unfolding of_length
 refuses-none n t h e =
     let (x, y) = both_none t.months_size t.seconds_size e in
     let f = table_none t x y in
-    ap answer (none_rows t f) ∙ sym f ∙ rw (eq-eqb n 136 h)
+    ap answer (none_rows t f) ∙ sym f ∙ of_length_136 n (table_of t) h
 
--- ---- a size and two arrays: where the table is taken, their rows are its rows
+-- ---- the places of both arrays are read whole
+module _ (s : List ℕ) (t : AnnouncedRows) (p : t.months_size ≡ u32_at s 0) (q : t.seconds_size ≡ u32_at s 4) (ms : Reads s 8 16 t.months)
+    (ss : Reads s 72 16 t.seconds) where
+  pub all_read : table_of t ≡ table_of (record_in s)
+  all_read =
+      same-table s t p q (λ i h. ms i (omega (arith, least-right t.months_size 16))) (λ i h. ss i (omega (arith, least-right t.months_size 16)))
+
+  pub whole-table : length s ≡ 136 → table_of t ≡ table_bytes s
+  whole-table h = of_length_136 (length s) (table_of t) h ∙ of_136 s t h all_read
+
+-- ---- what is read into two arrays and judged is the table of the bytes
+pub wrong_bytes : (s : List ℕ) → (length s ≡ 136 → ⊥) → refusal 14 ≡ table_bytes s
+unfolding table_bytes
+wrong_bytes s h = wrong_length (length s) (table_of (record_in s)) h
+
+-- sizes that differ, and sizes above 16, are refused whatever the places hold
+module _ (s : List ℕ) (a b : ℕ) (p : a ≡ u32_at s 0) (q : b ≡ u32_at s 4) (h : length s ≡ 136) where
+  by-sizes : refusal 20 ≡ table_of (record_in s) → refusal 20 ≡ table_bytes s
+  unfolding table_bytes
+  by-sizes e = e ∙ of_length_136 (length s) (table_of (record_in s)) h
+
+  pub read-two-sizes : (a ≡ b → ⊥) → refusal 20 ≡ table_bytes s
+  read-two-sizes e = by-sizes (sizes-differ (record_in s) (λ g. e (p ∙ g ∙ sym q)))
+
+  pub read-large : a ≡ b → 16 < a → refusal 20 ≡ table_bytes s
+  read-large e g = by-sizes (sizes-large (record_in s) (sym p ∙ e ∙ q) (subst (λ (k : ℕ). 16 < k) p g))
+
+  -- no rows, whatever the places hold
+  pub read_none : (m l : List ℤ) → eqb a 0 && eqb b 0 ≡ true → answer (rows_of (announced_table a b m l)) ≡ table_bytes s
+  read_none m l e =
+      let t = announced_table a b m l in
+      let (x, y) = both_none a b e in
+      let f = table_none t x y in
+      ap answer (none_rows t f) ∙ sym f ∙ of_length_136 (length s) (table_of t) h ∙ of_136 s t h (reads_none s t a b p q e f)
+
+-- ---- what a table's judge says, with the rows that it was asked about
+pub as_seen : {A : Type 0} (a : A) (r : Result Unit Refusal) → seen (λ (u : Unit). a) r ≡ unless_refused (number_said r) a
+unfolding seen number_said
+as_seen a (Ok u) = refl
+as_seen a (Err k) = go (refusal_number k) (number_low k)
+  where
+    go : (j : ℕ) → 1 ≤ j → refusal j ≡ unless_refused j a
+    go zero h = absurd (not-suc-le-zero h)
+    go (suc j) h = refl
+
+-- ---- a size and two arrays that are judged by number: where the table is taken, their rows are its rows
+same-places : (t : AnnouncedRows) (a b n : ℕ) → rows_to (announced_table a b t.months t.seconds) n ≡ rows_to t n
+unfolding rows_to
+same-places t a b zero = refl
+same-places t a b (suc n) = ap (λ (l : List Row). l ++ (announced_row t n ∷ [])) (same-places t a b n)
+
+least-same : (a : ℕ) → least a a ≡ a
+least-same a = go (leb a a)
+  where
+    go : (b : Bool) → cond b a a ≡ a
+    go true = refl
+    go false = refl
+
+by-one-size : (t : AnnouncedRows) (k : ℕ) → k ≡ least t.months_size t.seconds_size → rows_in k t.months t.seconds ≡ rows_of t
+unfolding announced_size
+by-one-size t k e =
+    same-places t k k (announced_size (announced_table k k t.months t.seconds))
+    ∙ ap (λ (j : ℕ). rows_to t (least j 16)) (least-same k ∙ e)
+
 pub by-arrays : (t : AnnouncedRows) (n : ℕ) → unless_refused n (rows_of t) ≡ table_of t
     → unless_refused n (rows_in (least t.months_size 16) t.months t.seconds) ≡ table_of t
 by-arrays t (suc k) e = e
 by-arrays t zero e =
     let k = when_taken t (rows_of t) (sym e) in
-    ap answer (rows_in_lem t (least t.months_size 16)
+    ap answer (by-one-size t (least t.months_size 16)
     (least-low t.months_size 16 k.most ∙ sym (least-low t.months_size t.seconds_size (omega (arith, k.one_size))))) ∙ e
-
-of_length_136 : (n : ℕ) (o : Outcome (List Row)) → n ≡ 136 → o ≡ of_length n o
-unfolding of_length
-of_length_136 n o h = rw (eq-eqb n 136 h)
 
 -- by the sizes a and b that were read
 module _ (n a b a' b' : ℕ) (m l : List ℤ) (p : a ≡ a') (q : b ≡ b') (h : n ≡ 136) where
@@ -129,28 +202,23 @@ module _ (n a b a' b' : ℕ) (m l : List ℤ) (p : a ≡ a') (q : b ≡ b') (h :
       (subst (λ (x : ℕ). Judged number (announced_table x b' m l)) p (subst (λ (y : ℕ). Judged number (announced_table a y m l)) q e))
       ∙ of_length_136 n (table_of (announced_table a' b' m l)) h
 
+-- how many places of both arrays are read: as many as the first size says, at most 16
+abbrev pub size_in : List ℕ → ℕ
+size_in s = least (u32_at s 0) 16
+
+-- these places of an array hold the numbers from `at` on
+abbrev pub ReadFrom : List ℕ → ℕ → List ℤ → Type 0
+ReadFrom s at l = (i : ℕ) → i < size_in s → get_or l i (pos 0) ≡ i32_at s (at + 4 * i)
+
 -- what was read of the bytes is their table
 pub arrays_of_bytes : (s : List ℕ) (m l : List ℤ) → ReadFrom s 8 m → ReadFrom s 72 l
     → of_length (length s) (table_of (announced_table (u32_at s 0) (u32_at s 4) m l)) ≡ table_bytes s
 unfolding table_bytes
 arrays_of_bytes s m l p q = ap (of_length (length s)) (same-table s (announced_table (u32_at s 0) (u32_at s 4) m l) refl refl p q)
 
--- ---- what is read into two arrays and judged is the table of the bytes
 pub read-14 : (s : List ℕ) (rows : List Row) → (length s ≡ 136 → ⊥) → unless_refused 14 rows ≡ table_bytes s
 unfolding table_bytes of_length
 read-14 s rows h = rw (ne_eqb (length s) 136 h)
-
--- sizes that differ, and sizes above 16, are refused whatever the rows are
-module _ (s : List ℕ) (a b : ℕ) (rows : List Row) (p : a ≡ u32_at s 0) (q : b ≡ u32_at s 4) (h : length s ≡ 136) where
-  by-sizes : refusal 20 ≡ table_of (record_in s) → unless_refused 20 rows ≡ table_bytes s
-  unfolding table_bytes
-  by-sizes e = e ∙ of_length_136 (length s) (table_of (record_in s)) h
-
-  pub read-two-sizes : (a ≡ b → ⊥) → unless_refused 20 rows ≡ table_bytes s
-  read-two-sizes e = by-sizes (sizes-differ (record_in s) (λ g. e (p ∙ g ∙ sym q)))
-
-  pub read-large : a ≡ b → 16 < a → unless_refused 20 rows ≡ table_bytes s
-  read-large e g = by-sizes (sizes-large (record_in s) (sym p ∙ e ∙ q) (subst (λ (k : ℕ). 16 < k) p g))
 
 module _ (s : List ℕ) (a b : ℕ) (m l : List ℤ) (p : a ≡ u32_at s 0) (q : b ≡ u32_at s 4) (h : length s ≡ 136) where
   pub read-judged : (size number : ℕ) → size ≡ least a 16 → ((i : ℕ) → i < size → get_or m i (pos 0) ≡ i32_at s (8 + 4 * i))
@@ -162,8 +230,8 @@ module _ (s : List ℕ) (a b : ℕ) (m l : List ℤ) (p : a ≡ u32_at s 0) (q :
       ∙ arrays_judged (length s) a b (u32_at s 0) (u32_at s 4) m l p q h number j
       ∙ arrays_of_bytes s m l (λ i g. ms i (subst (λ (x : ℕ). i < x) (sym k) g)) (λ i g. ss i (subst (λ (x : ℕ). i < x) (sym k) g))
 
-  pub read_none : eqb a 0 && eqb b 0 ≡ true → unless_refused 0 (rows_in 0 m l) ≡ table_bytes s
-  read_none e =
+  pub read_none_by_number : eqb a 0 && eqb b 0 ≡ true → unless_refused 0 (rows_in 0 m l) ≡ table_bytes s
+  read_none_by_number e =
       let (x, y) = both_none a b e in
       let f = table_none (announced_table a b m l) x y in
       read-judged 0 0 (none_of x) (λ i g. absurd (not-suc-le-zero g)) (λ i g. absurd (not-suc-le-zero g))

@@ -17,10 +17,9 @@ use Rattle.numerals.proofs.little_endian.RoundTrip.{read-written-4}
 use Rattle.leap_table.specs.declared.rows.AnnouncedRows.{AnnouncedRows}
 use Rattle.leap_table.specs.rows.Announced.{natural, announced_table}
 use Rattle.leap_table.proofs.rows.ByParts.{least-low}
-use Rattle.leap_lists.specs.declared.ListAnswer.{ListAnswer}
 use Rattle.leap_lists.specs.Held.{none_held}
 use Rattle.leap_lists.specs.Texts.{lines_of}
-use Rattle.leap_lists.specs.Reading.{answered, refused_at, read_of}
+use Rattle.leap_lists.specs.Reading.{ListAnswer, answered, refused_at, read_of}
 use Rattle.leap_lists.specs.Verdict.{ListVerdict, taken, refused}
 use Rattle.leap_lists.proofs.Verdicts.{text-verdict}
 use Rattle.capi.specs.ListDelivery.{put_to, with_table, rows_read, where_read, fault_line, TableRead}

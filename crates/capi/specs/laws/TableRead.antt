@@ -2,11 +2,10 @@
 -- ct_table_fault: the number of the text first, then 11 for less than 136 bytes of table, then 11 for less than 4 of known. Assumes nothing.
 use Rattle.std.specs.Prelude.{ℕ, suc, ◌≤◌, ◌<◌, ◌≡◌, List, ℤ, pos, length}
 use Rattle.refusals.specs.Outcome.{Outcome, answer, refusal}
-use Rattle.leap_lists.specs.declared.ListAnswer.{ListAnswer}
 use Rattle.leap_lists.specs.Held.{none_held}
 use Rattle.leap_lists.specs.Texts.{lines_of}
 use Rattle.leap_lists.specs.Verdict.{fault_at}
-use Rattle.leap_lists.specs.Reading.{read_of}
+use Rattle.leap_lists.specs.Reading.{ListAnswer, read_of}
 
 -- what is answered of a text that was read as a, with m bytes of table and n of known: the cases shut each other out
 pub data RowsDecision (a : ListAnswer) (m n : ℕ) (o : Outcome ℕ) : Type 0 where

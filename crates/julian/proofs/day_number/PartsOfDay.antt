@@ -9,7 +9,7 @@ use lib.Dec.{T, eqb→eq, lit<}
 use lib.IntN.{ℤ, pos, negsuc, ◌+ℤ◌, ◌-ℤ◌, +ℤ_idr, +ℤ-neg_ℤ_cancel}
 use lib.Ieee.{Float, nan, inf, fin, binary64, fits, add, sub, lt, le, eq, of_bits, to_signed}
 use lib.Ieee.Exact.{HasValue}
-use lib.Ieee.Fits.{add-fits, sub-fits}
+use lib.Ieee.Fits.{sub-fits}
 use lib.Ieee.Bits.{is_true}
 use lib.Ieee.Scale.{finite}
 use borrow.Author.Tests.{lt-leb}
@@ -25,8 +25,7 @@ use Rattle.rounding.proofs.Value.{L-pos, add_rounds, val-move}
 use Rattle.rounding.proofs.Own.{own, plus-of, minus-of}
 use Rattle.rounding.proofs.Compare.{lt_true, le_true, le_val, le_show, lt_show, eq_val}
 use Rattle.rounding.proofs.Unique.{float-unique}
-use Rattle.julian.specs.declared.day_number.DayNumber.{DayNumber}
-use Rattle.julian.specs.day_number.DayNumber.{accepted, day_of, rest, c_djmax}
+use Rattle.julian.specs.day_number.DayNumber.{accepted, rest, c_djmax}
 use Rattle.julian.specs.day_number.Answer.{day_number_and_fraction}
 use Rattle.julian.specs.day_number.Ranges.{InDays}
 use Rattle.julian.specs.day_number.Midnights.{day_from, Midnight}

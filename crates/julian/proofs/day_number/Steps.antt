@@ -1,16 +1,16 @@
 -- What each step of the code computes is what its definition says, branch by branch, on plain values. Assumes nothing.
 use mathlib.Core.Path.{◌≡◌, sym, ap, ◌∙◌, subst}
 use mathlib.Core.Bool.{Bool, true, false, cond, ◌&&◌}
-use Prim.Native.Nat.{ℕ, ◌+◌, ◌≤◌}
+use Prim.Native.Nat.{◌≤◌}
 use native.Mathlib.Omega.{arith}
 use lib.Ieee.{Float, binary64, add, sub, le, lt}
-use Rattle.floats.specs.Whole.{abs, nought, one}
+use Rattle.floats.specs.Whole.{nought, one}
 use Rattle.julian.specs.declared.day_number.Kahan.{Kahan}
 use Rattle.julian.specs.declared.day_number.Summed.{Summed}
 use Rattle.julian.specs.declared.day_number.Borrowed.{Borrowed}
 use Rattle.julian.specs.declared.day_number.Carried.{Carried}
-use Rattle.julian.specs.day_number.DayNumber.{c_minus_eps_4, c_minus_eps_2, c_djmin, c_djmax, in_julian_range, compensation, kahan_start}
-use Rattle.julian.specs.day_number.DayNumber.{add_fraction, sum_fractions, carry_day, beside_borrowed, kahan_of, borrow_day, normalize_fraction}
+use Rattle.julian.specs.day_number.DayNumber.{c_minus_eps_4, c_minus_eps_2, c_djmin, c_djmax, in_julian_range}
+use Rattle.julian.specs.day_number.DayNumber.{add_fraction, carry_day, beside_borrowed, kahan_of, borrow_day, normalize_fraction}
 
 pub pick : {A : Type 0} (b : Bool) (x y : A) → b ≡ true → x ≡ cond b x y
 pick b x y e = sym (ap (λ (u : Bool). cond u x y) e)
@@ -27,41 +27,7 @@ pub below-min : (dj : Float) → le c_djmin dj ≡ false → le c_djmin dj ≡ i
 unfolding in_julian_range
 below-min dj e = e ∙ sym (ap (λ (b : Bool). b && le dj c_djmax) e)
 
--- ---- compensation
-module _ (s f t : Float) (r : Bool) (er : r ≡ le (abs f) (abs s)) where
-  pub sum-larger : r ≡ true → add binary64 (sub binary64 s t) f ≡ compensation s f t
-  unfolding compensation
-  sum-larger e = pick (le (abs f) (abs s)) (add binary64 (sub binary64 s t) f) (add binary64 (sub binary64 f t) s) (sym er ∙ e)
-
-  pub fraction-larger : r ≡ false → add binary64 (sub binary64 f t) s ≡ compensation s f t
-  unfolding compensation
-  fraction-larger e = skip (le (abs f) (abs s)) (add binary64 (sub binary64 s t) f) (add binary64 (sub binary64 f t) s) (sym er ∙ e)
-
 -- ---- add_fraction
-module _ (c : ℕ) (κ : Kahan) (f l : Float) (el : l ≡ compensation κ.sum f (add binary64 κ.sum f)) where
-  pub added_day : le one (add binary64 κ.sum f) ≡ true
-      → ◌≡◌ {A = Summed} (record {
-        carry = c + 1;
-        kahan =
-            record { sum = sub binary64 (add binary64 κ.sum f) one; correction = add binary64 κ.correction l };
-      }) (add_fraction c κ f)
-  unfolding add_fraction
-  added_day e =
-      ap (λ (z : Float). record {
-        carry = c + 1;
-        kahan =
-            record { sum = sub binary64 (add binary64 κ.sum f) one; correction = add binary64 κ.correction z };
-      }) el
-      ∙ pick (le one (add binary64 κ.sum f)) _ _ e
-
-  pub added_none : le one (add binary64 κ.sum f) ≡ false
-      → ◌≡◌ {A = Summed} (record { carry = c; kahan = record { sum = add binary64 κ.sum f; correction = add binary64 κ.correction l } })
-      (add_fraction c κ f)
-  unfolding add_fraction
-  added_none e =
-      ap (λ (z : Float). record { carry = c; kahan = record { sum = add binary64 κ.sum f; correction = add binary64 κ.correction z } }) el
-      ∙ skip (le one (add binary64 κ.sum f)) _ _ e
-
 few-of : (b : Bool) (x y : Summed) → x.carry ≤ 1 → y.carry ≤ 1 → (cond {A = Summed} b x y).carry ≤ 1
 few-of true x y h k = h
 few-of false x y h k = k
@@ -69,11 +35,6 @@ few-of false x y h k = k
 pub few-carry : (κ : Kahan) (f : Float) (r : Summed) → r ≡ add_fraction 0 κ f → r.carry ≤ 1
 unfolding add_fraction
 few-carry κ f r e = subst (λ (z : Summed). z.carry ≤ 1) (sym e) (few-of (le one (add binary64 κ.sum f)) _ _ (omega arith) (omega arith))
-
--- ---- sum_fractions
-pub summed : (f g : Float) (k r : Summed) → k ≡ add_fraction 0 kahan_start f → r ≡ add_fraction k.carry k.kahan g → r ≡ sum_fractions f g
-unfolding sum_fractions
-summed f g k r e q = q ∙ ap (λ (z : Summed). add_fraction z.carry z.kahan g) e
 
 -- ---- carry_day
 module _ (κ : Kahan) (z : Float) where

@@ -3,7 +3,6 @@ use mathlib.Core.Path.{◌≡◌, refl}
 use mathlib.Core.Bool.{false}
 use Prim.Native.Nat.{ℕ}
 use lib.Ieee.{Float, inf, nan, binary64, of_bits, round, add, sub, div, neg, lt}
-use lib.Ieee.Scale.{finite}
 use Rattle.floats.specs.Whole.{abs}
 use Rattle.constants.specs.Constants.{seconds_per_day}
 use Rattle.refusals.specs.Outcome.{answer, refusal, onward}

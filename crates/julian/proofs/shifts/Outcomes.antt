@@ -1,28 +1,13 @@
 -- The steps that the conversions are made of, and a conversion by what it tests. Assumes nothing.
-use mathlib.Core.Path.{◌≡◌, refl, sym, ap, ◌∙◌}
+use mathlib.Core.Path.{◌≡◌, refl, sym, ◌∙◌}
 use mathlib.Core.Bool.{Bool, true, false, cond, ◌&&◌, true≢false}
 use lib.Ieee.{Float}
 use lib.Ieee.Scale.{finite}
-use Rattle.refusals.specs.Outcome.{Outcome, answer, refusal, onward}
+use Rattle.refusals.specs.Outcome.{answer, refusal, onward}
 use Rattle.julian.specs.declared.JulianDate.{JulianDate}
 use Rattle.julian.specs.Finite.{finite_jd, finite_arg, finite_parts}
 use Rattle.julian.specs.shifts.SmallerPart.{map_smaller_part}
 use Rattle.julian.specs.shifts.Shifts.{days_of, changed, converted, finite_offset, finite_both, converted_by}
-
--- a date moved by so many days
-pub moved-alike : (f : Float → Float → Float → Float) {o o' : Outcome JulianDate} {x x' : Float} → o ≡ o' → x ≡ x'
-    → onward o (changed (f x)) ≡ onward o' (changed (f x'))
-moved-alike f e h = cc
-
--- the date that is tested is the date that goes on
-pub both : (s : Float) (d : JulianDate) {o o' : Outcome JulianDate} → o ≡ finite_jd d → o' ≡ finite_offset s d
-    → onward o (λ (e : JulianDate). o') ≡ onward (finite_jd d) (finite_offset s)
-unfolding onward finite_jd
-both s d {o} {o'} e h = ap (λ (z : Outcome JulianDate). onward z (λ (e : JulianDate). o')) e ∙ go (finite d.jd1 && finite d.jd2)
-  where
-    go : (b : Bool) → onward (cond b (answer d) (refusal 9)) (λ (e : JulianDate). o') ≡ onward (cond b (answer d) (refusal 9)) (finite_offset s)
-    go true = h
-    go false = refl
 
 -- ---- a conversion by what it tests
 pub first : (f : Float → Float → Float) (d : JulianDate) → converted f d ≡ cond (finite_parts d) (answer (map_smaller_part f d)) (refusal 9)

@@ -2,14 +2,7 @@
 use Rattle.std.specs.Prelude.{cond, Float}
 use Rattle.refusals.specs.Outcome.{Outcome, answer, refusal}
 use Rattle.julian.specs.declared.day_number.DayNumber.{DayNumber}
-use Rattle.julian.specs.declared.day_number.DayAnswer.{DayAnswer}
-use Rattle.julian.specs.declared.day_number.DayAnswer.TheVariants.{Day, Refused}
 use Rattle.julian.specs.day_number.DayNumber.{accepted, day_of}
-
--- document 01's number and values for each case
-unfoldable pub day_outcome : DayAnswer → Outcome DayNumber
-day_outcome (Day d) = answer d
-day_outcome (Refused n) = refusal n
 
 -- 6 exactly where the rounded sum of the parts is not in -68569.5 to 1e9, and else the Rust's day and fraction
 unfoldable pub day_number_and_fraction : Float → Float → Outcome DayNumber

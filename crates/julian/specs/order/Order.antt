@@ -1,25 +1,25 @@
 -- The order of two Julian dates by Knuth's two-sum: the rounded sums, then what their rounding lost. This project's own: the Rust has no order of dates, and
 -- the sign of a difference is none. It is the order of the exact sums, which is proved (`exactly-ordered`). Assumes nothing.
 use Rattle.std.specs.Prelude.{◌≡◌, ℕ, ltb, Bool, true, false, cond, ◌&&◌}
+use Rattle.std.specs.declared.cmp.Ordering.{Ordering}
+use Rattle.std.specs.declared.cmp.Ordering.TheVariants.{Less, Equal, Greater}
 use Rattle.std.specs.Float.Ieee.{lt}
 use Rattle.std.specs.Float.Ieee.Scale.{finite}
 use Rattle.refusals.specs.Outcome.{Outcome, answer, refusal}
 use Rattle.julian.specs.declared.JulianDate.{JulianDate}
 use Rattle.julian.specs.declared.ExactSum.{ExactSum}
 use Rattle.julian.specs.Equality.{sums}
-use Rattle.julian.specs.declared.order.OrderAnswer.TheVariants as Answer
-use Rattle.julian.specs.declared.order.OrderAnswer.{OrderAnswer}
 
 pub data Order : Type 0 where
   comes_before : Order
   same_sum : Order
   comes_after : Order
 
-unfoldable pub order_outcome : OrderAnswer → Outcome Order
-order_outcome Answer.Before = answer comes_before
-order_outcome Answer.Equal = answer same_sum
-order_outcome Answer.After = answer comes_after
-order_outcome (Answer.Refused number) = refusal number
+-- what the code calls the order
+unfoldable pub place : Ordering → Order
+place Less = comes_before
+place Equal = same_sum
+place Greater = comes_after
 
 -- the smaller sum comes first; of sums that are neither, the smaller error
 unfoldable pub sooner : ExactSum → ExactSum → Bool

@@ -1,11 +1,11 @@
 // The Rust's map_smaller_part: the smaller part of a date is chosen, changed, and put back. The larger part stays, so that no digit of it is lost.
 ghost use Rattle.std.specs.Prelude.{◌≡◌};
-ghost use Rattle.refusals.specs.Outcome.{onward};
-ghost use Rattle.julian.specs.JulianDate.{julian_outcome};
+ghost use Rattle.refusals.specs.Outcome.{onward, outcome};
 ghost use Rattle.julian.specs.shifts.SmallerPart.{first_is_larger, parts_of, put_back, map_smaller_part};
 ghost use Rattle.julian.specs.shifts.Shifts.{plus, minus, changed};
 
-use crate::{JulianAnswer, JulianDate};
+use crate::JulianDate;
+use refusals::Refusal;
 
 #[derive(Clone, Copy)]
 pub struct Parts {
@@ -14,6 +14,7 @@ pub struct Parts {
 }
 
 // Whether jd1 is the larger part in size; on equal sizes it is not.
+#[tactic(auto, unfolding(crate::specs::shifts::SmallerPart::first_is_larger))]
 fn first_is_larger(jd: JulianDate) -> bool
     ensures { result ≡ first_is_larger jd }
 {
@@ -53,6 +54,7 @@ pub fn put_back(jd: JulianDate, x: f64) -> JulianDate
     }
 }
 
+#[tactic(auto, unfolding(crate::specs::shifts::SmallerPart::map_smaller_part, crate::specs::shifts::Shifts::plus))]
 fn add_days(jd: JulianDate, days: f64) -> JulianDate
     ensures { result ≡ map_smaller_part (plus days) jd }
 {
@@ -60,6 +62,7 @@ fn add_days(jd: JulianDate, days: f64) -> JulianDate
     put_back(jd, p.smaller + days)
 }
 
+#[tactic(auto, unfolding(crate::specs::shifts::SmallerPart::map_smaller_part, crate::specs::shifts::Shifts::minus))]
 fn subtract_days(jd: JulianDate, days: f64) -> JulianDate
     ensures { result ≡ map_smaller_part (minus days) jd }
 {
@@ -68,21 +71,16 @@ fn subtract_days(jd: JulianDate, days: f64) -> JulianDate
 }
 
 // The date so many days later; a refusal stays.
-pub fn later(a: JulianAnswer, days: f64) -> JulianAnswer
-    ensures { julian_outcome result ≡ onward (julian_outcome a) (changed (plus days)) }
+pub fn later(a: Result<JulianDate, Refusal>, days: f64) -> Result<JulianDate, Refusal>
+    ensures { outcome result ≡ onward (outcome a) (changed (plus days)) }
 {
-    match a {
-        JulianAnswer::Date(jd) => JulianAnswer::Date(add_days(jd, days)),
-        JulianAnswer::Refused(n) => JulianAnswer::Refused(n),
-    }
+    Ok(add_days(a?, days))
 }
 
-// The date so many days earlier; a refusal stays.
-pub fn earlier(a: JulianAnswer, days: f64) -> JulianAnswer
-    ensures { julian_outcome result ≡ onward (julian_outcome a) (changed (minus days)) }
+// The date so many days earlier; a refusal stays. It shifts, and orders nothing.
+// kept: no `-` for it: `JulianDate::add_days` shifts by another rule, the whole days into jd1, and a sign would not tell it from this.
+pub fn earlier(a: Result<JulianDate, Refusal>, days: f64) -> Result<JulianDate, Refusal>
+    ensures { outcome result ≡ onward (outcome a) (changed (minus days)) }
 {
-    match a {
-        JulianAnswer::Date(jd) => JulianAnswer::Date(subtract_days(jd, days)),
-        JulianAnswer::Refused(n) => JulianAnswer::Refused(n),
-    }
+    Ok(subtract_days(a?, days))
 }

@@ -1,4 +1,4 @@
--- What a line says, test by test. Assumes nothing.
+-- What a line says, test by test, read by an index. Assumes nothing.
 use Prim.Native.Nat.{ℕ, zero, suc, ◌+◌, ◌-◌, ◌*◌, ◌/◌, ◌%◌, ◌^◌, ◌<◌, ◌≤◌}
 use native.Mathlib.Omega.{arith}
 use native.Mathlib.Nat.{add-zero}
@@ -10,15 +10,13 @@ use lib.Seq.{get_or-drop, drop-drop}
 use lib.Dec.{leb, ltb, eqb}
 use borrow.Author.Tests.{eq-eqb, ne_eqb, le-leb, lt-leb, lt-ltb, le-ltb}
 use Rattle.numerals.specs.digits.Decimal.{number}
-use Rattle.leap_lists.specs.declared.lines.Last.{Last}
-use Rattle.leap_lists.specs.declared.lines.Last.TheVariants as L
+use Rattle.std.specs.Prelude.{Option, None, Some}
 use Rattle.leap_lists.specs.declared.lines.Line.{Line}
 use Rattle.leap_lists.specs.declared.lines.Line.TheVariants as K
-use Rattle.leap_lists.specs.declared.lines.Run.{Run}
-use Rattle.leap_lists.specs.lines.Scan.{line_blank, behind_blanks, first_digits, ended, number_then, last_number, DigitsAt}
+use Rattle.leap_lists.specs.lines.Scan.{line_blank, behind_blanks, first_digits, ended, number_then, last_number}
 use Rattle.leap_lists.specs.lines.Months.{month_from}
 use Rattle.leap_lists.specs.lines.Lines.{row_by, row_with, month_row, row_from, ntp_row, row_behind, row_of, expiry_by, expiry_of, line_from, line_says}
-use Rattle.leap_lists.proofs.lines.Runs.{byte_first, all-leading, leading-small}
+use Rattle.leap_lists.proofs.lines.Runs.{Run, DigitsAt, byte_first, all-leading, leading-small}
 use Rattle.numerals.proofs.digits.Decimal.{number-below}
 
 pub byte_here : (t : List ℕ) (at : ℕ) → get_or (drop at t) 0 0 ≡ get_or t at 0
@@ -34,20 +32,20 @@ unfolding ended
 ended-out t i h = rw (drop_of_length-le t h)
 
 -- ---- the number at the end of a line
-then_none : (d rest : List ℕ) → length d ≡ 0 → number_then d rest ≡ L.Nothing
+then_none : (d rest : List ℕ) → length d ≡ 0 → number_then d rest ≡ None
 unfolding number_then
 then_none d rest e = rw e
 
-then_not_ended : (d rest : List ℕ) → ended (behind_blanks true rest) ≡ false → number_then d rest ≡ L.Nothing
+then_not_ended : (d rest : List ℕ) → ended (behind_blanks true rest) ≡ false → number_then d rest ≡ None
 unfolding number_then
 then_not_ended d rest e = rw e (simp and-false)
 
-then_some : (d rest : List ℕ) → 0 < length d → ended (behind_blanks true rest) ≡ true → number_then d rest ≡ L.Number (number d)
+then_some : (d rest : List ℕ) → 0 < length d → ended (behind_blanks true rest) ≡ true → number_then d rest ≡ Some (number d)
 unfolding number_then
 then_some d rest h e = rw (lt-ltb _ _ h, e)
 
 module _ (most at : ℕ) (t : List ℕ) where
-  pub last_none : line_blank false (get_or t at 0) ≡ false → L.Nothing ≡ last_number most (drop at t)
+  pub last_none : line_blank false (get_or t at 0) ≡ false → None ≡ last_number most (drop at t)
   unfolding last_number
   last_none e = rw (byte_here t at, e)
 
@@ -60,22 +58,22 @@ module _ (most at : ℕ) (t : List ℕ) where
         let e : drop (length d) (drop from t) ≡ drop r.end t = drop-drop (length d) from t ∙ ap (λ (n : ℕ). drop n t) (sym k.end) in
         rw (byte_here t at, b, ← f, e)
 
-    pub last_empty : r.end ≡ from → L.Nothing ≡ last_number most (drop at t)
+    pub last_empty : r.end ≡ from → None ≡ last_number most (drop at t)
     last_empty e = sym (last_is ∙ then_none _ _ (omega (arith, k.end)))
 
-    pub last-not-ended : ended (behind_blanks true (drop r.end t)) ≡ false → L.Nothing ≡ last_number most (drop at t)
+    pub last-not-ended : ended (behind_blanks true (drop r.end t)) ≡ false → None ≡ last_number most (drop at t)
     last-not-ended e = sym (last_is ∙ then_not_ended _ _ e)
 
-    pub last_some : (r.end ≡ from → ⊥) → ended (behind_blanks true (drop r.end t)) ≡ true → L.Number r.value ≡ last_number most (drop at t)
+    pub last_some : (r.end ≡ from → ⊥) → ended (behind_blanks true (drop r.end t)) ≡ true → Some r.value ≡ last_number most (drop at t)
     last_some n e =
         let some : 0 < length (first_digits most (drop from t)) = positive _ (λ z. n (omega (arith, k.end))) in
-        ap L.Number k.value ∙ sym (last_is ∙ then_some _ _ some e)
+        ap Some k.value ∙ sym (last_is ∙ then_some _ _ some e)
       where
         positive : (x : ℕ) → (x ≡ 0 → ⊥) → 0 < x
         positive zero h = absurd (h refl)
         positive (suc x) h = omega arith
 
-pub last-small : (most : ℕ) (s : List ℕ) (n : ℕ) → last_number most s ≡ L.Number n → n < 10 ^ most
+pub last-small : (most : ℕ) (s : List ℕ) (n : ℕ) → last_number most s ≡ Some n → n < 10 ^ most
 unfolding last_number number_then
 last-small most s n e = either (line_blank false (get_or s 0 0)) (ltb 0 (length d) && ended (behind_blanks true (drop (length d) g))) e
   where
@@ -85,22 +83,22 @@ last-small most s n e = either (line_blank false (get_or s 0 0)) (ltb 0 (length 
     d : List ℕ
     d = first_digits most g
 
-    either : (a b : Bool) → cond a (cond b (L.Number (number d)) L.Nothing) L.Nothing ≡ L.Number n → n < 10 ^ most
+    either : (a b : Bool) → cond a (cond b (Some (number d)) None) None ≡ Some n → n < 10 ^ most
     either true true p = let i : number d ≡ n = cc in subst (λ (k : ℕ). k < 10 ^ most) i (leading-small most g)
     either true false p = absurd (let z : ◌≡◌ {A = ℕ} 0 1 = cc in let y : ⊥ = omega arith in y)
     either false b p = absurd (let z : ◌≡◌ {A = ℕ} 0 1 = cc in let y : ⊥ = omega arith in y)
 
 -- ---- a row with its seconds, and an expiry
-module _ (s : List ℕ) (l : Last) where
-  pub row_is : (m : ℕ) (k : Last) → l ≡ last_number 9 s → l ≡ k → row_by m k ≡ row_with m s
+module _ (s : List ℕ) (l : Option ℕ) where
+  pub row_is : (m : ℕ) (k : Option ℕ) → l ≡ last_number 9 s → l ≡ k → row_by m k ≡ row_with m s
   unfolding row_with
   row_is m k e g = ap (row_by m) (sym g ∙ e)
 
-  pub expiry-is : (k : Last) → l ≡ last_number 12 s → l ≡ k → expiry_by k ≡ expiry_of s
+  pub expiry-is : (k : Option ℕ) → l ≡ last_number 12 s → l ≡ k → expiry_by k ≡ expiry_of s
   unfolding expiry_of
   expiry-is k e g = ap expiry_by (sym g ∙ e)
 
-  pub small-number : (most n : ℕ) → l ≡ last_number most s → l ≡ L.Number n → n < 10 ^ most
+  pub small-number : (most n : ℕ) → l ≡ last_number most s → l ≡ Some n → n < 10 ^ most
   small-number most n e g = last-small most s n (sym e ∙ g)
 
 -- ---- the two kinds of a row

@@ -1,13 +1,11 @@
 -- The months counted from 1900, one at a time. Assumes nothing.
-use Prim.Native.Nat.{ℕ, zero, suc, ◌+◌, ◌-◌, ◌/◌, ◌%◌, ◌<◌, ◌≤◌}
+use Prim.Native.Nat.{ℕ, suc, ◌+◌, ◌-◌, ◌/◌, ◌%◌, ◌<◌, ◌≤◌}
 use native.Mathlib.Omega.{arith}
-use mathlib.Core.Path.{◌≡◌, refl, sym, ap, ◌∙◌}
-use mathlib.Core.Bool.{Bool, true, false, cond}
-use lib.Dec.{eqb, ltb}
+use mathlib.Core.Path.{◌≡◌, refl}
 use lib.IntN.{pos}
 use borrow.Author.Tests.{eq-eqb, ne_eqb, lt-ltb, le-ltb}
 use Rattle.calendar.specs.Calendar.{days_in_month}
-use Rattle.leap_lists.specs.lines.Months.{month_days, month_after, month_from, all_months, first_month}
+use Rattle.leap_lists.specs.lines.Months.{month_days, month_after, month_from}
 
 pub days-are : (m : ℕ) → days_in_month (pos (m / 12)) (pos (m % 12 + 1)) ≡ month_days m
 unfolding days_in_month month_days

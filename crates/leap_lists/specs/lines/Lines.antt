@@ -1,19 +1,17 @@
 -- What a line says: nothing, a row, an expiry, or that it is outside the grammar. Written from the customer's words on `table=FILE` and from the head of the
 -- IERS file leap-seconds.list: a row is `2027-01 38` or the NTP seconds of the midnight that begins a month and TAI-UTC; `#@` and NTP seconds are the expiry,
 -- and what follows another # is a comment. NTP seconds have 1 to 12 digits, TAI-UTC 1 to 9. Assumes nothing.
-use Rattle.std.specs.Prelude.{ℕ, zero, suc, ◌+◌, ◌-◌, ◌*◌, ◌/◌, ◌%◌, List, Bool, true, cond, ◌&&◌, length, drop, get_or, leb, ltb, eqb}
+use Rattle.std.specs.Prelude.{ℕ, zero, suc, ◌+◌, ◌-◌, ◌*◌, ◌/◌, ◌%◌, List, true, cond, ◌&&◌, length, drop, get_or, leb, ltb, eqb, Option, None, Some}
 use Rattle.numerals.specs.digits.Decimal.{number}
-use Rattle.leap_lists.specs.declared.lines.Last.{Last}
-use Rattle.leap_lists.specs.declared.lines.Last.TheVariants as L
 use Rattle.leap_lists.specs.declared.lines.Line.{Line}
 use Rattle.leap_lists.specs.declared.lines.Line.TheVariants as K
 use Rattle.leap_lists.specs.lines.Scan.{behind_blanks, first_digits, ended, last_number}
 use Rattle.leap_lists.specs.lines.Months.{month_from}
 
 -- the row of month m with the number that ends the line
-abbrev pub row_by : ℕ → Last → Line
-row_by m (L.Number n) = K.Row m n
-row_by m L.Nothing = K.Outside
+abbrev pub row_by : ℕ → Option ℕ → Line
+row_by m (Some n) = K.Row m n
+row_by m None = K.Outside
 
 unfoldable pub row_with : ℕ → List ℕ → Line
 row_with m s = row_by m (last_number 9 s)
@@ -43,9 +41,9 @@ unfoldable pub row_of : List ℕ → Line
 row_of s = let d = first_digits 12 s in row_behind d (drop (length d) s)
 
 -- the day of NTP seconds as a Modified Julian Date: 1900-01-01 is 15020
-abbrev pub expiry_by : Last → Line
-expiry_by (L.Number n) = K.Expiry (n / 86400 + 15020)
-expiry_by L.Nothing = K.Outside
+abbrev pub expiry_by : Option ℕ → Line
+expiry_by (Some n) = K.Expiry (n / 86400 + 15020)
+expiry_by None = K.Outside
 
 unfoldable pub expiry_of : List ℕ → Line
 expiry_of s = expiry_by (last_number 12 s)

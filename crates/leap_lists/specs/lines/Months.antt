@@ -1,6 +1,6 @@
 -- The month that begins so many days after 1900-01-01, where NTP seconds are counted from: the lengths of the months, one after the other. Written from ISO
 -- 8601's months (crates/calendar) and the head of the IERS file ("the number of seconds since 1900.0"). Assumes nothing.
-use Rattle.std.specs.Prelude.{ℕ, zero, suc, ◌+◌, ◌-◌, ◌*◌, ◌/◌, ◌%◌, cond, eqb, ltb, pos}
+use Rattle.std.specs.Prelude.{ℕ, zero, suc, ◌+◌, ◌-◌, ◌/◌, ◌%◌, cond, eqb, ltb, pos}
 use Rattle.calendar.specs.Calendar.{month_length}
 
 -- January of 1900, and how many months there are from it to December of 9999

@@ -1,11 +1,8 @@
 -- What stands in front of what is left of a line: blanks, digits, and its end. Written from the customer's words on `table=FILE` and from `read_row` of
 -- programs/line_up.c, which read such lines before: blanks are spaces and tabs, at both ends of a line also carriage returns, and a # begins a comment.
 -- Assumes nothing.
-use Rattle.std.specs.Prelude.{ℕ, zero, suc, ◌+◌, ◌≤◌, ◌≡◌, List, [], ◌∷◌, Bool, true, false, cond, ◌&&◌, ◌||◌, length, drop, get_or, ltb, eqb}
+use Rattle.std.specs.Prelude.{ℕ, zero, suc, List, [], ◌∷◌, Bool, true, false, cond, ◌&&◌, ◌||◌, length, drop, get_or, ltb, eqb, Option, None, Some}
 use Rattle.numerals.specs.digits.Decimal.{number, is_digit}
-use Rattle.leap_lists.specs.declared.lines.Last.{Last}
-use Rattle.leap_lists.specs.declared.lines.Last.TheVariants as L
-use Rattle.leap_lists.specs.declared.lines.Run.{Run}
 
 -- a space, a tab, and with `returns` a carriage return
 unfoldable pub line_blank : Bool → ℕ → Bool
@@ -28,17 +25,11 @@ ended [] = true
 ended (c ∷ cs) = eqb c 35
 
 -- the number that digits say, where there are some and the line ends behind them
-unfoldable pub number_then : List ℕ → List ℕ → Last
-number_then digits rest = cond (ltb 0 (length digits) && ended (behind_blanks true rest)) (L.Number (number digits)) L.Nothing
+unfoldable pub number_then : List ℕ → List ℕ → Option ℕ
+number_then digits rest = cond (ltb 0 (length digits) && ended (behind_blanks true rest)) (Some (number digits)) None
 
 -- a blank or more, a number of at most `most` digits, and the end of the line
-unfoldable pub last_number : ℕ → List ℕ → Last
+unfoldable pub last_number : ℕ → List ℕ → Option ℕ
 last_number most s =
     let d = first_digits most (behind_blanks false s) in
-    cond (line_blank false (get_or s 0 0)) (number_then d (drop (length d) (behind_blanks false s))) L.Nothing
-
--- r tells of the digits in front of what t has from `at` on
-pub record DigitsAt (most at : ℕ) (t : List ℕ) (r : Run) : Type 0 where
-  pub value : r.value ≡ number (first_digits most (drop at t))
-  pub end : r.end ≡ at + length (first_digits most (drop at t))
-  pub within : r.end ≤ length t
+    cond (line_blank false (get_or s 0 0)) (number_then d (drop (length d) (behind_blanks false s))) None

@@ -4,16 +4,14 @@ use Rattle.std.proofs.Common.{◌≡◌, ℕ, zero, suc, ◌+◌, ◌-◌, ◌^�
 use Rattle.std.proofs.Common.{◌∙◌, subst, arith, to_z-of_z, w32, w64, SFits, to_z, of_z, ltb-true, lt-ltb, le-leb}
 use lib.IntN.{sub_ℕ, suc_ℤ, +ℤ_one}
 use lib.Ieee.{binary64, in_float}
-use Rattle.refusals.specs.Outcome.{answer, refusal}
+use Rattle.std.specs.Prelude.{Result, Ok, Err}
+use Rattle.refusals.specs.declared.Refusal.{Refusal}
+use Rattle.refusals.specs.Refusal.{refusal_number}
+use Rattle.refusals.specs.Outcome.{answer, refusal, outcome}
 use Rattle.calendar.specs.Calendar.{leap_year}
 use Rattle.calendar.specs.Refusals.{next_of}
 use Rattle.calendar.specs.DayCount.{march_count, civil_count, mjd_number, mjd_of}
-use Rattle.calendar.specs.Answers.{mjd_outcome, next_outcome}
 use Rattle.calendar.specs.declared.CalendarDate.{CalendarDate}
-use Rattle.calendar.specs.declared.MjdAnswer.{MjdAnswer}
-use Rattle.calendar.specs.declared.MjdAnswer.TheVariants as Mjd
-use Rattle.calendar.specs.declared.NextDay.{NextDay}
-use Rattle.calendar.specs.declared.NextDay.TheVariants as Next
 use Rattle.calendar.proofs.Signs.{raised, at_most_i32}
 use Rattle.calendar.proofs.Accepted.{date-accepted, short}
 use Rattle.calendar.proofs.Mjd.{mjd-given, mjd-valid, same_answer}
@@ -82,9 +80,6 @@ module _ (z : ℤ) (h : nat_abs z < 1000000000000) where
   pub read-next-day : to_z w64 (of_z w64 (to_z w64 (of_z w64 z) +ℤ pos 1)) ≡ suc_ℤ z
   read-next-day = to_z-of_z one-more-fits ∙ one_more
 
-  pub next-float-fits : T (in_float binary64 (to_z w64 (of_z w64 (to_z w64 (of_z w64 z) +ℤ pos 1))))
-  next-float-fits = subst (λ (x : ℤ). T (in_float binary64 x)) (sym read-next-day) (in-float (suc_ℤ z) (next_small z h))
-
 -- ---- what the calendar's calls answer; the machine hands a call its arguments read back from their bits
 module _ (y m d : ℤ) (f : SFits w32 y) (g : SFits w32 m) (h : SFits w32 d) where
   read-mjd : mjd_of (to_z w32 (of_z w32 y)) (to_z w32 (of_z w32 m)) (to_z w32 (of_z w32 d)) ≡ mjd_of y m d
@@ -93,20 +88,20 @@ module _ (y m d : ℤ) (f : SFits w32 y) (g : SFits w32 m) (h : SFits w32 d) whe
   read_next : next_of (to_z w32 (of_z w32 y)) (to_z w32 (of_z w32 m)) (to_z w32 (of_z w32 d)) ≡ next_of y m d
   read_next = λ i. next_of (to_z-of_z f i) (to_z-of_z g i) (to_z-of_z h i)
 
-  module _ (r : MjdAnswer) (e : mjd_outcome r ≡ mjd_of (to_z w32 (of_z w32 y)) (to_z w32 (of_z w32 m)) (to_z w32 (of_z w32 d))) where
-    pub mjd-is : (n : ℤ) → r ≡ Mjd.Mjd n → mjd_of y m d ≡ answer n
-    unfolding mjd_outcome
-    mjd-is n p = sym (ap mjd_outcome (sym p) ∙ e ∙ read-mjd)
+  module _ (r : Result ℤ Refusal) (e : outcome r ≡ mjd_of (to_z w32 (of_z w32 y)) (to_z w32 (of_z w32 m)) (to_z w32 (of_z w32 d))) where
+    pub mjd-is : (n : ℤ) → r ≡ Ok n → mjd_of y m d ≡ answer n
+    unfolding outcome
+    mjd-is n p = sym (ap outcome (sym p) ∙ e ∙ read-mjd)
 
-    pub no_mjd : (k : ℕ) → r ≡ Mjd.Refused k → mjd_of y m d ≡ refusal k
-    unfolding mjd_outcome
-    no_mjd k p = sym (ap mjd_outcome (sym p) ∙ e ∙ read-mjd)
+    pub no_mjd : (k : Refusal) → r ≡ Err k → mjd_of y m d ≡ refusal (refusal_number k)
+    unfolding outcome
+    no_mjd k p = sym (ap outcome (sym p) ∙ e ∙ read-mjd)
 
-  module _ (r : NextDay) (e : next_outcome r ≡ next_of (to_z w32 (of_z w32 y)) (to_z w32 (of_z w32 m)) (to_z w32 (of_z w32 d))) where
-    pub next-date : (t : CalendarDate) → r ≡ Next.Date t → next_of y m d ≡ answer t
-    unfolding next_outcome
-    next-date t p = sym (ap next_outcome (sym p) ∙ e ∙ read_next)
+  module _ (r : Result CalendarDate Refusal) (e : outcome r ≡ next_of (to_z w32 (of_z w32 y)) (to_z w32 (of_z w32 m)) (to_z w32 (of_z w32 d))) where
+    pub next-date : (t : CalendarDate) → r ≡ Ok t → next_of y m d ≡ answer t
+    unfolding outcome
+    next-date t p = sym (ap outcome (sym p) ∙ e ∙ read_next)
 
-    pub no_next_date : (k : ℕ) → r ≡ Next.Refused k → next_of y m d ≡ refusal k
-    unfolding next_outcome
-    no_next_date k p = sym (ap next_outcome (sym p) ∙ e ∙ read_next)
+    pub no_next_date : (k : Refusal) → r ≡ Err k → next_of y m d ≡ refusal (refusal_number k)
+    unfolding outcome
+    no_next_date k p = sym (ap outcome (sym p) ∙ e ∙ read_next)

@@ -1,7 +1,7 @@
 -- The number of a month, from a signed year.
 -- Assumes nothing.
-use Rattle.std.proofs.Common.{◌≡◌, ℕ, ◌≤◌, true, false, T, ℤ, pos, negsuc, nat_abs, sym, refl, ap, ◌∙◌, subst, true≢false, arith, to_z-of_z, w32, w64, Fits}
-use Rattle.std.proofs.Common.{SFits, to_z, of_z, ltb-true}
+use Rattle.std.proofs.Common.{◌≡◌, ℕ, ◌<◌, ◌≤◌, true, false, T, ℤ, pos, negsuc, nat_abs, sym, refl, ap, ◌∙◌, subst, true≢false, arith, to_z-of_z, w32, w64}
+use Rattle.std.proofs.Common.{Fits, SFits, to_z, of_z, ltb-true}
 use lib.Signed.{lt_z, non_neg}
 use Rattle.leap_table.specs.rows.Table.{month_number, month_of}
 
@@ -9,7 +9,7 @@ small : (z : ℤ) → SFits w32 z → nat_abs z ≤ 2147483648
 small (pos n) f = omega (arith, f.sfits)
 small (negsuc n) f = omega (arith, f.sfits)
 
-pub year-small : (z : ℤ) → SFits w32 z → nat_abs (to_z w32 (of_z w32 z)) ≤ 2147483648
+year-small : (z : ℤ) → SFits w32 z → nat_abs (to_z w32 (of_z w32 z)) ≤ 2147483648
 year-small z f = rw (to_z-of_z f) (small z f)
 
 before-zero : (z : ℤ) (m : ℕ) → lt_z z (pos 0) ≡ true → 0 ≡ month_number z m
@@ -38,3 +38,9 @@ module _ (z : ℤ) (m : ℕ) (f : SFits w32 z) where
 -- a month as a call of `month_number` is handed it
 pub read-month : (y m : ℤ) → SFits w32 y → SFits w32 m → month_number (to_z w32 (of_z w32 y)) (nat_abs (to_z w32 (of_z w32 m))) ≡ month_number y (nat_abs m)
 read-month y m f g = λ i. month_number (to_z-of_z f i) (nat_abs (to_z-of_z g i))
+
+-- a date's month has a number far below that of a u64
+pub number-small : (y : ℤ) (m : ℕ) → SFits w32 y → m ≤ 12 → month_number y m < 1099511627776
+unfolding month_number
+number-small (pos y) m f h = omega (arith, f.sfits)
+number-small (negsuc y) m f h = omega arith

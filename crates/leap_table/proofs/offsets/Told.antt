@@ -1,11 +1,10 @@
 -- WHICH ROW A RULE NAMES and what offset it gives, for every table that is taken. Assumes nothing.
-use Rattle.std.proofs.Common.{◌≡◌, ℕ, ◌<◌, ◌≤◌, ◌↔◌, List, get_or, ℤ, nat_abs, sym, ap, ◌∙◌, inl, inr}
+use Rattle.std.proofs.Common.{◌≡◌, ℕ, List, get_or, ℤ, nat_abs, sym, ap, ◌∙◌, inl, inr}
 use lib.Ieee.{Float}
 use Rattle.refusals.specs.Outcome.{Outcome, answer, refusal}
 use Rattle.refusals.proofs.Onward.{came}
 use Rattle.leap_table.specs.declared.rows.AnnouncedRows.{AnnouncedRows}
 use Rattle.leap_table.specs.declared.offsets.Rule.{Rule}
-use Rattle.leap_table.specs.declared.offsets.Rule.TheVariants.{Absent, Drifting, Whole}
 use Rattle.leap_table.specs.rows.Table.{Row, month_number, none}
 use Rattle.leap_table.specs.rows.Announced.{rows_of, table_of}
 use Rattle.leap_table.specs.offsets.Offset.{by_row, offset_at, tai_utc_offset}

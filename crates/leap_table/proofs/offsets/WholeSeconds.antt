@@ -1,5 +1,5 @@
 -- The whole seconds of the row reached, counted in the fixed rows from 1972 on and read in the announced ones. Assumes nothing.
-use Rattle.std.proofs.Common.{◌≡◌, ℕ, ◌+◌, ◌-◌, ◌*◌, ◌/◌, ◌<◌, ◌≤◌, Bool, true, false, ◌||◌, T, eqb, ltb, length, get_or, ℤ, pos, negsuc, sym, refl, ap, ◌∙◌}
+use Rattle.std.proofs.Common.{◌≡◌, ℕ, ◌+◌, ◌-◌, ◌*◌, ◌/◌, ◌<◌, ◌≤◌, Bool, true, false, ◌||◌, T, eqb, ltb, get_or, ℤ, pos, negsuc, sym, refl, ap, ◌∙◌}
 use Rattle.std.proofs.Common.{arith, eqb→eq, ltb-false, ltb-true, le-ltb, lt-ltb}
 use lib.Signed.{lt_z}
 use Rattle.leap_table.specs.declared.rows.AnnouncedRows.{AnnouncedRows}

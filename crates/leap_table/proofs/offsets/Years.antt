@@ -68,7 +68,7 @@ seconds-whole k h l =
     let j = k - 15 in
     ap (λ (i : ℕ). seconds_of (get_or fixed i none)) (place_of k h)
     ∙ ap seconds_of (sym (dropped fixed 14 j))
-    ∙ sym (place seconds_of (drop 14 fixed) j (omega (arith, in_range)))
+    ∙ sym (place seconds_of nan (drop 14 fixed) j (omega (arith, in_range)))
     ∙ ap (λ (s : List Float). get_or s j nan) listed
     ∙ counted-at (fixed_rows - 14) 10 j (omega arith)
     ∙ ap whole_f (seconds-of k h)

@@ -1,8 +1,9 @@
 -- Lists whose elements stand to one another in turn, with one more at the end; and a test of more and more places, which stays false once it is.
 -- Assumes nothing.
-use Rattle.std.proofs.Common.{◌≡◌, ℕ, zero, suc, ◌<◌, ◌≤◌, Bool, true, false, ◌&&◌, ltb, leb, List, [], ◌∷◌, ◌++◌, length, get_or, sym, refl, ap, ◌∙◌, subst}
-use Rattle.std.proofs.Common.{true≢false, le_of_suc-le-suc, not-suc-le-zero, arith, ltb-false, ltb-true, leb-false, leb-true}
+use Rattle.std.proofs.Common.{◌≡◌, ℕ, zero, suc, ◌<◌, Bool, true, false, ◌&&◌, ltb, List, [], ◌∷◌, ◌++◌, length, get_or, sym, refl, ap, ◌∙◌, subst}
+use Rattle.std.proofs.Common.{true≢false, le_of_suc-le-suc, not-suc-le-zero, arith, ltb-false, ltb-true}
 use Rattle.leap_table.specs.rows.Table.{in_turn}
+use Rattle.std.proofs.Common.{◌≤◌, leb, leb-false, leb-true}
 
 -- the last element of a list, d of an empty one
 abbrev pub last_of : {A : Type 0} → A → List A → A
@@ -41,6 +42,30 @@ in_turn_at to d (a ∷ (b ∷ l)) e (suc i) h = in_turn_at to d (b ∷ l) (both_
 
 -- ---- a test that asks one thing more at each place
 module _ (f g : ℕ → Bool) (step : (n : ℕ) → f (suc n) ≡ f n && g n) where
+  -- where it holds, each thing asked does; where it fails, one fails that stands after places that hold
+  pub all_hold : (n : ℕ) → f n ≡ true → (i : ℕ) → i < n → (f i ≡ true) × (g i ≡ true)
+  all_hold zero e i h = absurd (not-suc-le-zero h)
+  all_hold (suc n) e i h = go (ltb i n) refl (both_hold (f n) (g n) (sym (step n) ∙ e)) (λ p l. all_hold n p i l)
+    where
+      last : (a b : ℕ) → ltb a b ≡ false → a < suc b → b ≡ a
+      last a b p q = omega (arith, ltb-false a b p)
+
+      go : (b : Bool) → ltb i n ≡ b → (f n ≡ true) × (g n ≡ true) → (f n ≡ true → i < n → (f i ≡ true) × (g i ≡ true)) → (f i ≡ true) × (g i ≡ true)
+      go true p q more = more q.0 (ltb-true i n p)
+      go false p q more = subst (λ (k : ℕ). (f k ≡ true) × (g k ≡ true)) (last i n p h) q
+
+  pub first-fails : f 0 ≡ true → (n : ℕ) → f n ≡ false → (i : ℕ) × (i < n) × (f i ≡ true) × (g i ≡ false)
+  first-fails z zero e = absurd (true≢false (sym z ∙ e))
+  first-fails z (suc n) e = go (f n) refl (g n) refl (sym (step n) ∙ e) (λ p. first-fails z n p)
+    where
+      go : (a : Bool) → f n ≡ a → (b : Bool) → g n ≡ b → f n && g n ≡ false → (f n ≡ false → (i : ℕ) × (i < n) × (f i ≡ true) × (g i ≡ false)) → (i : ℕ)
+          × (i < suc n) × (f i ≡ true) × (g i ≡ false)
+      go false p b q r more = let (i, l, x, y) = more p in (i, omega (arith, l), x, y)
+      go true p false q r more = (n, omega arith, p, q)
+      go true p true q r more = absurd (true≢false (sym (rw (p, q)) ∙ r))
+
+-- ---- the same test one place on: it fails where the thing asked does, stays false once it is, and holds where both do
+module _ (f g : ℕ → Bool) (step : (n : ℕ) → f (suc n) ≡ f n && g n) where
   pub fails_at : (n : ℕ) → g n ≡ false → f (suc n) ≡ false
   fails_at n e = step n ∙ ap (λ (b : Bool). f n && b) e ∙ off (f n)
     where
@@ -64,28 +89,6 @@ module _ (f g : ℕ → Bool) (step : (n : ℕ) → f (suc n) ≡ f n && g n) wh
       go : (b : Bool) → leb i k ≡ b → (i ≤ k → f k ≡ false) → f (suc k) ≡ false
       go true p more = step k ∙ off (f k) (more (leb-true i k p))
       go false p more = ap f (last i k p h) ∙ e
-
-  -- where it holds, each thing asked does; where it fails, one fails that stands after places that hold
-  pub all_hold : (n : ℕ) → f n ≡ true → (i : ℕ) → i < n → (f i ≡ true) × (g i ≡ true)
-  all_hold zero e i h = absurd (not-suc-le-zero h)
-  all_hold (suc n) e i h = go (ltb i n) refl (both_hold (f n) (g n) (sym (step n) ∙ e)) (λ p l. all_hold n p i l)
-    where
-      last : (a b : ℕ) → ltb a b ≡ false → a < suc b → b ≡ a
-      last a b p q = omega (arith, ltb-false a b p)
-
-      go : (b : Bool) → ltb i n ≡ b → (f n ≡ true) × (g n ≡ true) → (f n ≡ true → i < n → (f i ≡ true) × (g i ≡ true)) → (f i ≡ true) × (g i ≡ true)
-      go true p q more = more q.0 (ltb-true i n p)
-      go false p q more = subst (λ (k : ℕ). (f k ≡ true) × (g k ≡ true)) (last i n p h) q
-
-  pub first-fails : f 0 ≡ true → (n : ℕ) → f n ≡ false → (i : ℕ) × (i < n) × (f i ≡ true) × (g i ≡ false)
-  first-fails z zero e = absurd (true≢false (sym z ∙ e))
-  first-fails z (suc n) e = go (f n) refl (g n) refl (sym (step n) ∙ e) (λ p. first-fails z n p)
-    where
-      go : (a : Bool) → f n ≡ a → (b : Bool) → g n ≡ b → f n && g n ≡ false → (f n ≡ false → (i : ℕ) × (i < n) × (f i ≡ true) × (g i ≡ false)) → (i : ℕ)
-          × (i < suc n) × (f i ≡ true) × (g i ≡ false)
-      go false p b q r more = let (i, l, x, y) = more p in (i, omega (arith, l), x, y)
-      go true p false q r more = (n, omega arith, p, q)
-      go true p true q r more = absurd (true≢false (sym (rw (p, q)) ∙ r))
 
   pub holds-next : (n : ℕ) → f n ≡ true → g n ≡ true → f (suc n) ≡ true
   holds-next n p q = rw (step n, p, q)

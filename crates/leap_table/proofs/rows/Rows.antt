@@ -1,17 +1,16 @@
--- A row's place in a list of its decimals. And what is computed over the fixed table: how many rows it has, that they rise, and that the first 14 drift and no
+-- A row's place in a list made of rows. And what is computed over the fixed table: how many rows it has, that they rise, and that the first 14 drift and no
 -- other. Assumes nothing.
 use Rattle.std.proofs.Common.{◌≡◌, ℕ, zero, suc, ◌+◌, ◌<◌, Bool, true, false, not, ◌&&◌, T, eqb, ltb, List, [], ◌∷◌, map, length, get_or, sym, refl, ◌∙◌, subst}
 use Rattle.std.proofs.Common.{le_of_suc-le-suc, not-suc-le-zero, add-zero, add-suc, suc-add, zero-add}
 use mathlib.Core.Bool.{beq}
-use lib.Ieee.{Float, nan}
 use lib.Ieee.Fits.{and_l, and_r}
 use Rattle.leap_table.specs.rows.Table.{Row, fixed, none, starts, rising, fixed_rows}
 
 -- what stands at place i of the list made by f is f of the row at place i
-pub place : (f : Row → Float) (rows : List Row) (i : ℕ) → i < length rows → get_or (map f rows) i nan ≡ f (get_or rows i none)
-place f [] i h = absurd (not-suc-le-zero h)
-place f (r ∷ rows) zero h = refl
-place f (r ∷ rows) (suc i) h = place f rows i (le_of_suc-le-suc h)
+pub place : {A : Type 0} (f : Row → A) (a : A) (rows : List Row) (i : ℕ) → i < length rows → get_or (map f rows) i a ≡ f (get_or rows i none)
+place f a [] i h = absurd (not-suc-le-zero h)
+place f a (r ∷ rows) zero h = refl
+place f a (r ∷ rows) (suc i) h = place f a rows i (le_of_suc-le-suc h)
 
 pub fixed-length : length fixed ≡ fixed_rows
 unfolding fixed

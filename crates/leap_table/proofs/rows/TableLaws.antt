@@ -1,7 +1,7 @@
 -- What becomes of an announced table, decided on the numbers as they are announced; and what is known of a table that is taken: its length, its order, the size
 -- of its seconds. Places past the size are not read.
 -- Assumes nothing.
-use Rattle.std.proofs.Common.{◌≡◌, ℕ, zero, suc, ◌+◌, ◌-◌, ◌*◌, ◌<◌, ◌≤◌, Bool, true, false, cond, ◌&&◌, ◌||◌, T, eqb, ltb, leb, ◌⊎◌, List, [], ◌∷◌, ◌++◌}
+use Rattle.std.proofs.Common.{◌≡◌, ℕ, zero, suc, ◌+◌, ◌*◌, ◌<◌, ◌≤◌, Bool, true, false, cond, ◌&&◌, ◌||◌, T, eqb, ltb, leb, ◌⊎◌, List, [], ◌∷◌, ◌++◌}
 use Rattle.std.proofs.Common.{length, get_or, ℤ, pos, negsuc, sym, refl, ap, ◌∙◌, subst, inl, inr, true≢false, not-suc-le-zero, add-one, arith, ltb-false}
 use Rattle.std.proofs.Common.{ltb-true, le-ltb, ne_eqb, eqb-true, leb-false, leb-true}
 use lib.Signed.{lt_z}
@@ -10,7 +10,7 @@ use Rattle.refusals.specs.Outcome.{answer, refusal}
 use Rattle.leap_table.specs.declared.rows.AnnouncedRows.{AnnouncedRows}
 use Rattle.leap_table.specs.rows.Table.{Row, starts, rising, fixed_rows, last_month, most_rows, last_seconds}
 use Rattle.leap_table.specs.rows.Announced.{natural, seconds_at, announced_row, rows_to, least, announced_size, rows_of, one_apart, by_seconds, table_of}
-use Rattle.leap_table.specs.rows.Announced.{before, later_at, OneStep, StepAt, Decision, sizes, order, step, taken}
+use Rattle.leap_table.specs.rows.Announced.{rows_of, before, later_at, OneStep, StepAt, Decision, sizes, order, step, taken}
 use Rattle.leap_table.proofs.rows.InTurn.{all_hold, first-fails}
 use Rattle.leap_table.proofs.rows.Tables.{table-length, month_before, rises-more, seconds_before, steps-more}
 use Rattle.leap_table.proofs.rows.TableTests.{rises-none, steps-none}

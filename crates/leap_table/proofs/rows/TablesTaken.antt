@@ -1,9 +1,13 @@
 -- A table is refused by its number or taken with all its rows: what a call that tests the table answers, and what is known of a table that is taken.
 -- Assumes nothing.
-use Rattle.std.proofs.Common.{◌≡◌, ℕ, zero, suc, ◌<◌, ◌≤◌, Bool, true, false, cond, ◌&&◌, eqb, leb, List, sym, refl, ap, ◌∙◌, arith, eq-eqb, ne_eqb, eqb-true}
-use Rattle.std.proofs.Common.{le-leb, leb-true}
+use Rattle.std.proofs.Common.{◌≡◌, ℕ, zero, suc, ◌<◌, ◌≤◌, Bool, true, false, cond, ◌&&◌, eqb, leb, List, sym, refl, ap, ◌∙◌, not-suc-le-zero}
+use Rattle.std.proofs.Common.{arith, eq-eqb, ne_eqb, eqb-true, le-leb, leb-true}
 use borrow.Author.Tests.{lt-leb}
-use Rattle.refusals.specs.Outcome.{Outcome, answer, refusal, onward}
+use Rattle.std.specs.Prelude.{Result, Ok, Err}
+use Rattle.refusals.specs.declared.Refusal.{Refusal}
+use Rattle.refusals.specs.Refusal.{refusal_number}
+use Rattle.refusals.specs.Outcome.{Outcome, answer, refusal, onward, number_said}
+use Rattle.refusals.proofs.Handed.{number_low}
 use Rattle.leap_table.specs.declared.rows.AnnouncedRows.{AnnouncedRows}
 use Rattle.leap_table.specs.rows.Table.{Row, fixed, starts, rising}
 use Rattle.leap_table.specs.rows.Announced.{rows_to, announced_size, rows_of, sizes_fit, by_seconds, table_of, unless_refused}
@@ -22,6 +26,35 @@ module _ {B : Type 0} (t : AnnouncedRows) (n : ℕ) (e : unless_refused n (rows_
   pub taken : n ≡ 0 → next (rows_of t) ≡ onward (table_of t) next
   unfolding onward
   taken h = ap (λ (k : ℕ). onward (unless_refused k (rows_of t)) next) (sym h) ∙ ap (λ (o : Outcome (List Row)). onward o next) e
+
+-- ---- the same by the result of `judge_table`
+module _ (t : AnnouncedRows) (r : Result Unit Refusal) (e : unless_refused (number_said r) (rows_of t) ≡ table_of t) where
+  is-refused : (k : Refusal) → r ≡ Err k → number_said r ≡ refusal_number k
+  unfolding number_said
+  is-refused k p = ap number_said p
+
+  is_not : (u : Unit) → r ≡ Ok u → number_said r ≡ 0
+  unfolding number_said
+  is_not u p = ap number_said p
+
+  pub table_refused : (k : Refusal) → r ≡ Err k → refusal (refusal_number k) ≡ table_of t
+  table_refused k p = go (refusal_number k) (number_low k) ∙ ap (λ (j : ℕ). unless_refused j (rows_of t)) (sym (is-refused k p)) ∙ e
+    where
+      go : (j : ℕ) → 1 ≤ j → refusal j ≡ unless_refused j (rows_of t)
+      go zero h = absurd (not-suc-le-zero h)
+      go (suc j) h = refl
+
+  pub table_answered : (u : Unit) → r ≡ Ok u → answer (rows_of t) ≡ table_of t
+  table_answered u p = ap (λ (j : ℕ). unless_refused j (rows_of t)) (sym (is_not u p)) ∙ e
+
+  module _ {B : Type 0} (next : List Row → Outcome B) where
+    pub call_refused : (k : Refusal) → r ≡ Err k → refusal (refusal_number k) ≡ onward (table_of t) next
+    unfolding onward
+    call_refused k p = ap (λ (o : Outcome (List Row)). onward o next) (table_refused k p)
+
+    pub call_taken : (u : Unit) → r ≡ Ok u → next (rows_of t) ≡ onward (table_of t) next
+    unfolding onward
+    call_taken u p = ap (λ (o : Outcome (List Row)). onward o next) (table_answered u p)
 
 -- ---- the three tests, as the code makes them
 module _ (t : AnnouncedRows) where

@@ -1,30 +1,23 @@
 -- The call as a whole: its refusals in their order, what is known where nothing is refused, and what the lent list holds. Assumes nothing.
-use Rattle.std.proofs.Common.{◌≡◌, ℕ, zero, suc, ◌≤◌, Bool, true, false, cond, T, leb, List, ◌++◌, map, length, drop, sym, refl, ap, ◌∙◌, subst, arith}
+use Rattle.std.proofs.Common.{◌≡◌, ℕ, ◌≤◌, Bool, true, false, cond, T, leb, List, ◌++◌, map, length, drop, sym, refl, ap, ◌∙◌, subst, arith}
 use Rattle.std.proofs.Common.{leb-true}
 use lib.Ieee.{Float}
-use Rattle.refusals.specs.Outcome.{Outcome, answer, refusal, onward}
+use Rattle.std.specs.Prelude.{Result, Ok}
+use Rattle.refusals.specs.declared.Refusal.{Refusal}
+use Rattle.refusals.specs.Outcome.{Outcome, answer, refusal, onward, outcome}
 use Rattle.refusals.proofs.Onward.{came}
 use Rattle.leap_table.specs.rows.Table.{Row, starts, rising}
-use Rattle.leap_table.specs.rows.Announced.{rows_of, table_of, unless_refused}
+use Rattle.leap_table.specs.rows.Announced.{rows_of, table_of}
 use Rattle.leap_table.specs.declared.rows.AnnouncedRows.{AnnouncedRows}
 use Rattle.leap_table.proofs.rows.TablesTaken.{when_taken}
 use Rattle.leap_table.proofs.rows.TableLaws.{table-rises}
 use Rattle.leap_table.specs.declared.judging.Triple.{Triple}
-use Rattle.leap_table.specs.declared.walk.WalkAnswer.TheVariants.{Compared, Refused}
 use Rattle.leap_table.specs.walk.Rows.{compared}
 use Rattle.leap_table.specs.judging.Judging.{judged_all, judged_list}
-use Rattle.leap_table.proofs.judging.Refused.{refused-any}
 use Rattle.leap_table.specs.walk.Walk.{month_in, triple_offset, Walked, walked, walk_of}
-use Rattle.leap_table.specs.walk.Call.{walk_outcome, list_after, WalkCall}
-
-pub answered-any : {A : Type 0} (k : ℕ) (a : A) → k ≡ 0 → unless_refused k a ≡ answer a
-answered-any k a e = ap (λ (x : ℕ). unless_refused x a) e
-
--- the same, by an answer that says nothing
-by_number : {A : Type 0} (k : ℕ) (a : A) → unless_refused k a ≡ onward (unless_refused {A = Unit} k tt) (λ _. answer a)
-unfolding onward
-by_number zero a = refl
-by_number (suc k) a = refl
+use Rattle.leap_table.specs.walk.Call.{list_after, WalkCall}
+use Rattle.leap_table.specs.rows.Announced.{unless_refused}
+use Rattle.std.proofs.Common.{zero, suc}
 
 module _ (rows : List Row) (dates : List Triple) (places : ℕ) where
   -- the dates are judged, and then there is the walk
@@ -64,10 +57,9 @@ module _ (t : AnnouncedRows) (b : Bool) (dates : List Triple) (places : ℕ) whe
   abbrev judged : Outcome Unit
   judged = onward (table_of t) (λ _. judged_list b dates places)
 
-  pub judged-walk : (k : ℕ) → unless_refused k tt ≡ judged → unless_refused k (walked (rows_of t) dates) ≡ whole
+  pub judged-walk : onward judged (λ _. answer (walked (rows_of t) dates)) ≡ whole
   unfolding onward
-  judged-walk k e = by_number k (walked (rows_of t) dates) ∙ ap (λ (o : Outcome Unit). onward o (λ _. answer (walked (rows_of t) dates))) e ∙ go
-      (table_of t) refl
+  judged-walk = go (table_of t) refl
     where
       go : (o : Outcome (List Row)) → table_of t ≡ o → onward (onward o (λ _. judged_list b dates places)) (λ _. answer (walked (rows_of t) dates))
           ≡ onward o next
@@ -75,14 +67,21 @@ module _ (t : AnnouncedRows) (b : Bool) (dates : List Triple) (places : ℕ) whe
           ∙ judged-first rows dates places b
       go (refusal j) p = refl
 
+  abbrev then_walked : Outcome Unit → Outcome Walked
+  then_walked o = onward o (λ _. answer (walked (rows_of t) dates))
+
+  is_walked : answer tt ≡ judged → whole ≡ answer (walked (rows_of t) dates)
+  unfolding onward
+  is_walked e = sym (ap then_walked e ∙ judged-walk)
+
   pub record Passed : Type 0 where
     pub order : T (rising (starts (rows_of t)))
     pub fits : length dates ≤ places
     pub good : judged_all dates ≡ answer tt
 
-  pub passed : (k : ℕ) → unless_refused k tt ≡ judged → k ≡ 0 → Passed
-  passed k e h =
-      let (rows, p, q) = came (table_of t) next (walked (rows_of t) dates) (sym (judged-walk k e) ∙ answered-any k (walked (rows_of t) dates) h) in
+  pub passed : answer tt ≡ judged → Passed
+  passed e =
+      let (rows, p, q) = came (table_of t) next (walked (rows_of t) dates) (is_walked e) in
       let r = through rows dates places b (walked (rows_of t) dates) q in
       record {
         order = subst (λ (l : List Row). T (rising (starts l))) (when_taken t rows p).all (table-rises t rows p);
@@ -91,14 +90,32 @@ module _ (t : AnnouncedRows) (b : Bool) (dates : List Triple) (places : ℕ) whe
       }
 
   module _ {A : Type 0} (write : List Float → List A) (before : List A) where
-    pub refused-call : (k : ℕ) → unless_refused k tt ≡ judged → (k ≡ 0 → ⊥) → WalkCall write whole before (Refused k) before
-    unfolding walk_outcome onward list_after
-    refused-call k e h = rw (sym (judged-walk k e) ∙ refused-any k (walked (rows_of t) dates) h) (record { says = refl; holds = refl })
+    pub refused-call : (k : ℕ) → refusal k ≡ judged → (r : Result ℕ Refusal) → outcome r ≡ refusal k → WalkCall write whole before r before
+    unfolding onward list_after
+    refused-call k e r p = rw (sym (ap then_walked e ∙ judged-walk)) (record { says = p; holds = refl })
 
-    pub walked_call : (k : ℕ) → unless_refused k tt ≡ judged → k ≡ 0 → (c : ℕ) (after : List A) (room : ℕ)
+    pub walked_call : answer tt ≡ judged → (c : ℕ) (after : List A) (room : ℕ)
         → c ≡ compared (starts (rows_of t)) (map month_in dates) → after ≡ write (map (triple_offset (rows_of t)) dates) ++ drop room before
-        → length (write (map (triple_offset (rows_of t)) dates)) ≡ room → WalkCall write whole before (Compared c) after
-    unfolding walk_outcome onward list_after
-    walked_call k e h c after room p q r =
-        rw (sym (judged-walk k e) ∙ answered-any k (walked (rows_of t) dates) h)
+        → length (write (map (triple_offset (rows_of t)) dates)) ≡ room → WalkCall write whole before (Ok c) after
+    unfolding outcome onward list_after
+    walked_call e c after room p q r =
+        rw (is_walked e)
         (record { says = ap answer p; holds = q ∙ ap (λ (n : ℕ). write (map (triple_offset (rows_of t)) dates) ++ drop n before) (sym r) })
+
+-- the number 0 refuses nothing
+pub answered-any : {A : Type 0} (k : ℕ) (a : A) → k ≡ 0 → unless_refused k a ≡ answer a
+answered-any k a e = ap (λ (x : ℕ). unless_refused x a) e
+
+-- ---- the walk, and what is known where nothing is refused, by such a number
+by_number : {A : Type 0} (k : ℕ) (a : A) → unless_refused k a ≡ onward (unless_refused {A = Unit} k tt) (λ _. answer a)
+unfolding onward
+by_number zero a = refl
+by_number (suc k) a = refl
+
+module _ (t : AnnouncedRows) (b : Bool) (dates : List Triple) (places : ℕ) where
+  pub walk_by_number : (k : ℕ) → unless_refused k tt ≡ judged t b dates places
+      → unless_refused k (walked (rows_of t) dates) ≡ whole t b dates places
+  walk_by_number k e = by_number k (walked (rows_of t) dates) ∙ ap (then_walked t b dates places) e ∙ judged-walk t b dates places
+
+  pub passed_by_number : (k : ℕ) → unless_refused k tt ≡ judged t b dates places → k ≡ 0 → Passed t b dates places
+  passed_by_number k e z = passed t b dates places (sym (answered-any k tt z) ∙ e)

@@ -6,7 +6,7 @@ use Rattle.numerals.specs.little_endian.LittleEndian.{eight_bytes}
 use Rattle.leap_table.specs.declared.judging.Triple.{Triple}
 use Rattle.leap_table.specs.judging.Lists.{dates_from}
 use Rattle.leap_table.specs.walk.Lists.{in_eights}
-use Rattle.leap_table.proofs.walk.Writes.{Putting, writing_starts, writing_goes, writing_ends, written-length}
+use Rattle.leap_table.proofs.walk.Writes.{Putting, writing_goes, writing_ends, written-length}
 
 abbrev put : Float → List ℕ
 put x = eight_bytes (to_bits binary64 x)
@@ -31,9 +31,6 @@ module _ (off : Triple → Float) (f : ℕ → Triple) (n : ℕ) (before : List 
 
   abbrev pub rest_e : ℕ → List ℕ
   rest_e i = in_eights (map off (dates_from f i (n - i))) ++ drop (8 * n) before
-
-  pub eights_start : Putting whole_e (rest_e 0) before before (8 * 0)
-  eights_start = writing_starts in_eights put 8 place refl next_place nil cons (λ x. refl) off f n before
 
   pub eights_go : (i : ℕ) (now now' : List ℕ) (x : Float) → i < n → Putting whole_e (rest_e i) before now (8 * i) → x ≡ off (f i)
       → now' ≡ sets now (8 * i) (put x) → 8 * i + 8 ≤ length now → Putting whole_e (rest_e (i + 1)) before now' (8 * (i + 1))

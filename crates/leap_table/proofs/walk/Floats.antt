@@ -6,7 +6,7 @@ use Rattle.leap_table.specs.declared.judging.Triple.{Triple}
 use Rattle.leap_table.specs.judging.Lists.{dates_from}
 use Rattle.leap_table.specs.walk.Call.{as_floats}
 use Rattle.leap_table.proofs.judging.Judges.{how_many}
-use Rattle.leap_table.proofs.walk.Writes.{Putting, one-put, writing_starts, writing_goes, writing_ends}
+use Rattle.leap_table.proofs.walk.Writes.{Putting, one-put, writing_goes, writing_ends}
 
 module _ (off : Triple → Float) (f : ℕ → Triple) (n : ℕ) (before : List Float) where
   abbrev pub whole_f : List Float
@@ -14,9 +14,6 @@ module _ (off : Triple → Float) (f : ℕ → Triple) (n : ℕ) (before : List 
 
   abbrev pub rest_f : ℕ → List Float
   rest_f i = map off (dates_from f i (n - i)) ++ drop n before
-
-  pub float-starts : Putting whole_f (rest_f 0) before before 0
-  float-starts = writing_starts as_floats (λ x. x ∷ []) 1 (λ i. i) refl (λ i. refl) refl (λ x l. refl) (λ x. refl) off f n before
 
   pub float-goes : (i : ℕ) (now : List Float) (x : Float) → i < n → Putting whole_f (rest_f i) before now i → x ≡ off (f i) → i < length now
       → Putting whole_f (rest_f (i + 1)) before (set now i x) (i + 1)

@@ -1,18 +1,20 @@
 -- The rows that a walk passes are those that the definition holds its months against, and in a table that rises the last row passed is the one that the look-up
 -- finds. Assumes nothing.
-use Rattle.std.proofs.Common.{◌≡◌, ℕ, zero, suc, ◌+◌, ◌-◌, ◌<◌, ◌≤◌, true, false, cond, T, leb, List, [], ◌∷◌, length, get_or, drop, sym, refl, ap, ◌∙◌, subst}
+use Rattle.std.proofs.Common.{◌≡◌, ℕ, zero, suc, ◌+◌, ◌<◌, ◌≤◌, true, false, cond, T, leb, List, [], ◌∷◌, length, get_or, drop, sym, refl, ap, ◌∙◌}
 use Rattle.std.proofs.Common.{arith, drop-cons, le-leb}
 use native.Mathlib.Decide.{dec_lt}
-use lib.ListN.{get_or-eq_default, length-map}
+use lib.ListN.{get_or-eq_default}
 use lib.Ieee.{Float, binary64, add, sub, mul}
 use borrow.Author.Tests.{lt-leb}
 use Rattle.leap_table.specs.rows.Table.{Row, starts, reached, rising, most_rows}
 use Rattle.leap_table.specs.offsets.Forward.{never, by_terms}
 use Rattle.leap_table.specs.declared.offsets.walk_rows.RowTerms.{RowTerms}
 use Rattle.leap_table.proofs.rows.Reached.{at_most, low, high}
+use Rattle.leap_table.specs.walk.Rows.{held_against, left}
+use Rattle.std.proofs.Common.{subst}
+use lib.ListN.{length-map}
 use Rattle.leap_table.specs.offsets.Offset.{offset_by}
 use Rattle.leap_table.specs.declared.walk.Walk.{Walk}
-use Rattle.leap_table.specs.walk.Rows.{held_against, left, compared}
 use Rattle.leap_table.specs.walk.Asked.{Standing, Stepped}
 
 -- ---- the offset by a row's terms, in its two cases
@@ -124,6 +126,8 @@ pub record Walking (rows : List Row) (month k₀ c₀ k next c : ℕ) : Type 0 w
   pub is-next : next ≡ get_or (starts rows) k never
   pub begun : (j : ℕ) → k₀ ≤ j → j < k → get_or (starts rows) j 0 ≤ month
   pub count : c + k₀ ≡ c₀ + k
+
+-- where a walk's month begins, one row on, and where it ends
 
 module _ (rows : List Row) (month : ℕ) where
   as_many : length (starts rows) ≡ length rows

@@ -1,5 +1,5 @@
 -- Dates that nothing is refused of are each good, and each has a month that is not before the month of the one before it. Assumes nothing.
-use Rattle.std.proofs.Common.{◌≡◌, ℕ, zero, suc, ◌+◌, ◌-◌, ◌*◌, ◌<◌, ◌≤◌, Bool, true, false, cond, [], ℤ, pos, negsuc, nat_abs, sym, refl, ◌∙◌, subst, le_refl}
+use Rattle.std.proofs.Common.{◌≡◌, ℕ, zero, suc, ◌+◌, ◌-◌, ◌*◌, ◌<◌, ◌≤◌, Bool, true, false, cond, ℤ, pos, negsuc, nat_abs, sym, refl, ◌∙◌, subst, le_refl}
 use Rattle.std.proofs.Common.{arith, ltb-false, le-ltb}
 use native.Mathlib.Decide.{dec_lt}
 use lib.Signed.{lt_z}

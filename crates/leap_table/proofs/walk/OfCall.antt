@@ -4,7 +4,8 @@ use Rattle.std.proofs.Common.{◌≡◌, ℕ, zero, suc, ◌+◌, ◌*◌, ◌/�
 use Rattle.std.proofs.Common.{sym, refl, ap, ◌∙◌, arith, drop_at, eq-eqb}
 use lib.Ieee.{Float}
 use lib.ListN.{length-map, get_or-append, get_or-map}
-use Rattle.refusals.specs.Outcome.{Outcome, answer, refusal, onward}
+use Rattle.std.specs.Prelude.{Ok}
+use Rattle.refusals.specs.Outcome.{Outcome, answer, refusal, onward, outcome}
 use Rattle.refusals.proofs.Onward.{came}
 use Rattle.numerals.specs.little_endian.Written.{all_bytes}
 use Rattle.numerals.specs.little_endian.LittleEndian.{pattern32}
@@ -14,13 +15,12 @@ use Rattle.leap_table.specs.declared.rows.AnnouncedRows.{AnnouncedRows}
 use Rattle.floats.specs.Whole.{nought}
 use Rattle.leap_table.specs.offsets.Offset.{tai_utc_offset}
 use Rattle.leap_table.specs.declared.judging.Triple.{Triple}
-use Rattle.leap_table.specs.declared.walk.WalkAnswer.TheVariants.{Compared}
 use Rattle.calendar.specs.Calendar.{leap_size, lengths, days_in_month}
 use Rattle.calendar.specs.Refusals.{valid_date}
 use Rattle.leap_table.specs.judging.Judging.{triple, earlier, judged_next, judged_after, judged_all}
 use Rattle.leap_table.specs.judging.Lists.{dates_from, triple_at}
 use Rattle.leap_table.specs.walk.Walk.{triple_offset, Walked, walked, walk_of}
-use Rattle.leap_table.specs.walk.Call.{walk_outcome, as_floats, list_after, WalkCall}
+use Rattle.leap_table.specs.walk.Call.{as_floats, list_after, WalkCall}
 use Rattle.leap_table.specs.walk.Lists.{walk_of_numbers, walk_of_bytes, in_eights}
 use Rattle.leap_table.specs.walk.Writer.{triple_bytes, DateFits, offset_bytes}
 use Rattle.leap_table.specs.walk.Due.{triple_numbers}
@@ -88,21 +88,21 @@ looked_up rows t = tai_utc_offset rows t.year t.month t.day nought
 -- ---- the call with its table: what is answered is the walk over the dates by the rows of the table
 module _ {A : Type 0} (write : List Float → List A) (t : AnnouncedRows) (next : List Row → Outcome Walked) (ds : List Triple) (places : ℕ)
     (is : (rows : List Row) → next rows ≡ walk_of rows true ds places) (before after : List A) (c : ℕ)
-    (call : WalkCall write (onward (table_of t) next) before (Compared c) after) where
-  outcome : (onward (table_of t) next ≡ answer (walked (rows_of t) ds)) × (judged_all ds ≡ answer tt)
-  unfolding walk_outcome
-  outcome =
+    (call : WalkCall write (onward (table_of t) next) before (Ok c) after) where
+  walk_given : (onward (table_of t) next ≡ answer (walked (rows_of t) ds)) × (judged_all ds ≡ answer tt)
+  unfolding outcome
+  walk_given =
       let (w, p, q) = came (onward (table_of t) next) (λ w. answer w.rows_compared) c (sym call.says) in
       let (rows, u, v) = came (table_of t) next w p in
       let a : Answered rows ds w = answered rows true ds places w (sym (is rows) ∙ v) in
       (p ∙ ap answer a.all ∙ ap (λ (l : List Row). answer (walked l ds)) (when_taken t rows u).all, a.good)
 
   lent : after ≡ list_after write (answer (walked (rows_of t) ds)) before
-  lent = call.holds ∙ ap (λ (o : Outcome Walked). list_after write o before) outcome.0
+  lent = call.holds ∙ ap (λ (o : Outcome Walked). list_after write o before) walk_given.0
 
   -- each date is one, and its offset that of the look-up of one date
   looked : (d : Triple) (i : ℕ) → i < length ds → looked_up (rows_of t) (get_or ds i d) ≡ answer (triple_offset (rows_of t) (get_or ds i d))
-  looked d i h = offset-of-look-up (rows_of t) (get_or ds i d) (all-good ds d outcome.1 i h)
+  looked d i h = offset-of-look-up (rows_of t) (get_or ds i d) (all-good ds d walk_given.1 i h)
 
 eights_long : (fs : List Float) → length (in_eights fs) ≡ 8 * length fs
 unfolding in_eights
@@ -124,7 +124,7 @@ numbers-offsets rows ds d places w e =
 
 -- AN ANSWERED CALL OVER BYTES: by the contract of `offsets_at_0h_bytes`
 module _ (t : AnnouncedRows) (ds : List Triple) (d : Triple) (fits : (i : ℕ) → i < length ds → DateFits (get_or ds i d)) (before after : List ℕ) (c : ℕ)
-    (call : WalkCall in_eights (onward (table_of t) (λ rows. walk_of_bytes rows (all_bytes triple_bytes ds) (length before))) before (Compared c) after) where
+    (call : WalkCall in_eights (onward (table_of t) (λ rows. walk_of_bytes rows (all_bytes triple_bytes ds) (length before))) before (Ok c) after) where
   abbrev held : after ≡ list_after in_eights (answer (walked (rows_of t) ds)) before
   held = lent in_eights t (λ rows. walk_of_bytes rows (all_bytes triple_bytes ds) (length before)) ds (length before / 8)
       (λ rows. walk_of-list rows ds d (length before) fits) before after c call
@@ -149,7 +149,7 @@ module _ (t : AnnouncedRows) (ds : List Triple) (d : Triple) (fits : (i : ℕ) �
 
 -- AN ANSWERED CALL OVER NUMBERS: by the contract of `offsets_at_0h`
 module _ (t : AnnouncedRows) (ds : List Triple) (d : Triple) (before after : List Float) (c : ℕ)
-    (call : WalkCall as_floats (onward (table_of t) (λ rows. walk_of_numbers rows (triple_numbers ds) (length before))) before (Compared c) after) where
+    (call : WalkCall as_floats (onward (table_of t) (λ rows. walk_of_numbers rows (triple_numbers ds) (length before))) before (Ok c) after) where
   abbrev given : after ≡ list_after as_floats (answer (walked (rows_of t) ds)) before
   given = lent as_floats t (λ rows. walk_of_numbers rows (triple_numbers ds) (length before)) ds (length before)
       (λ rows. walk_of-numbers rows ds d (length before)) before after c call

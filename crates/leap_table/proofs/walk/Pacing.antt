@@ -1,5 +1,5 @@
 -- The walk from date to date: where it stands, what it has counted, and the offset of each date. Assumes nothing.
-use Rattle.std.proofs.Common.{◌≡◌, ℕ, ◌+◌, ◌-◌, ◌<◌, ◌≤◌, Bool, true, false, cond, T, leb, List, [], ◌∷◌, map, length, get_or, drop, sym, refl, ap, ◌∙◌, subst}
+use Rattle.std.proofs.Common.{◌≡◌, ℕ, ◌+◌, ◌-◌, ◌<◌, ◌≤◌, Bool, true, false, cond, T, leb, List, ◌∷◌, map, length, get_or, drop, sym, refl, ap, ◌∙◌, subst}
 use Rattle.std.proofs.Common.{add-one, arith}
 use native.Mathlib.Decide.{dec_lt}
 use lib.ListN.{length-map}
@@ -14,8 +14,8 @@ use Rattle.leap_table.specs.declared.walk.Walk.{Walk}
 use Rattle.leap_table.specs.walk.Rows.{held_against, left, compared}
 use Rattle.leap_table.specs.walk.Walk.{month_in, triple_offset}
 use Rattle.leap_table.specs.judging.Lists.{dates_from}
-use Rattle.leap_table.specs.walk.Asked.{Standing, AtStart, Stepped, CountsNext, GoodDates}
-use Rattle.leap_table.proofs.judging.Judges.{next-date, no_date, all-dates}
+use Rattle.leap_table.specs.walk.Asked.{Standing, Stepped, counting, CountsNext, GoodDates}
+use Rattle.leap_table.proofs.judging.Judges.{next-date, no_date}
 use Rattle.leap_table.proofs.walk.Forward.{between, stops, found}
 
 -- before date i
@@ -26,10 +26,6 @@ pub record Pacing (rows : List Row) (f : ℕ → Triple) (n i : ℕ) (w : Walk) 
   pub count : w.compared + compared (drop w.reached (starts rows)) (map month_in (dates_from f i (n - i))) ≡ compared (starts rows)
       (map month_in (dates_from f 0 n))
   pub few : w.compared ≤ w.reached + i
-
--- with so many rows compared
-abbrev pub counting : Walk → ℕ → Walk
-counting w c = record { rows = w.rows; reached = w.reached; next = w.next; terms = w.terms; compared = c }
 
 one-date : (l : List ℕ) (m : ℕ) (ms : List ℕ) → compared l (m ∷ ms) ≡ held_against l m + compared (left l m) ms
 unfolding compared
@@ -45,24 +41,6 @@ module _ (rows : List Row) (f : ℕ → Triple) (n : ℕ) where
 
   abbrev rest : ℕ → List ℕ
   rest i = map month_in (dates_from f i (n - i))
-
-  pub pacing_starts : (w : Walk) → AtStart rows w → Pacing rows f n 0 w
-  pacing_starts w a =
-      record {
-        within = omega arith;
-        stands = a.stands;
-        begun = λ h j g. absurd (omega (arith, a.none));
-        count = (λ x. a.nothing x + compared (drop (a.none x) l) (rest 0)) ∙ none_more (compared l (rest 0))
-            ∙ ap (λ (d : List Triple). compared l (map month_in d)) (sym (all-dates f n 0));
-        few = omega (arith, a.nothing);
-      }
-    where
-      none_more : (x : ℕ) → 0 + x ≡ x
-      none_more x = omega arith
-
-  -- one that is not moved on
-  pub stays-there : (w : Walk) (m : ℕ) → Standing rows w → m < w.next → Stepped rows w m w
-  stays-there w m s h = record { stands = s; forward = omega arith; begun = λ j a b. absurd (omega arith); later = h; count = refl }
 
   module _ (i m : ℕ) (w v : Walk) (p : Pacing rows f n i w) (h : i < n) (e : m ≡ month_in (f i)) (s : Stepped rows w m v) where
     all-begun : (j : ℕ) → j < v.reached → get_or l j 0 ≤ m

@@ -2,7 +2,7 @@
 -- nothing.
 use Rattle.std.proofs.Common.{◌≡◌, ℕ, Bool, true, false, cond, leb, List, map, length, sym, ap, ◌∙◌, arith}
 use lib.Ieee.{Float}
-use Rattle.refusals.specs.Outcome.{Outcome, answer, onward, refusal}
+use Rattle.refusals.specs.Outcome.{Outcome, answer, onward, refusal, outcome}
 use Rattle.refusals.proofs.Onward.{came}
 use Rattle.leap_table.specs.declared.rows.AnnouncedRows.{AnnouncedRows}
 use Rattle.leap_table.specs.declared.judging.Triple.{Triple}
@@ -12,7 +12,6 @@ use Rattle.leap_table.specs.judging.Judging.{judged_all}
 use Rattle.leap_table.specs.walk.Rows.{compared}
 use Rattle.leap_table.specs.walk.Walk.{Walked, month_in, walk_of, walked}
 use Rattle.leap_table.specs.walk.Lists.{walk_of_numbers}
-use Rattle.leap_table.specs.walk.Call.{walk_outcome}
 use Rattle.leap_table.specs.walk.Due.{triple_numbers}
 use Rattle.leap_table.specs.walk.Right.{WalkRight, WalkedBy}
 use Rattle.leap_table.proofs.rows.TablesTaken.{when_taken}
@@ -36,7 +35,7 @@ by-definition l ds places w h = go (leb (length ds) places) h
 
 module _ (t : AnnouncedRows) (rows : List Row) (e : table_of t ≡ answer rows) (ds : List Triple) (d : Triple) (before after : List Float) (c : ℕ) where
   counted : WalkedBy t ds before c after → c ≡ compared (starts rows) (map month_in ds)
-  unfolding walk_outcome
+  unfolding outcome
   counted call =
       let next : List Row → Outcome Walked = λ l. walk_of_numbers l (triple_numbers ds) (length before) in
       let (w, p, q) = came (onward (table_of t) next) (λ k. answer k.rows_compared) c (sym call.says) in

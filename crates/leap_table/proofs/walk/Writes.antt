@@ -1,11 +1,11 @@
 -- Offsets written one after the other into a lent list, as floats or as bytes. Assumes nothing.
-use Rattle.std.proofs.Common.{◌≡◌, ℕ, zero, suc, ◌+◌, ◌-◌, ◌*◌, ◌<◌, ◌≤◌, List, [], ◌∷◌, ◌++◌, map, length, take, drop, set, sym, refl, ap, ◌∙◌, subst}
+use Rattle.std.proofs.Common.{◌≡◌, ℕ, zero, suc, ◌+◌, ◌-◌, ◌*◌, ◌<◌, ◌≤◌, List, [], ◌∷◌, ◌++◌, map, length, take, drop, set, sym, ap, ◌∙◌, subst}
 use Rattle.std.proofs.Common.{append_assoc, mul-zero, mul-suc, arith, length-append, length-drop, take-append-drop, length-take-le, drop-drop, take_at, drop_at}
 use lib.Ieee.{Float}
 use lib.Seq.{set_split}
 use Rattle.leap_table.specs.declared.judging.Triple.{Triple}
 use Rattle.leap_table.specs.judging.Lists.{dates_from}
-use Rattle.leap_table.proofs.judging.Judges.{next-date, no_date, all-dates}
+use Rattle.leap_table.proofs.judging.Judges.{next-date, no_date}
 
 -- Up to place `at` all is written; `rest` is what the list is to hold from there on, and still holds what it held.
 pub record Putting {A : Type 0} (all rest before now : List A) (at : ℕ) : Type 0 where
@@ -14,9 +14,6 @@ pub record Putting {A : Type 0} (all rest before now : List A) (at : ℕ) : Type
   pub kept : drop at now ≡ drop at before
 
 module _ {A : Type 0} (all before : List A) where
-  pub putting_starts : Putting all all before before 0
-  putting_starts = record { long = refl; done = refl; kept = refl }
-
   pub putting_goes : (rest rest' now now' vs : List A) (at : ℕ) → Putting all rest before now at → rest ≡ vs ++ rest' → now' ≡ take at now
       ++ (vs ++ drop (at + length vs) now) → at + length vs ≤ length now → Putting all rest' before now' (at + length vs)
   putting_goes rest rest' now now' vs at p e o h =
@@ -55,11 +52,6 @@ module _ {A : Type 0} (write : List Float → List A) (put : Float → List A) (
 
   abbrev pub rest : ℕ → List A
   rest i = write (map off (dates_from f i (n - i))) ++ drop (at n) before
-
-  pub writing_starts : Putting whole (rest 0) before before (at 0)
-  writing_starts =
-      subst (λ (k : ℕ). Putting whole (rest 0) before before k) (sym none)
-      (subst (λ (d : List Triple). Putting whole (write (map off d) ++ drop (at n) before) before before 0) (all-dates f n 0) (putting_starts whole before))
 
   pub writing_goes : (i : ℕ) (now now' : List A) (x : Float) → i < n → Putting whole (rest i) before now (at i) → x ≡ off (f i) → now' ≡ take (at i) now
       ++ (put x ++ drop (at i + size) now) → at i + size ≤ length now → Putting whole (rest (i + 1)) before now' (at (i + 1))

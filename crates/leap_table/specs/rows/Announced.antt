@@ -36,7 +36,7 @@ announced_size t = least (least t.months_size t.seconds_size) 16
 abbrev pub rows_of : AnnouncedRows → List Row
 rows_of t = rows_to t (announced_size t)
 
--- a table by its parts, as code has it that is lent the two arrays by reference
+-- a table by its parts
 abbrev pub announced_table : ℕ → ℕ → List ℤ → List ℤ → AnnouncedRows
 announced_table a b months seconds = record { months_size = a; seconds_size = b; months = months; seconds = seconds }
 

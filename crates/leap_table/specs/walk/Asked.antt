@@ -34,6 +34,16 @@ pub record Stepped (rows : List Row) (w : Walk) (month : ℕ) (r : Walk) : Type 
 abbrev pub CountsNext : Walk → ℕ → Type 0
 CountsNext w r = r ≡ w.compared + cond (nat_le w.rows w.reached) 0 1
 
+-- w with another count
+abbrev pub counting : Walk → ℕ → Walk
+counting w c = record { rows = w.rows; reached = w.reached; next = w.next; terms = w.terms; compared = c }
+
+-- from w to r by one date: past the rows that have begun in its month, after which `passed` rows are compared, and one more where a row is left
+pub record Moved (rows : List Row) (w : Walk) (month : ℕ) (r : Walk) : Type 0 where
+  pub passed : ℕ
+  pub stepped : Stepped rows w month (counting r passed)
+  pub counts : CountsNext (counting r passed) r.compared
+
 -- dates that nothing is refused of: each is good, and their months do not fall
 pub record GoodDates (f : ℕ → Triple) (n : ℕ) : Type 0 where
   pub good : (i : ℕ) → i < n → valid_triple (f i) ≡ answer tt

@@ -1,15 +1,9 @@
 -- What a call answers and what its lent list holds. Written from document 02, item 2: "Besides the offsets, the result carries the number of rows
 -- compared", "spare places of a lent list stay", and document 01, "Refusals by number": a refused call changes nothing. Assumes nothing.
-use Rattle.std.specs.Prelude.{◌≡◌, ℕ, List, ◌++◌, length, drop, Float}
-use Rattle.refusals.specs.Outcome.{Outcome, answer, refusal, onward}
-use Rattle.leap_table.specs.declared.walk.WalkAnswer.{WalkAnswer}
-use Rattle.leap_table.specs.declared.walk.WalkAnswer.TheVariants.{Compared, Refused}
+use Rattle.std.specs.Prelude.{◌≡◌, ℕ, List, ◌++◌, length, drop, Float, Result}
+use Rattle.refusals.specs.declared.Refusal.{Refusal}
+use Rattle.refusals.specs.Outcome.{Outcome, answer, refusal, onward, outcome}
 use Rattle.leap_table.specs.walk.Walk.{Walked}
-
--- the outcome that each case of the enum is: the number of rows compared, or a refusal
-unfoldable pub walk_outcome : WalkAnswer → Outcome ℕ
-walk_outcome (Compared n) = answer n
-walk_outcome (Refused k) = refusal k
 
 -- the offsets as floats are themselves
 abbrev pub as_floats : List Float → List Float
@@ -21,6 +15,6 @@ list_after write (answer w) l = write w.offsets ++ drop (length (write w.offsets
 list_after write (refusal k) l = l
 
 -- r is the number of rows compared, or the refusal, and the lent list, which held `before`, holds `after`
-pub record WalkCall {A : Type 0} (write : List Float → List A) (o : Outcome Walked) (before : List A) (r : WalkAnswer) (after : List A) : Type 0 where
-  pub says : walk_outcome r ≡ onward o (λ w. answer w.rows_compared)
+pub record WalkCall {A : Type 0} (write : List Float → List A) (o : Outcome Walked) (before : List A) (r : Result ℕ Refusal) (after : List A) : Type 0 where
+  pub says : outcome r ≡ onward o (λ w. answer w.rows_compared)
   pub holds : after ≡ list_after write o before

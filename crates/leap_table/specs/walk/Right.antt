@@ -1,11 +1,10 @@
 -- What a walk that is answered gives, in plain words, and by which number any walk is refused: for the laws alone. Written from document 02, item 2. Assumes
 -- nothing.
-use Rattle.std.specs.Prelude.{◌≡◌, ℕ, ◌+◌, ◌/◌, ◌%◌, ◌<◌, ◌≤◌, T, List, map, length, get_or, drop, ℤ, slice_index_or, Float}
+use Rattle.std.specs.Prelude.{◌≡◌, ℕ, ◌+◌, ◌/◌, ◌%◌, ◌<◌, ◌≤◌, T, List, map, length, get_or, drop, ℤ, slice_index_or, Float, Ok}
 use Rattle.refusals.specs.Outcome.{answer, onward}
 use Rattle.floats.specs.Whole.{nought}
 use Rattle.leap_table.specs.declared.rows.AnnouncedRows.{AnnouncedRows}
 use Rattle.leap_table.specs.declared.judging.Triple.{Triple}
-use Rattle.leap_table.specs.declared.walk.WalkAnswer.TheVariants.{Compared}
 use Rattle.leap_table.specs.rows.Table.{Row, fixed, fixed_rows, most_rows, starts}
 use Rattle.leap_table.specs.rows.Announced.{table_of}
 use Rattle.leap_table.specs.offsets.Offset.{tai_utc_offset}
@@ -18,7 +17,7 @@ use Rattle.leap_table.specs.walk.Due.{WalkDecision, triple_numbers}
 
 -- c rows were compared over the dates ds, and the list that held `before` holds `after`
 abbrev pub WalkedBy : AnnouncedRows → List Triple → List Float → ℕ → List Float → Type 0
-WalkedBy t ds before c after = WalkCall as_floats (onward (table_of t) (λ l. walk_of_numbers l (triple_numbers ds) (length before))) before (Compared c) after
+WalkedBy t ds before c after = WalkCall as_floats (onward (table_of t) (λ l. walk_of_numbers l (triple_numbers ds) (length before))) before (Ok c) after
 
 pub record WalkRight (t : AnnouncedRows) (rows : List Row) (ds : List Triple) (d : Triple) (before after : List Float) (c : ℕ) : Type 0 where
   -- each offset is that of the look-up of its date at 0h

@@ -1,40 +1,38 @@
 // The look-up in the fixed rows, and what they say: the table of constants.rs.
-ghost use Rattle.std.specs.Prelude.{◌≡◌, ◌-◌, ◌<◌, ◌≤◌, length, drop, slice_index_or};
-ghost use Rattle.leap_table.specs.rows.Table.{fixed, fixed_rows, starts, reached, none};
+ghost use Rattle.std.specs.Prelude.{◌≡◌, true, ◌-◌, ◌<◌, ◌≤◌, length, drop, slice_index_or};
+ghost use Rattle.leap_table.specs.rows.Table.{fixed, fixed_rows, starts, reached, rising, none};
 ghost use Rattle.leap_table.specs.offsets.Offset.{seconds_of, start_of, rate_of};
 
 use crate::rows::{FIXED_SIZE, MONTHS};
 
 // The rows that drift: TAI-UTC in seconds, the Modified Julian Date at which the drift starts, and its seconds a day.
-const SECONDS: [f64; 14] = [
-    1.4178180, 1.4228180, 1.3728180, 1.8458580, 1.9458580, 3.2401300, 3.3401300, 3.4401300,
-    3.5401300, 3.6401300, 3.7401300, 3.8401300, 4.3131700, 4.2131700,
+const DRIFTING: [(f64, f64, f64); 14] = [
+    (1.4178180, 37300.0, 0.0012960),
+    (1.4228180, 37300.0, 0.0012960),
+    (1.3728180, 37300.0, 0.0012960),
+    (1.8458580, 37665.0, 0.0011232),
+    (1.9458580, 37665.0, 0.0011232),
+    (3.2401300, 38761.0, 0.0012960),
+    (3.3401300, 38761.0, 0.0012960),
+    (3.4401300, 38761.0, 0.0012960),
+    (3.5401300, 38761.0, 0.0012960),
+    (3.6401300, 38761.0, 0.0012960),
+    (3.7401300, 38761.0, 0.0012960),
+    (3.8401300, 38761.0, 0.0012960),
+    (4.3131700, 39126.0, 0.0025920),
+    (4.2131700, 39126.0, 0.0025920),
 ];
 
-const STARTS: [f64; 14] = [
-    37300.0, 37300.0, 37300.0, 37665.0, 37665.0, 38761.0, 38761.0, 38761.0, 38761.0, 38761.0,
-    38761.0, 38761.0, 39126.0, 39126.0,
-];
-
-const RATES: [f64; 14] = [
-    0.0012960, 0.0012960, 0.0012960, 0.0011232, 0.0011232, 0.0012960, 0.0012960, 0.0012960,
-    0.0012960, 0.0012960, 0.0012960, 0.0012960, 0.0025920, 0.0025920,
-];
-
-// How many rows of a list of months stand up to the last that has begun, where none from place `end` on has begun. From the end: a date of today takes one
-// step.
+// How many rows of a list of months that rises stand up to the last that has begun, where none from place `end` on has begun. The last of them is looked at
+// first: a date of today takes one step.
 fn rows_reached(months: &[u64], end: usize, n: u64) -> usize
-    requires { (end ≤ length months.now) × (reached (drop end months.now) n ≡ 0) }
+    requires { (0 < end) × (end ≤ length months.now) × (rising months.now ≡ true) × (reached (drop end months.now) n ≡ 0) }
     ensures { result ≡ reached months.now n }
 {
-    let mut i = end;
-    while 0 < i {
-        if months[i - 1] <= n {
-            return i;
-        }
-        i -= 1;
+    if months[end - 1] <= n {
+        return end;
     }
-    0
+    months[..end].partition_point(|month| *month <= n)
 }
 
 // The same in the fixed table. The years before 1972, in which rows drift, and those up to 1987 do not look at the rows after them.
@@ -55,21 +53,21 @@ pub(crate) fn seconds_at(i: usize) -> f64
     requires { i < 14 }
     ensures { result ≡ seconds_of (slice_index_or fixed i none) }
 {
-    SECONDS[i]
+    DRIFTING[i].0
 }
 
 pub(crate) fn start_at(i: usize) -> f64
     requires { i < 14 }
     ensures { result ≡ start_of (slice_index_or fixed i none) }
 {
-    STARTS[i]
+    DRIFTING[i].1
 }
 
 pub(crate) fn rate_at(i: usize) -> f64
     requires { i < 14 }
     ensures { result ≡ rate_of (slice_index_or fixed i none) }
 {
-    RATES[i]
+    DRIFTING[i].2
 }
 
 // The seconds of the last of 15 or more rows: 10 in the row of 1972, whose place is 14, and one more in each later row, so that they are the number of rows

@@ -1,75 +1,66 @@
 // The row of a month, and what it says: the offset and the rule.
-ghost use Rattle.std.specs.Prelude.{◌≡◌, ℕ, ◌+◌, ◌-◌, ◌<◌, ◌≤◌, true, List, [], ℤ, pos, slice_index_or, unsigned_abs, Float};
+ghost use Rattle.std.specs.Prelude.{◌≡◌, ◌+◌, ◌-◌, ◌<◌, ◌≤◌, true, pos, slice_index_or, unsigned_abs, Float};
 ghost use Rattle.leap_table.specs.rows.Table.{fixed_rows, most_rows, starts, reached, month_number, none};
-ghost use Rattle.leap_table.specs.rows.Announced.{least, announced_table, rows_in, rows_to};
+ghost use Rattle.leap_table.specs.declared.rows.AnnouncedRows.{AnnouncedRows};
+ghost use Rattle.leap_table.specs.rows.Announced.{least, announced_size, rows_of, rows_to};
 ghost use Rattle.leap_table.specs.offsets.Offset.{seconds_of, offset_at, offset_by};
 ghost use Rattle.leap_table.specs.offsets.Rule.{rule_at, rule_by};
 ghost use Rattle.leap_table.specs.offsets.Plain.{Plain, by_found};
 
 use super::fixed_rows::{fixed_rows_reached, rate_at, seconds_at, start_at, whole_seconds};
 use super::{Rule, announced};
-use crate::rows::{FIXED_SIZE, and_later};
+use crate::rows::{AnnouncedRows, FIXED_SIZE, and_later, announced_size};
 
 // A month's number as an announced one is, of which none is larger.
 fn as_announced(n: u64) -> i32
     ensures { result ≡ pos (least n 2147483647) }
 {
-    if n <= 2147483647 {
-        n as i32
-    } else {
-        2147483647
-    }
+    n.min(2147483647) as i32
 }
 
 // Whether no announced row has begun in month n; where it is false, one may have. Without a jump, so that several rows are compared at once.
-fn none_reached(size: u32, months: &[i32; 16], n: u64, month: i32) -> bool
+fn none_reached(table: &AnnouncedRows, size: u32, n: u64, month: i32) -> bool
     requires { (size ≤ 16) × (month ≡ pos (least n 2147483647)) }
-    ensures { result ≡ true → by_found n 0 ≡ reached (starts (rows_to (announced_table 0 0 months.now []) size)) n }
+    ensures { result ≡ true → by_found n 0 ≡ reached (starts (rows_to table.now size)) n }
 {
     let mut none = true;
-    let mut i = 0;
-    while i < size {
-        let at = i as usize;
-        none = and_later(none, month, months[at]);
-        i += 1;
+    for row in &table.months[..size as usize] {
+        none = and_later(none, month, *row);
     }
     none
 }
 
 // How many announced rows stand up to the last that has begun, 0 where none has. From the end, with no order assumed.
-fn last_reached(size: u32, months: &[i32; 16], n: u64, month: i32) -> u32
+fn last_reached(table: &AnnouncedRows, size: u32, n: u64, month: i32) -> u32
     requires { (size ≤ 16) × (month ≡ pos (least n 2147483647)) }
-    ensures { (by_found n result ≡ reached (starts (rows_to (announced_table 0 0 months.now []) size)) n) × (result ≤ size) }
+    ensures { (by_found n result ≡ reached (starts (rows_to table.now size)) n) × (result ≤ size) }
 {
-    let mut i = size;
-    while 0 < i {
-        let at = (i - 1) as usize;
-        let row = months[at];
+    for i in (0..size).rev() {
+        let row = table.months[i as usize];
         if row <= month {
-            return i;
+            return i + 1;
         }
-        i -= 1;
     }
     0
 }
 
 // The same, with a short way for a month in which none has begun.
-fn announced_rows_reached(size: u32, months: &[i32; 16], n: u64) -> u32
-    requires { size ≤ 16 }
-    ensures { (by_found n result ≡ reached (starts (rows_to (announced_table 0 0 months.now []) size)) n) × (result ≤ size) }
+fn announced_rows_reached(table: &AnnouncedRows, n: u64) -> u32
+    ensures { (by_found n result ≡ reached (starts (rows_of table.now)) n) × (result ≤ announced_size table.now) }
 {
+    let size = announced_size(table) as u32;
     let month = as_announced(n);
-    if none_reached(size, months, n, month) {
+    if none_reached(table, size, n, month) {
         return 0;
     }
-    last_reached(size, months, n, month)
+    last_reached(table, size, n, month)
 }
 
-// How many rows of a table stand up to the last that has begun. The seconds of the rows do not matter.
-pub(crate) fn any_rows_reached(size: usize, months: &[i32; 16], n: u64) -> usize
-    ensures { ((seconds : List ℤ) → result ≡ reached (starts (rows_in size months.now seconds)) n) × (result ≤ fixed_rows + least size 16) }
+// How many rows of a table stand up to the last that has begun.
+pub(crate) fn any_rows_reached(table: &AnnouncedRows, n: u64) -> usize
+    ensures { (result ≡ reached (starts (rows_of table.now)) n) × (result ≤ fixed_rows + announced_size table.now) }
 {
-    let found = announced_rows_reached(crate::rows::at_most_16(size) as u32, months, n);
+    let found = announced_rows_reached(table, n);
     if found == 0 {
         return fixed_rows_reached(n);
     }
@@ -77,32 +68,30 @@ pub(crate) fn any_rows_reached(size: usize, months: &[i32; 16], n: u64) -> usize
 }
 
 // The same, with a short way for a table that lends no rows.
-pub(crate) fn table_rows_reached(size: usize, months: &[i32; 16], n: u64) -> usize
-    ensures { ((seconds : List ℤ) → result ≡ reached (starts (rows_in size months.now seconds)) n) × (result ≤ fixed_rows + least size 16) }
+pub(crate) fn table_rows_reached(table: &AnnouncedRows, n: u64) -> usize
+    ensures { (result ≡ reached (starts (rows_of table.now)) n) × (result ≤ fixed_rows + announced_size table.now) }
 {
-    if size == 0 {
+    if table.months_size == 0 {
         return fixed_rows_reached(n);
     }
-    any_rows_reached(size, months, n)
+    any_rows_reached(table, n)
 }
 
-// The seconds of the last of 15 or more rows of a table. The months of the rows do not matter.
-pub(crate) fn seconds_of_row(seconds: &[i32; 16], rows: usize) -> f64
-    requires { (15 ≤ rows) × (rows ≤ most_rows) }
-    ensures { (size : ℕ) (months : List ℤ) → rows ≤ fixed_rows + least size 16
-        → result ≡ seconds_of (slice_index_or (rows_in size months seconds.now) (rows - 1) none) }
+// The seconds of the last of 15 or more rows of a table.
+pub(crate) fn seconds_of_row(table: &AnnouncedRows, rows: usize) -> f64
+    requires { (15 ≤ rows) × (rows ≤ fixed_rows + announced_size table.now) }
+    ensures { result ≡ seconds_of (slice_index_or (rows_of table.now) (rows - 1) none) }
 {
     if rows <= FIXED_SIZE {
         return whole_seconds(rows);
     }
-    announced::seconds_at(seconds, rows - FIXED_SIZE - 1)
+    announced::seconds_at(table, rows - FIXED_SIZE - 1)
 }
 
 // The offset by the number of rows reached.
-pub(crate) fn offset_by(seconds: &[i32; 16], rows: usize, mjd: f64, fraction: f64) -> f64
-    requires { rows ≤ most_rows }
-    ensures { (size : ℕ) (months : List ℤ) → rows ≤ fixed_rows + least size 16
-        → result ≡ offset_by (rows_in size months seconds.now) rows mjd fraction }
+pub(crate) fn offset_by(table: &AnnouncedRows, rows: usize, mjd: f64, fraction: f64) -> f64
+    requires { rows ≤ fixed_rows + announced_size table.now }
+    ensures { result ≡ offset_by (rows_of table.now) rows mjd fraction }
 {
     if rows == 0 {
         return 0.0;
@@ -111,13 +100,13 @@ pub(crate) fn offset_by(seconds: &[i32; 16], rows: usize, mjd: f64, fraction: f6
     if i < 14 {
         return seconds_at(i) + (mjd + fraction - start_at(i)) * rate_at(i);
     }
-    seconds_of_row(seconds, rows)
+    seconds_of_row(table, rows)
 }
 
 // The rule by the number of rows reached: the rows of places 0 to 13 drift, in every table.
 pub(crate) fn rule_by(rows: usize) -> Rule
     requires { rows ≤ most_rows }
-    ensures { (size : ℕ) (months seconds : List ℤ) → rows ≤ fixed_rows + least size 16 → result ≡ rule_by (rows_in size months seconds) rows }
+    ensures { (t : AnnouncedRows) → rows ≤ fixed_rows + announced_size t → result ≡ rule_by (rows_of t) rows }
 {
     if rows == 0 {
         return Rule::Absent;
@@ -132,7 +121,7 @@ pub(crate) fn rule_by(rows: usize) -> Rule
 // The rule of 15 or more rows: none of them drifts.
 fn whole_rule(rows: usize) -> Rule
     requires { (15 ≤ rows) × (rows ≤ most_rows) }
-    ensures { (size : ℕ) (months seconds : List ℤ) → rows ≤ fixed_rows + least size 16 → result ≡ rule_by (rows_in size months seconds) rows }
+    ensures { (t : AnnouncedRows) → rows ≤ fixed_rows + announced_size t → result ≡ rule_by (rows_of t) rows }
 {
     Rule::Whole((rows - 1) as u32)
 }
@@ -150,6 +139,7 @@ pub(crate) fn month_number(year: i32, month: u32) -> u64
 
 // Whether the date is from 1972 on, where no row drifts, and at most the 27th, so that its next date is in the same month. The offsets of such a date need
 // neither its Modified Julian Date nor its next date.
+// kept: beside `in_every_month` of judging: alike but for the first year and the last day, and each promises another thing (`valid_triple`, `Plain`).
 pub(crate) fn plain_day(year: i32, month: i32, day: i32) -> bool
     ensures { result ≡ true → Plain year month day }
 {
@@ -175,22 +165,15 @@ pub(crate) struct PlainDay {
     pub(crate) rule: Rule,
 }
 
-pub(crate) fn of_plain_day<'a>(
-    year: i32,
-    month: i32,
-    day: i32,
-    size: usize,
-    months: &'a [i32; 16],
-    seconds: &'a [i32; 16],
-) -> PlainDay
+pub(crate) fn of_plain_day(year: i32, month: i32, day: i32, table: &AnnouncedRows) -> PlainDay
     requires { Plain year month day }
     ensures { ((mjd fraction : Float)
-        → result.seconds ≡ offset_at (rows_in size months.now seconds.now) (month_number year (unsigned_abs month)) mjd fraction)
-        × (result.rule ≡ rule_at (rows_in size months.now seconds.now) year month) }
+        → result.seconds ≡ offset_at (rows_of table.now) (month_number year (unsigned_abs month)) mjd fraction)
+        × (result.rule ≡ rule_at (rows_of table.now) year month) }
 {
-    let rows = table_rows_reached(size, months, month_number(year, month as u32));
+    let rows = table_rows_reached(table, month_number(year, month as u32));
     PlainDay {
-        seconds: seconds_of_row(seconds, rows),
+        seconds: seconds_of_row(table, rows),
         rule: whole_rule(rows),
     }
 }

@@ -1,17 +1,19 @@
 // The table read forward, row by row, as a walk needs it: document 02, item 2.
 ghost use Rattle.std.specs.Prelude.{◌≡◌, ◌<◌, ◌≤◌, length, slice_index, slice_index_or, Float};
 ghost use Rattle.leap_table.specs.rows.Table.{fixed, starts};
-ghost use Rattle.leap_table.specs.rows.Announced.{announced_size, rows_of};
+ghost use Rattle.leap_table.specs.rows.Announced.{rows_of};
 ghost use Rattle.leap_table.specs.offsets.Offset.{offset_by};
 ghost use Rattle.leap_table.specs.offsets.Forward.{never, by_terms};
 
-use crate::rows::{AnnouncedRows, FIXED_SIZE, MONTHS};
+use crate::rows::{AnnouncedRows, FIXED_SIZE, MONTHS, announced_size};
 
 // Later than the month of any date.
+// kept: no `Option`: the definition `never` has it so, and a walk compares one number a date.
 const NEVER: u64 = 0xffff_ffff_ffff_ffff;
 
 // What the offsets of a row are made of: where it drifts, its seconds, the Modified Julian Date from which it drifts and its seconds a day; else its seconds
 // alone.
+// kept: a flag and no `Option`, since `by_terms`, which the contract of `row_terms` cites, speaks of the fields.
 #[derive(Clone, Copy)]
 pub struct RowTerms {
     pub drifts: bool,
@@ -28,18 +30,11 @@ fn month_at(months: &[u64], i: usize) -> u64
     months[i]
 }
 
-// How many announced rows count.
-fn announced_size(t: AnnouncedRows) -> usize
-    ensures { (result ≡ announced_size t) × (result ≤ 16) }
-{
-    crate::rows::at_most_16(crate::rows::size_of(t))
-}
-
 // How many rows a table has, the fixed ones included.
 pub fn row_count(table: AnnouncedRows) -> usize
     ensures { result ≡ length (rows_of table) }
 {
-    FIXED_SIZE + announced_size(table)
+    FIXED_SIZE + announced_size(&table)
 }
 
 // The month in which row i of a table begins; past the last row, a number that is later than the month of any date.
@@ -50,7 +45,7 @@ pub fn row_start(table: AnnouncedRows, i: usize) -> u64
         return month_at(&MONTHS, i);
     }
     let place = i - FIXED_SIZE;
-    if place < announced_size(table) {
+    if place < announced_size(&table) {
         return crate::rows::natural(table.months[place]) as u64;
     }
     NEVER
@@ -77,7 +72,7 @@ pub fn row_terms(table: AnnouncedRows, rows: usize) -> RowTerms
             rate: super::fixed_rows::rate_at(i),
         };
     }
-    if FIXED_SIZE + announced_size(table) <= i {
+    if FIXED_SIZE + announced_size(&table) <= i {
         return RowTerms {
             drifts: false,
             seconds: 0.0,
@@ -87,7 +82,7 @@ pub fn row_terms(table: AnnouncedRows, rows: usize) -> RowTerms
     }
     RowTerms {
         drifts: false,
-        seconds: super::look_up::seconds_of_row(&table.seconds, rows),
+        seconds: super::look_up::seconds_of_row(&table, rows),
         start: 0.0,
         rate: 0.0,
     }

@@ -1,5 +1,6 @@
 -- Words and numbers, one behind the other. Assumes nothing.
-use Rattle.std.proofs.Common.{◌≡◌, ℕ, ◌+◌, ◌-◌, ◌≤◌, true, false, List, [], ◌++◌, length, sym, refl, ◌∙◌, arith, eq-eqb, ne_eqb}
+use Rattle.std.proofs.Common.{◌≡◌, ℕ, ◌+◌, ◌-◌, ◌≤◌, Bool, true, false, List, [], ◌++◌, length, sym, refl, ◌∙◌, arith, eq-eqb, ne_eqb}
+use mir.Val.{bool_byte}
 use Rattle.leap_table.specs.rows.Announced.{least}
 use Rattle.line_listing.specs.lines.StampLine.{Stamps, stamps}
 use Rattle.line_listing.specs.head.Counts.{first_end, second_end}
@@ -51,6 +52,11 @@ module _ (name : List ℕ) (e : RunEnd) (js ks ns : List ℕ) (from n : ℕ) whe
   pub no_line : e.named ≡ false → [] ≡ run_if_named name e js ks ns from n
   unfolding run_if_named
   no_line h = sym (rw h)
+
+pub one-named : (b : Bool) → bool_byte b ≡ one_if_named b
+unfolding one_if_named
+one-named true = refl
+one-named false = refl
 
 -- ---- the first lines by the ends of the runs and the number of runs that are named
 module _ (gps tai utc : RunEnd) (js ks ns : List ℕ) (first second : ℕ) where

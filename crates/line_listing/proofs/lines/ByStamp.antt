@@ -9,7 +9,6 @@ use Rattle.stamps.specs.Listing.{one_if_refused}
 use Rattle.utc_scales.specs.UtcTai.{tai_to_utc}
 use Rattle.utc.specs.iso_texts.Expanded.{iso_text_expanded}
 use Rattle.line_listing.specs.declared.lines.Told.{Told}
-use Rattle.line_listing.specs.declared.lines.Part.{Part}
 use Rattle.line_listing.specs.lines.StampLine.{Stamps, line_in_order, date_of_place, number_of_place, place_line}
 use Rattle.line_listing.specs.lines.StampLine.{no_text, refused, text_told, utc_told, stamp_told, line_by, no_text_count}
 use Rattle.line_listing.specs.lines.Parts.{listed_lines, textless_from}
@@ -42,14 +41,6 @@ module _ (s : Bool) (rows : List Row) (tai : JulianDate) where
     pub text-counted : (t : List ℕ) → iso_text_expanded rows utc ≡ answer t → 0 ≡ one_if_refused (onward (tai_to_utc rows tai) (iso_text_expanded rows))
     unfolding one_if_refused
     text-counted t e = sym (count-utc ∙ ap one_if_refused e)
-
-    pub refused-told : (k : ℕ) → iso_text_expanded rows utc ≡ refusal k → no_text s k utc ≡ utc_told s rows tai (tai_to_utc rows tai)
-    unfolding text_told
-    refused-told k e = sym (by_utc ∙ ap (text_told s utc) e)
-
-    pub refused-counted : (k : ℕ) → iso_text_expanded rows utc ≡ refusal k → 1 ≡ one_if_refused (onward (tai_to_utc rows tai) (iso_text_expanded rows))
-    unfolding one_if_refused
-    refused-counted k e = sym (count-utc ∙ ap one_if_refused e)
 
   -- ---- of any stamp
   module _ (k : ℕ) where
@@ -101,3 +92,13 @@ pub lines_end : (s : Bool) (rows : List Row) (all : Stamps) (order : List ℕ) (
 lines_end s rows all order line count i before after at n e p f h =
     subst (λ (m : ℕ). LinesPlaced s rows all order line m before (record { written = at; line = line + m; textless = n }) after) e
     (record { placed = p; next = refl; counted = f; within = h })
+
+-- ---- what is told and counted of an ordered stamp whose text is refused
+module _ (s : Bool) (rows : List Row) (tai utc : JulianDate) (u : tai_to_utc rows tai ≡ answer utc) where
+  pub refused-told : (k : ℕ) → iso_text_expanded rows utc ≡ refusal k → no_text s k utc ≡ utc_told s rows tai (tai_to_utc rows tai)
+  unfolding text_told
+  refused-told k e = sym (by_utc s rows tai utc u ∙ ap (text_told s utc) e)
+
+  pub refused-counted : (k : ℕ) → iso_text_expanded rows utc ≡ refusal k → 1 ≡ one_if_refused (onward (tai_to_utc rows tai) (iso_text_expanded rows))
+  unfolding one_if_refused
+  refused-counted k e = sym (count-utc s rows tai utc u ∙ ap one_if_refused e)

@@ -23,11 +23,6 @@ unfolding longest_line
 room-low true = omega arith
 room-low false = omega arith
 
-pub room-high : (s : Bool) → longest_line s ≤ 84
-unfolding longest_line
-room-high true = omega arith
-room-high false = omega arith
-
 -- ---- a sentence by the parts of a date
 module _ (k : ℕ) (d : JulianDate) where
   abbrev reason : Reason

@@ -1,8 +1,10 @@
 -- A line from its fields: what is told by the mark of the conversion, and the writes of a line joined. Assumes nothing.
-use Rattle.std.proofs.Common.{◌≡◌, ℕ, ◌-◌, ◌<◌, ◌≤◌, Bool, true, false, cond, eqb, List, [], ◌++◌, get_or, sym, refl, ap, ◌∙◌, arith, le-ltb, lt-ltb, eq-eqb}
+use Rattle.std.proofs.Common.{◌≡◌, ℕ, ◌≤◌, Bool, true, false, cond, eqb, List, [], ◌++◌, get_or, sym, refl, ap, ◌∙◌, arith, eq-eqb}
 use Rattle.std.proofs.Common.{ne_eqb, eqb-true}
 use borrow.Author.Tests.{eqb-false}
-use Rattle.refusals.specs.Outcome.{Outcome, answer, refusal, onward}
+use Rattle.std.specs.Prelude.{Result, Ok, Err}
+use Rattle.refusals.specs.declared.Refusal.{Refusal}
+use Rattle.refusals.specs.Outcome.{Outcome, answer, refusal, onward, outcome}
 use Rattle.numerals.proofs.digits.Places.{placed-as}
 use Rattle.julian.specs.declared.JulianDate.{JulianDate}
 use Rattle.leap_table.specs.rows.Table.{Row}
@@ -11,56 +13,37 @@ use Rattle.stamps.proofs.Texts.{date-number}
 use Rattle.utc_scales.specs.UtcTai.{tai_to_utc}
 use Rattle.utc.specs.text.Ascii.{ascii_bytes}
 use Rattle.reasons.specs.declared.Values.TheVariants.{Parts}
-use Rattle.reasons.specs.declared.ReasonAnswer.{ReasonAnswer}
-use Rattle.reasons.specs.declared.ReasonAnswer.TheVariants.{Told as ToldReason, Refused}
 use Rattle.reasons.specs.declared.sentences.Reason.{Reason}
 use Rattle.reasons.specs.sentences.Render.{render}
-use Rattle.reasons.specs.Sentence.{reason_of, reason_outcome, sentence}
+use Rattle.reasons.specs.Sentence.{reason_of, sentence}
 use Rattle.utc.specs.iso_texts.Expanded.{iso_text_expanded}
-use Rattle.line_listing.specs.lines.StampLine.{recorder, index_in, as_sentence, sentence_behind, no_text}
+use Rattle.line_listing.specs.lines.StampLine.{as_sentence, sentence_behind, no_text}
 use Rattle.line_listing.specs.lines.StampLine.{refused, text_told, utc_told, stamp_told, line_by, no_text_count}
 use Rattle.line_listing.specs.lines.Asked.{answer_by, text_by, none_by, told_by, textless_by, line_told, page_text, TextAt, ToldAt}
 use Rattle.line_listing.specs.declared.lines.Told.{Told}
-
--- ---- the recorder
-module _ (first second p : ℕ) where
-  pub gps-word : p < first → ascii_bytes "gps " ≡ recorder first second p
-  unfolding recorder
-  gps-word h = sym (rw (lt-ltb p first h))
-
-  pub tai-word : first ≤ p → p - first < second → ascii_bytes "tai " ≡ recorder first second p
-  unfolding recorder
-  tai-word h g = sym (rw (le-ltb p first h, lt-ltb (p - first) second g))
-
-  pub utc-word : first ≤ p → second ≤ p - first → ascii_bytes "utc " ≡ recorder first second p
-  unfolding recorder
-  utc-word h g = sym (rw (le-ltb p first h, le-ltb (p - first) second g))
-
-  pub gps-index : p < first → p ≡ index_in first second p
-  unfolding index_in
-  gps-index h = sym (rw (lt-ltb p first h))
-
-  pub tai-index : first ≤ p → p - first < second → p - first ≡ index_in first second p
-  unfolding index_in
-  tai-index h g = sym (rw (le-ltb p first h, lt-ltb (p - first) second g))
-
-  pub utc-index : first ≤ p → second ≤ p - first → p - first - second ≡ index_in first second p
-  unfolding index_in
-  utc-index h g = sym (rw (le-ltb p first h, le-ltb (p - first) second g))
+use Rattle.std.proofs.Common.{◌-◌, ◌<◌, le-ltb, lt-ltb}
+use Rattle.line_listing.specs.lines.StampLine.{recorder, index_in}
 
 -- ---- the sentence behind a number
-module _ (k : ℕ) (d : JulianDate) (res : ReasonAnswer) (call : reason_outcome res ≡ reason_of k (Parts d.jd1 d.jd2)) where
-  from-reason : sentence_behind true k d ≡ as_sentence (onward (reason_outcome res) (λ r. answer (render r)))
+module _ (k : ℕ) (d : JulianDate) (res : Result Reason Refusal) (call : outcome res ≡ reason_of k (Parts d.jd1 d.jd2)) where
+  from-reason : sentence_behind true k d ≡ as_sentence (onward (outcome res) (λ r. answer (render r)))
   unfolding sentence_behind sentence
   from-reason = ap (λ (o : Outcome Reason). as_sentence (onward o (λ r. answer (render r)))) (sym call)
 
-  pub reason_told : (r : Reason) → res ≡ ToldReason r → ascii_bytes ": " ++ render r ≡ sentence_behind true k d
-  unfolding as_sentence onward reason_outcome
-  reason_told r e = sym (from-reason ∙ ap (λ (x : ReasonAnswer). as_sentence (onward (reason_outcome x) (λ y. answer (render y)))) e)
+  pub reason_told : (r : Reason) → res ≡ Ok r → ascii_bytes ": " ++ render r ≡ sentence_behind true k d
+  unfolding as_sentence onward outcome
+  reason_told r e = sym (from-reason ∙ ap (λ (x : Result Reason Refusal). as_sentence (onward (outcome x) (λ y. answer (render y)))) e)
 
-  pub no_reason : (n : ℕ) → res ≡ Refused n → [] ≡ sentence_behind true k d
-  unfolding as_sentence onward reason_outcome
-  no_reason n e = sym (from-reason ∙ ap (λ (x : ReasonAnswer). as_sentence (onward (reason_outcome x) (λ y. answer (render y)))) e)
+  refused_reason : (n : Refusal) → res ≡ Err n → [] ≡ sentence_behind true k d
+  unfolding as_sentence onward outcome
+  refused_reason n e = sym (from-reason ∙ ap (λ (x : Result Reason Refusal). as_sentence (onward (outcome x) (λ y. answer (render y)))) e)
+
+  pub no_reason : ((r : Reason) → res ≡ Ok r → ⊥) → [] ≡ sentence_behind true k d
+  no_reason h = by res refl
+    where
+      by : (x : Result Reason Refusal) → res ≡ x → [] ≡ sentence_behind true k d
+      by (Ok r) q = absurd (h r q)
+      by (Err n) q = refused_reason n q
 
 -- ---- the mark of a conversion
 pub marked : (m : ℕ) (d : JulianDate) (o : Outcome JulianDate) → (m ≡ 0 → ⊥) → answer_by m d ≡ o → o ≡ refusal m
@@ -178,3 +161,29 @@ module _ (s : Bool) (rows : List Row) (tai date : JulianDate) (m : ℕ) (conv : 
   pub line-is : (first second p k : ℕ) → line_told first second p (told_by s k m tai date text n) ≡ line_by s rows first second p tai k
   unfolding line_told line_by
   line-is first second p k = ap (line_told first second p) (told_is k)
+
+-- ---- the recorder: its word and its own number of a stamp
+module _ (first second p : ℕ) where
+  pub gps-word : p < first → ascii_bytes "gps " ≡ recorder first second p
+  unfolding recorder
+  gps-word h = sym (rw (lt-ltb p first h))
+
+  pub tai-word : first ≤ p → p - first < second → ascii_bytes "tai " ≡ recorder first second p
+  unfolding recorder
+  tai-word h g = sym (rw (le-ltb p first h, lt-ltb (p - first) second g))
+
+  pub utc-word : first ≤ p → second ≤ p - first → ascii_bytes "utc " ≡ recorder first second p
+  unfolding recorder
+  utc-word h g = sym (rw (le-ltb p first h, le-ltb (p - first) second g))
+
+  pub gps-index : p < first → p ≡ index_in first second p
+  unfolding index_in
+  gps-index h = sym (rw (lt-ltb p first h))
+
+  pub tai-index : first ≤ p → p - first < second → p - first ≡ index_in first second p
+  unfolding index_in
+  tai-index h g = sym (rw (le-ltb p first h, lt-ltb (p - first) second g))
+
+  pub utc-index : first ≤ p → second ≤ p - first → p - first - second ≡ index_in first second p
+  unfolding index_in
+  utc-index h g = sym (rw (le-ltb p first h, le-ltb (p - first) second g))

@@ -1,35 +1,31 @@
 -- What the calls that write a text or a sentence left in a buffer that surely holds it. Assumes nothing.
-use Rattle.std.proofs.Common.{◌≡◌, ℕ, zero, suc, ◌+◌, ◌-◌, ◌≤◌, List, [], ◌∷◌, ◌++◌, length, take, drop, sym, refl, ap, subst, arith, length-take-le}
-use Rattle.refusals.specs.Outcome.{Outcome, answer, refusal, onward}
+use Rattle.std.proofs.Common.{◌≡◌, ℕ, zero, suc, ◌+◌, ◌-◌, ◌≤◌, List, [], ◌∷◌, ◌++◌, length, take, drop, sym, refl, ap, subst, arith}
+use Rattle.std.specs.Prelude.{Result, Ok}
+use Rattle.std.specs.Result.{result_unwrap_or}
+use Rattle.refusals.specs.declared.Refusal.{Refusal}
+use Rattle.refusals.specs.Outcome.{Outcome, answer, refusal, onward, outcome}
 use Rattle.numerals.specs.digits.Placed.{Placed}
 use Rattle.numerals.proofs.digits.Places.{part-put}
 use Rattle.julian.specs.declared.JulianDate.{JulianDate}
 use Rattle.leap_table.specs.rows.Table.{Row}
 use Rattle.leap_table.specs.declared.offsets.Rule.{Rule}
 use Rattle.leap_table.specs.offsets.Rule.{forget}
-use Rattle.utc.specs.declared.text.TextAnswer.{TextAnswer}
-use Rattle.utc.specs.declared.text.TextAnswer.TheVariants.{Written, Refused}
-use Rattle.utc.specs.text.Answer.{TextPut, text_outcome}
-use Rattle.utc.specs.declared.iso_texts.TextByRule.{TextByRule}
-use Rattle.utc.specs.declared.iso_texts.TextByRule.TheVariants as Ruled
-use Rattle.utc.specs.iso_texts.ByRule.{expanded_by_rule, text_by_rule_outcome, TextRuleCall}
+use Rattle.utc.specs.text.Answer.{TextPut}
+use Rattle.utc.specs.iso_texts.ByRule.{expanded_by_rule, TextRuleCall}
 use Rattle.utc.specs.iso_texts.Expanded.{iso_text_expanded}
 use Rattle.utc.specs.iso_texts.TextCall.{written, buffer_holds, TextCall}
 use Rattle.utc.proofs.iso_texts.TextCalls.{call-as}
 use Rattle.utc.proofs.iso_texts.TextRules.{rule-call-forgets, expanded-forgets}
-use Rattle.stamps.proofs.Texts.{given-written, given-fits}
+use Rattle.stamps.proofs.Texts.{given-written, given-whole}
 
 -- ---- a text that is surely there
-module _ {t p ys : List ℕ} {res : TextAnswer} (put : TextPut t p res ys) where
+module _ {t p ys : List ℕ} {res : Result ℕ Refusal} (put : TextPut t p res ys) where
   call : TextCall (answer t) p res ys
   unfolding written buffer_holds onward
   call = record { says = put.says; holds = put.holds }
 
-  pub put_written : (n : ℕ) → res ≡ Written n → (n ≡ length t) × (ys ≡ t ++ drop (length t) p)
-  put_written n e = given-written call n e
-
-  pub put-fits : (k : ℕ) → res ≡ Refused k → length t ≤ length p → ⊥
-  put-fits k e h = given-fits call k e h
+  pub put-whole : length t ≤ length p → (n : ℕ) → n ≡ result_unwrap_or res 0 → (n ≡ length t) × (ys ≡ t ++ drop (length t) p)
+  put-whole h n e = given-whole call h n e
 
 -- ---- a text in a page of texts, lent as texts[at .. at + n]
 pub part-is : (texts : List ℕ) (at n m : ℕ) → n ≡ m → take (at + n - at) (drop at texts) ≡ take m (drop at texts)
@@ -43,28 +39,24 @@ part-short texts at n h = omega (arith, take_most (at + n - at) (drop at texts))
     take_most (suc k) [] = omega arith
     take_most (suc k) (x ∷ xs) = omega (arith, take_most k xs)
 
--- ---- the first n bytes of an area of k
-pub area_long : (n k : ℕ) (l : List ℕ) → length l ≡ k → n ≤ k → length (take n l) ≡ n
-area_long n k l e h = length-take-le n l (omega (arith, e))
-
 -- ---- the text of a UTC date that was written
-module _ (rows : List Row) (jd : JulianDate) {p ys : List ℕ} {res : TextByRule} (call : TextRuleCall (expanded_by_rule rows jd) p res ys) where
+module _ (rows : List Row) (jd : JulianDate) {p ys : List ℕ} {res : Result (ℕ × Rule) Refusal} (call : TextRuleCall (expanded_by_rule rows jd) p res ys) where
   -- the call without the rule
-  plain : (t : TextAnswer) → text_outcome t ≡ forget (text_by_rule_outcome res) → TextCall (iso_text_expanded rows jd) p t ys
+  plain : (t : Result ℕ Refusal) → outcome t ≡ forget (outcome res) → TextCall (iso_text_expanded rows jd) p t ys
   plain t e = call-as _ _ _ _ _ (sym (expanded-forgets rows jd)) (rule-call-forgets _ _ _ _ _ e call)
 
-  pub text-there : (n : ℕ) (rule : Rule) → res ≡ Ruled.Written n rule
+  pub text-there : (n : ℕ) (rule : Rule) → res ≡ Ok (n, rule)
       → (t : List ℕ) × (iso_text_expanded rows jd ≡ answer t) × (n ≡ length t) × (ys ≡ t ++ drop (length t) p)
-  unfolding text_outcome text_by_rule_outcome forget onward written
-  text-there n rule e = go (iso_text_expanded rows jd) refl (plain (Written n) (ap (λ (x : TextByRule). forget (text_by_rule_outcome x)) (sym e)))
+  unfolding outcome forget onward written
+  text-there n rule e = go (iso_text_expanded rows jd) refl (plain (Ok n) (ap (λ (x : Result (ℕ × Rule) Refusal). forget (outcome x)) (sym e)))
     where
-      go : (o : Outcome (List ℕ)) → iso_text_expanded rows jd ≡ o → TextCall (iso_text_expanded rows jd) p (Written n) ys
+      go : (o : Outcome (List ℕ)) → iso_text_expanded rows jd ≡ o → TextCall (iso_text_expanded rows jd) p (Ok n) ys
           → (t : List ℕ) × (iso_text_expanded rows jd ≡ answer t) × (n ≡ length t) × (ys ≡ t ++ drop (length t) p)
       go (answer t) q c =
-          let w = given-written (subst (λ (o : Outcome (List ℕ)). TextCall o p (Written n) ys) q c) n refl in
+          let w = given-written (subst (λ (o : Outcome (List ℕ)). TextCall o p (Ok n) ys) q c) n refl in
           (t, q, w.0, w.1)
       go (refusal k) q c =
-          let says = (subst (λ (o : Outcome (List ℕ)). TextCall o p (Written n) ys) q c).says in
+          let says = (subst (λ (o : Outcome (List ℕ)). TextCall o p (Ok n) ys) q c).says in
           let z : ◌≡◌ {A = ℕ} 0 1 = cc says in
           let w : ⊥ = omega arith in absurd w
 

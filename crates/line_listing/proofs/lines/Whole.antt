@@ -1,8 +1,12 @@
 -- The lines of a part one behind the other. Assumes nothing.
 use Rattle.std.proofs.Common.{◌≡◌, ℕ, zero, suc, ◌+◌, ◌-◌, ◌*◌, ◌/◌, ◌<◌, ◌≤◌, Bool, true, false, cond, ◌&&◌, eqb, ltb, leb, ◌⊎◌, List, ◌++◌, length, get_or}
 use Rattle.std.proofs.Common.{drop, sym, refl, ap, ◌∙◌, subst, inl, inr, eq-or-lt_of_le, add-one, arith, le-ltb, lt-ltb, le-leb, leb-false, leb-true}
-use Rattle.refusals.specs.Outcome.{Outcome, answer, refusal, onward}
-use Rattle.leap_table.specs.rows.Announced.{least, unless_refused}
+use Rattle.std.specs.Prelude.{Result, Ok, IsErrAnd}
+use Rattle.refusals.specs.declared.Refusal.{Refusal}
+use Rattle.refusals.specs.Refusal.{refusal_number}
+use Rattle.refusals.specs.Outcome.{Outcome, answer, refusal, onward, outcome}
+use Rattle.refusals.proofs.Handed.{handed_on}
+use Rattle.leap_table.specs.rows.Announced.{least}
 use Rattle.stamps.specs.Listing.{one_if_refused}
 use Rattle.utc_scales.specs.UtcTai.{tai_to_utc}
 use Rattle.utc.specs.iso_texts.Expanded.{iso_text_expanded}
@@ -15,10 +19,9 @@ use Rattle.julian.specs.stamp_lists.Stamps.{stamp_of}
 use Rattle.leap_table.specs.rows.Table.{Row}
 use Rattle.line_listing.specs.declared.lines.Told.{Told}
 use Rattle.line_listing.specs.declared.lines.Part.{Part}
-use Rattle.line_listing.specs.declared.lines.PartAnswer.TheVariants.{Lines, Refused}
 use Rattle.line_listing.specs.lines.StampLine.{Stamps, line_in_order, date_of_place, number_of_place, place_line, no_text_count}
 use Rattle.line_listing.specs.lines.Parts.{longest_line, listed_lines, textless_from, listed_count, places_there, absent_refusal, listed_part}
-use Rattle.line_listing.specs.lines.Parts.{part_answered, listed_outcome, ListedCall}
+use Rattle.line_listing.specs.lines.Parts.{part_answered, ListedCall}
 use Rattle.line_listing.specs.lines.Asked.{told_by, textless_by, line_told, Page, page_text, Converted, Texts, page_line, page_count, lines_joined, summed}
 use Rattle.line_listing.specs.lines.Asked.{ToldAt, PagePlaced, LinesPlaced}
 use Rattle.line_listing.proofs.lines.Line.{count-one, count-is, line-is}
@@ -136,13 +139,6 @@ least-right a b = go (leb a b) refl
     go true e = omega (arith, leb-true a b e)
     go false e = omega arith
 
-pub none_left : (s : Bool) (lines line room : ℕ) → lines ≤ line → 0 ≡ least (least (lines - line) 256) (room / longest_line s)
-none_left s lines line room h =
-    let z : lines - line ≡ 0 = omega arith in
-    let l = least-left (least (lines - line) 256) (room / longest_line s) in
-    let m = least-left (lines - line) 256 in
-    omega (arith, l, m, z)
-
 pub few-lines : (s : Bool) (lines line room n : ℕ) → n ≡ least (least (lines - line) 256) (room / longest_line s)
     → (n ≤ 256) × (0 < n → line < lines) × (n * longest_line s ≤ room)
 few-lines s lines line room n e =
@@ -165,8 +161,8 @@ module _ (s : Bool) (rows : List Row) (all : Stamps) (order : List ℕ) (line : 
   text = listed_lines s rows all order line (listed_count s order line (length before))
 
   by_rows : LinesPlaced s rows all order line (listed_count s order line (length before)) before r after
-      → ListedCall s (answer rows) all order line before (Lines r) after
-  unfolding listed_outcome part_answered listed_part onward buffer_holds buffer_after pasted
+      → ListedCall s (answer rows) all order line before (Ok r) after
+  unfolding outcome part_answered listed_part onward buffer_holds buffer_after pasted
   by_rows p =
       let z : 0 + length text ≡ length text = omega arith in
       let fits : length text ≤ length before = omega (arith, p.placed.ends, p.within) in
@@ -175,19 +171,17 @@ module _ (s : Bool) (rows : List Row) (all : Stamps) (order : List ℕ) (line : 
         holds = p.placed.holds ∙ ap (λ (k : ℕ). text ++ drop k before) z ∙ sym (rw (le-leb (length text) (length before) fits) refl);
       }
 
-  pub part-done : (o : Outcome (List Row)) (n k : ℕ) → k ≡ 0 → unless_refused k rows ≡ o → n ≡ listed_count s order line (length before)
-      → LinesPlaced s rows all order line n before r after → ListedCall s o all order line before (Lines r) after
-  part-done o n k h e f p =
-      subst (λ (x : Outcome (List Row)). ListedCall s x all order line before (Lines r) after)
-      (ap (λ (j : ℕ). unless_refused j rows) (sym h) ∙ e)
+  pub part-done : (o : Outcome (List Row)) (n : ℕ) → answer rows ≡ o → n ≡ listed_count s order line (length before)
+      → LinesPlaced s rows all order line n before r after → ListedCall s o all order line before (Ok r) after
+  part-done o n e f p =
+      subst (λ (x : Outcome (List Row)). ListedCall s x all order line before (Ok r) after) e
       (by_rows (subst (λ (m : ℕ). LinesPlaced s rows all order line m before r after) f p))
 
-pub part-refused : (s : Bool) (rows : List Row) (all : Stamps) (order : List ℕ) (line : ℕ) (before : List ℕ) (o : Outcome (List Row)) (k : ℕ)
-    → (k ≡ 0 → ⊥) → unless_refused k rows ≡ o → ListedCall s o all order line before (Refused k) before
-unfolding listed_outcome onward buffer_holds
-part-refused s rows all order line before o zero h e = absurd (h refl)
-part-refused s rows all order line before o (suc k) h e =
-    subst (λ (x : Outcome (List Row)). ListedCall s x all order line before (Refused (suc k)) before) e (record { says = refl; holds = refl })
+pub part-refused : (s : Bool) (all : Stamps) (order : List ℕ) (line : ℕ) (before : List ℕ) (o : Outcome (List Row)) (r : Result Part Refusal) (k : Refusal)
+    → refusal (refusal_number k) ≡ o → IsErrAnd r (λ e. e ≡ k) → ListedCall s o all order line before r before
+unfolding onward buffer_holds
+part-refused s all order line before o r k e p =
+    subst (λ (x : Outcome (List Row)). ListedCall s x all order line before r before) e (record { says = handed_on r k p; holds = refl })
 
 -- ---- the places of the lines
 module _ (order : List ℕ) (n line : ℕ) where
@@ -222,10 +216,6 @@ module _ (order : List ℕ) (n line : ℕ) where
   places-none s room c e z = places-by s room c true e (ap (places_there order n line) (sym z))
 
 -- the rows of a table, which are read by parts
-pub rows_same : (s : Bool) (rows rows' : List Row) (all : Stamps) (order : List ℕ) (line n : ℕ) (before : List ℕ) (r : Part) (after : List ℕ) → rows ≡ rows'
-    → LinesPlaced s rows all order line n before r after → LinesPlaced s rows' all order line n before r after
-rows_same s rows rows' all order line n before r after e p = subst (λ (x : List Row). LinesPlaced s x all order line n before r after) e p
-
 -- all lines are there
 pub lines_end : (s : Bool) (all : Stamps) (order : List ℕ) (line count i : ℕ) (pg : Page) (before after : List ℕ) (at n : ℕ) → i ≡ count
     → Placed before 0 (lines_joined (page_line s all order line pg) i) at after → n ≡ summed (page_count all order line pg) i → at ≤ length before
@@ -233,3 +223,16 @@ pub lines_end : (s : Bool) (all : Stamps) (order : List ℕ) (line count i : ℕ
 lines_end s all order line count i pg before after at n e p f h =
     subst (λ (m : ℕ). PagePlaced s all order line m pg before (record { written = at; line = line + m; textless = n }) after) e
     (record { placed = p; next = refl; counted = f; within = h })
+
+-- where no line is left none goes into the part
+pub none_left : (s : Bool) (lines line room : ℕ) → lines ≤ line → 0 ≡ least (least (lines - line) 256) (room / longest_line s)
+none_left s lines line room h =
+    let z : lines - line ≡ 0 = omega arith in
+    let l = least-left (least (lines - line) 256) (room / longest_line s) in
+    let m = least-left (lines - line) 256 in
+    omega (arith, l, m, z)
+
+-- lines are placed by any rows that are equal to those of the table
+pub rows_same : (s : Bool) (rows rows' : List Row) (all : Stamps) (order : List ℕ) (line n : ℕ) (before : List ℕ) (r : Part) (after : List ℕ) → rows ≡ rows'
+    → LinesPlaced s rows all order line n before r after → LinesPlaced s rows' all order line n before r after
+rows_same s rows rows' all order line n before r after e p = subst (λ (x : List Row). LinesPlaced s x all order line n before r after) e p

@@ -2,7 +2,11 @@
 use Rattle.std.proofs.Common.{◌≡◌, ℕ, zero, suc, ◌+◌, ◌-◌, ◌%◌, ◌<◌, ◌≤◌, Bool, true, false, cond, eqb, leb, List, [], ◌++◌, length, drop, sym, refl, ap, ◌∙◌}
 use Rattle.std.proofs.Common.{subst, arith, eq-eqb, ne_eqb, le-leb, leb-true}
 use borrow.Author.Tests.{lt-leb}
-use Rattle.refusals.specs.Outcome.{Outcome, answer, onward}
+use Rattle.std.specs.Prelude.{Result, Ok, Err, IsErrAnd}
+use Rattle.refusals.specs.Refusal.{refusal_number}
+use Rattle.refusals.specs.declared.Refusal.{Refusal}
+use Rattle.refusals.specs.Outcome.{Outcome, answer, refusal, onward, outcome, number_said}
+use Rattle.refusals.proofs.Handed.{handed_on, number_low}
 use Rattle.numerals.specs.digits.Placed.{pasted}
 use Rattle.numerals.proofs.digits.Places.{placed-as, nothing}
 use Rattle.leap_table.specs.rows.Table.{Row}
@@ -11,12 +15,10 @@ use Rattle.utc.specs.text.Answer.{buffer_after}
 use Rattle.utc.specs.iso_texts.TextCall.{buffer_holds}
 use Rattle.line_listing.specs.declared.head.RunEnd.{RunEnd}
 use Rattle.line_listing.specs.declared.lines.Part.{Part}
-use Rattle.line_listing.specs.declared.lines.PartAnswer.{PartAnswer}
-use Rattle.line_listing.specs.declared.lines.PartAnswer.TheVariants.{Lines, Refused}
 use Rattle.line_listing.specs.head.Head.{head_text, end_text}
 use Rattle.line_listing.specs.head.Asked.{PlacedIn}
 use Rattle.line_listing.specs.lines.StampLine.{Stamps}
-use Rattle.line_listing.specs.lines.Parts.{lines_of_order, listed_lines, textless_from, listed_count, listed_part, absent_refusal, listed_outcome}
+use Rattle.line_listing.specs.lines.Parts.{lines_of_order, listed_lines, textless_from, listed_count, listed_part, places_there, absent_refusal}
 use Rattle.line_listing.specs.lines.Asked.{LinesPlaced}
 use Rattle.line_listing.specs.listing.Part.{Step, step, ordered_of, head_step, lines_step, end_step, part_from, listing_refusal, step_answered, ListingCall}
 use Rattle.line_listing.specs.listing.Asked.{StepWritten}
@@ -83,6 +85,11 @@ room-short room h = sym (rw (lt-leb 550 room h))
 pub room-there : (room : ℕ) → 550 ≤ room → ◌≡◌ {A = ℕ} 0 (cond (leb 550 room) 0 11)
 room-there room h = sym (rw (le-leb 550 room h))
 
+refused_on : (r : Result Unit Refusal) (k : Refusal) → IsErrAnd r (λ e. e ≡ k) → number_said r ≡ refusal_number k
+unfolding number_said
+refused_on (Err e) k p = ap refusal_number p
+refused_on (Ok u) k p = absurd p
+
 module _ (s : Bool) (n : ℕ) (order : List ℕ) (line room : ℕ) where
   pub no_lines_yet : (r : ℕ) → line ≡ 0 → r ≡ cond (leb 550 room) 0 11 → r ≡ listing_refusal s n order line room
   unfolding listing_refusal
@@ -97,6 +104,18 @@ module _ (s : Bool) (n : ℕ) (order : List ℕ) (line room : ℕ) where
   unfolding listing_refusal
   all_there k r h e z f = f ∙ sym (rw (ne_eqb line 0 h, sym e, eq-eqb k 0 z))
 
+  -- 18 that `?` hands on
+  pub gone-on : (r : Result Unit Refusal) (k : Refusal) → (line ≡ 0 → ⊥) → number_said {A = Unit} (Err k) ≡ absent_refusal s n order (line - 1) room
+      → IsErrAnd r (λ e. e ≡ k) → number_said r ≡ listing_refusal s n order line room
+  unfolding absent_refusal number_said
+  gone-on r k h e p =
+      refused_on r k p ∙ eighteen (places_there order n (line - 1) (listed_count s order (line - 1) room)) e
+      ∙ gone (refusal_number k) h e (λ z. let w : ⊥ = omega (arith, z, number_low k) in w)
+    where
+      eighteen : (b : Bool) → refusal_number k ≡ cond b 0 18 → refusal_number k ≡ 18
+      eighteen true z = let w : ⊥ = omega (arith, z, number_low k) in absurd w
+      eighteen false z = z
+
   -- a part that is not refused has room
   pub room_for : (k : ℕ) → k ≡ listing_refusal s n order line room → k ≡ 0 → 550 ≤ room
   unfolding listing_refusal
@@ -108,61 +127,61 @@ module _ (s : Bool) (n : ℕ) (order : List ℕ) (line room : ℕ) where
       go false b q w = let x : ⊥ = omega (arith, w) in absurd x
 
 -- ---- an answer is not a refusal
-not_lines : {A : Type 0} (k : ℕ) (p : Part) → Refused k ≡ Lines p → A
-not_lines k p e = cc
+not_lines : {A : Type 0} (r : Result Part Refusal) (k : Refusal) (p : Part) → IsErrAnd r (λ e. e ≡ k) → r ≡ Ok p → A
+not_lines (Err e) k p h q = cc
+not_lines (Ok a) k p h q = absurd h
 
-one-lines : (p q : Part) → Lines p ≡ Lines q → p ≡ q
-unfolding listed_outcome
-one-lines p q e = let z : answer p ≡ answer q = ap listed_outcome e in cc z
+one-lines : (p q : Part) → ◌≡◌ {A = Result Part Refusal} (Ok p) (Ok q) → p ≡ q
+unfolding outcome
+one-lines p q e = let z : answer p ≡ answer q = ap outcome e in cc z
+
+unless_is : {A : Type 0} (n : ℕ) (a : A) → 1 ≤ n → refusal n ≡ unless_refused n a
+unless_is zero a h = let w : ⊥ = omega arith in absurd w
+unless_is (suc n) a h = refl
 
 -- ---- the call
 module _ (s : Bool) (rows : List Row) (gps tai utc : RunEnd) (all : Stamps) (order : List ℕ) (line textless : ℕ) (before : List ℕ) where
-  abbrev number : ℕ
-  number = listing_refusal s (length all.numbers) order line (length before)
-
   abbrev part : Step
   part = part_from s rows gps tai utc all order line textless (length before)
 
-  pub call-refused : (k : ℕ) → k ≡ listing_refusal s (length all.numbers) order line (length before) → (k ≡ 0 → ⊥)
-      → ListingCall s (answer rows) gps tai utc all order line textless before (Refused k) before
-  unfolding listed_outcome onward buffer_holds
-  call-refused zero e h = absurd (h refl)
-  call-refused (suc k) e h = record {
-    says = ap (λ (j : ℕ). unless_refused j (step_answered part)) e;
-    holds = ap (λ (j : ℕ). buffer_holds (unless_refused j part.bytes) before) e;
-    fits = λ p q. not_lines (suc k) p q;
+  pub call-refused : (r : Result Part Refusal) (k : Refusal) → number_said {A = Unit} (Err k) ≡ listing_refusal s (length all.numbers) order line
+      (length before)
+      → IsErrAnd r (λ e. e ≡ k) → ListingCall s (answer rows) gps tai utc all order line textless before r before
+  unfolding number_said onward buffer_holds
+  call-refused r k e p = record {
+    says = handed_on r k p ∙ unless_is (refusal_number k) (step_answered part) (number_low k) ∙ ap (λ (j : ℕ). unless_refused j (step_answered part)) e;
+    holds = ap (λ (o : Outcome (List ℕ)). buffer_holds o before)
+        (unless_is (refusal_number k) part.bytes (number_low k) ∙ ap (λ (j : ℕ). unless_refused j part.bytes) e);
+    fits = λ q w. not_lines r k q p w;
   }
 
-  pub call-done : (k : ℕ) (st : Step) (r : Part) (after : List ℕ) → k ≡ listing_refusal s (length all.numbers) order line (length before) → k ≡ 0
+  pub call-done : (st : Step) (r : Part) (after : List ℕ) → 0 ≡ listing_refusal s (length all.numbers) order line (length before)
       → st ≡ part_from s rows gps tai utc all order line textless (length before) → StepWritten st before r after
-      → ListingCall s (answer rows) gps tai utc all order line textless before (Lines r) after
-  unfolding listed_outcome onward buffer_holds buffer_after pasted
-  call-done k st r after e h same p =
+      → ListingCall s (answer rows) gps tai utc all order line textless before (Ok r) after
+  unfolding outcome onward buffer_holds buffer_after pasted
+  call-done st r after e same p =
       let z : 0 + length st.bytes ≡ length st.bytes = omega arith in
       let fits : length st.bytes ≤ length before = omega (arith, p.placed.ends, p.within) in
       record {
         says = (λ i. answer (record { written = (p.placed.ends ∙ z) i; line = p.next i; textless = p.counted i }))
             ∙ ap (λ (x : Step). answer (step_answered x)) same
-            ∙ ap (λ (j : ℕ). unless_refused j (step_answered part)) (sym h ∙ e);
+            ∙ ap (λ (j : ℕ). unless_refused j (step_answered part)) e;
         holds = p.placed.holds ∙ ap (λ (j : ℕ). st.bytes ++ drop j before) z
             ∙ sym (rw (le-leb (length st.bytes) (length before) fits) refl)
             ∙ ap (λ (x : Step). buffer_holds (answer x.bytes) before) same
-            ∙ ap (λ (j : ℕ). buffer_holds (unless_refused j part.bytes) before) (sym h ∙ e);
+            ∙ ap (λ (j : ℕ). buffer_holds (unless_refused j part.bytes) before) e;
         fits = λ q i. subst (λ (x : Part). x.written ≤ length before) (one-lines r q i) p.within;
       }
 
   -- the table is refused before that
-  pub table-refused : (o : Outcome (List Row)) (k : ℕ) → (k ≡ 0 → ⊥) → unless_refused k rows ≡ o
-      → ListingCall s o gps tai utc all order line textless before (Refused k) before
-  unfolding listed_outcome onward buffer_holds
-  table-refused o zero h e = absurd (h refl)
-  table-refused o (suc k) h e =
-      subst (λ (x : Outcome (List Row)). ListingCall s x gps tai utc all order line textless before (Refused (suc k)) before) e
-      (record { says = refl; holds = refl; fits = λ p q. not_lines (suc k) p q })
+  pub table-refused : (o : Outcome (List Row)) (r : Result Part Refusal) (k : Refusal) → refusal (refusal_number k) ≡ o → IsErrAnd r (λ e. e ≡ k)
+      → ListingCall s o gps tai utc all order line textless before r before
+  unfolding onward buffer_holds
+  table-refused o r k e p =
+      subst (λ (x : Outcome (List Row)). ListingCall s x gps tai utc all order line textless before r before) e
+      (record { says = handed_on r k p; holds = refl; fits = λ q w. not_lines r k q p w })
 
-  pub table_taken : (rows' : List Row) (o : Outcome (List Row)) (k : ℕ) (r : PartAnswer) (after : List ℕ) → k ≡ 0 → rows' ≡ rows → unless_refused k rows ≡ o
-      → ListingCall s (answer rows') gps tai utc all order line textless before r after
+  pub table_taken : (o : Outcome (List Row)) (r : Result Part Refusal) (after : List ℕ) → answer rows ≡ o
+      → ListingCall s (answer rows) gps tai utc all order line textless before r after
       → ListingCall s o gps tai utc all order line textless before r after
-  table_taken rows' o k r after h q e p =
-      subst (λ (x : Outcome (List Row)). ListingCall s x gps tai utc all order line textless before r after)
-      (ap answer q ∙ ap (λ (j : ℕ). unless_refused j rows) (sym h) ∙ e) p
+  table_taken o r after e p = subst (λ (x : Outcome (List Row)). ListingCall s x gps tai utc all order line textless before r after) e p

@@ -1,13 +1,14 @@
 -- The whole call: what its parts need after the lining up, and that together they do what `lines_in_order` says. Assumes nothing.
 use Rattle.std.proofs.Common.{◌≡◌, ℕ, zero, suc, ◌+◌, ◌*◌, ◌/◌, ◌%◌, ◌<◌, ◌≤◌, Bool, List, [], ◌∷◌, ◌++◌, length, take, drop, sym, refl, ap, ◌∙◌, subst, arith}
 use Rattle.std.proofs.Common.{drop_at, ne_eqb}
-use Rattle.refusals.specs.Outcome.{answer}
+use Rattle.std.specs.Prelude.{Result, Ok, Err, IsErrAnd}
+use Rattle.refusals.specs.declared.Refusal.{Refusal}
+use Rattle.refusals.specs.Outcome.{Outcome, answer, outcome}
+use Rattle.refusals.proofs.Handed.{handed, handed_on}
 use Rattle.numerals.specs.little_endian.LittleEndian.{u32_at, four_at}
 use Rattle.numerals.proofs.little_endian.RoundTrip.{read-written-4}
-use Rattle.line_up.specs.declared.LineUpAnswer.{LineUpAnswer}
-use Rattle.line_up.specs.declared.LineUpAnswer.TheVariants.{Ordered, Refused}
 use Rattle.line_up.specs.Runs.{accepted_in, all_tested, numbers_after, merge, ordered}
-use Rattle.line_up.specs.LineUp.{unordered_at, sooner_at, places_bytes, least_room, line_refusal, count_outcome, result, LinedUp, line_written, put_in_line}
+use Rattle.line_up.specs.LineUp.{unordered_at, sooner_at, places_bytes, least_room, line_refusal, result, LinedUp, line_written, put_in_line}
 use Rattle.line_up.specs.LineUp.{lined_up}
 use Rattle.line_up.specs.laws.Due.{LineDue}
 use Rattle.line_up.specs.keep.Cells.{cells}
@@ -57,33 +58,35 @@ line-below lt ms a b ab bn =
 
 -- ---- the call
 
-module _ (js ks ns : List ℕ) (a c : ℕ) (out : List ℕ) (tl rl : ℕ) (numbers placed : List ℕ) (res : LineUpAnswer)
+module _ (js ks ns : List ℕ) (a c : ℕ) (out : List ℕ) (tl rl : ℕ) (numbers placed : List ℕ) (res : Result ℕ Refusal)
     (e : result res numbers placed ≡ lined_up js ks ns a c out tl rl) where
   abbrev number : ℕ
   number = line_refusal (length js) (length ks) (length ns) a c (least_room (length out) tl rl)
 
-  says : count_outcome res ≡ (lined_up js ks ns a c out tl rl).answer
+  says : outcome res ≡ (lined_up js ks ns a c out tl rl).answer
   says = ap (λ (l : LinedUp). l.answer) e
 
-  pub order-refused : (k : ℕ) → res ≡ Refused k → result (Refused k) numbers placed ≡ lines_in_order js ks ns a c out tl rl
-  unfolding count_outcome lines_in_order
-  order-refused k r = go number refl
+  pub order-refused : (k : Refusal) (r : Result ℕ Refusal) → res ≡ Err k → IsErrAnd r (λ f. f ≡ k)
+      → result r numbers placed ≡ lines_in_order js ks ns a c out tl rl
+  unfolding lines_in_order
+  order-refused k r q h = go number refl
     where
-      go : (m : ℕ) → number ≡ m → result (Refused k) numbers placed ≡ lines_in_order js ks ns a c out tl rl
+      go : (m : ℕ) → number ≡ m → result r numbers placed ≡ lines_in_order js ks ns a c out tl rl
       go zero p =
           let l = due_answered js ks ns a c out tl rl (due-of (length js) (length ks) (length ns) a c (length out) tl rl p) in
-          let s : count_outcome (Refused k) ≡ answer (length l.line) = ap count_outcome (sym r) ∙ says ∙ l.answers in
-          let z : ◌≡◌ {A = ℕ} 0 1 = cc in
+          let s = sym (handed q) ∙ says ∙ l.answers in
+          let z : ◌≡◌ {A = ℕ} 0 1 = cc s in
           let w : ⊥ = omega arith in
           absurd w
       go (suc m) p =
-          ap (λ (x : LineUpAnswer). result x numbers placed) (sym r) ∙ e ∙ refused-line js ks ns a c out tl rl m p
+          ap (λ (o : Outcome ℕ). record { answer = o; numbers = numbers; out = placed }) (handed_on r k h ∙ sym (handed q))
+          ∙ e ∙ refused-line js ks ns a c out tl rl m p
           ∙ rw (p, ne_eqb (suc m) 0 (λ q. let z : ⊥ = omega (arith, q) in z))
 
-  module _ (k : ℕ) (r : res ≡ Ordered k) where
+  module _ (k : ℕ) (r : res ≡ Ok k) where
     due : LineDue (length js) (length ks) (length ns) a c (length out) tl rl
-    unfolding count_outcome
-    due = answered-due js ks ns a c out tl rl k (sym says ∙ ap count_outcome r)
+    unfolding outcome
+    due = answered-due js ks ns a c out tl rl k (sym says ∙ ap outcome r)
 
     zero_number : number ≡ 0
     zero_number = none-refused (length js) (length ks) (length ns) a c (length out) tl rl due
@@ -121,9 +124,9 @@ module _ (js ks ns : List ℕ) (a c : ℕ) (out : List ℕ) (tl rl : ℕ) (numbe
     placed-is = ap (λ (l : LinedUp). l.out) left
 
     k_is : k ≡ length line
-    unfolding line_written count_outcome
+    unfolding line_written outcome
     k_is =
-        let s : answer k ≡ answer (length line) = ap count_outcome (sym r) ∙ ap (λ (l : LinedUp). l.answer) left in
+        let s : answer k ≡ answer (length line) = ap outcome (sym r) ∙ ap (λ (l : LinedUp). l.answer) left in
         cc
 
     in_runs : a + c ≤ length ms
@@ -171,8 +174,8 @@ module _ (js ks ns : List ℕ) (a c : ℕ) (out : List ℕ) (tl rl : ℕ) (numbe
             (ap (drop (4 * length line)) placed-is ∙ drop_at (places_bytes line) (drop (4 * length line) out) (4 * length line) (places-long line))
 
         pub order-ends : (out' : List ℕ) → out' ≡ places_bytes (line_order numbers a (a + c) (take k (cells work))) ++ drop (4 * length numbers) placed
-            → result (Ordered k) numbers out' ≡ lines_in_order js ks ns a c out tl rl
-        unfolding lines_in_order put_in_order order_written count_outcome come ms line
+            → result (Ok k) numbers out' ≡ lines_in_order js ks ns a c out tl rl
+        unfolding lines_in_order put_in_order order_written outcome come ms line
         order-ends out' w =
             let q : out' ≡ places_bytes (line_order ms a (a + c) line) ++ drop (4 * length ms) out =
             w ∙ ap (λ (l : List ℕ). places_bytes (line_order numbers a (a + c) l) ++ drop (4 * length numbers) placed) line-there

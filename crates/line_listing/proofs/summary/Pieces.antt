@@ -1,20 +1,14 @@
 -- The lines of the summary joined, and the answers of its calls. Assumes nothing.
 use Rattle.std.proofs.Common.{◌≡◌, ℕ, ◌+◌, ◌%◌, true, false, List, [], ◌++◌, length, pos, sym, refl, ap, ◌∙◌, subst, eq-eqb, ne_eqb}
-use Rattle.refusals.specs.Outcome.{Outcome, answer, refusal, onward}
+use Rattle.std.specs.Prelude.{Result}
+use Rattle.refusals.specs.declared.Refusal.{Refusal}
+use Rattle.refusals.specs.Outcome.{Outcome, answer, refusal, onward, outcome}
 use Rattle.calendar.specs.declared.CalendarDate.{CalendarDate}
 use Rattle.calendar.specs.Gregorian.{gregorian_date}
-use Rattle.julian.specs.declared.JulianDate.{JulianDate}
 use Rattle.leap_table.specs.rows.Table.{Row}
-use Rattle.utc_scales.specs.UtcTai.{tai_to_utc}
-use Rattle.utc.specs.declared.text.TextAnswer.{TextAnswer}
-use Rattle.utc.specs.declared.text.TextAnswer.TheVariants.{Refused}
 use Rattle.utc.specs.text.Ascii.{ascii_bytes}
-use Rattle.utc.specs.text.Answer.{text_outcome, TextPut}
-use Rattle.utc.specs.iso_texts.Expanded.{iso_text_expanded}
+use Rattle.utc.specs.text.Answer.{TextPut}
 use Rattle.utc.specs.iso_texts.TextCall.{written, buffer_holds, TextCall}
-use Rattle.since_launch.specs.declared.MillisAnswer.{MillisAnswer}
-use Rattle.since_launch.specs.declared.MillisAnswer.TheVariants as M
-use Rattle.since_launch.specs.Millis.{millis_outcome}
 use Rattle.line_listing.specs.declared.head.RunEnd.{RunEnd}
 use Rattle.line_listing.specs.declared.summary.Seen.{Seen}
 use Rattle.line_listing.specs.declared.summary.Ends.{Ends}
@@ -27,6 +21,10 @@ use Rattle.line_listing.specs.summary.Known.{last_month_of, lent_rows, known_unt
 use Rattle.line_listing.specs.summary.Look.{left_out, no_stamp, after_known, scales_apart, look_of}
 use Rattle.line_listing.specs.summary.Summary as S
 use Rattle.line_listing.specs.summary.Asked.{RunsOf, look_by, runs_by}
+use Rattle.std.specs.Prelude.{Ok, Err}
+use Rattle.julian.specs.declared.JulianDate.{JulianDate}
+use Rattle.utc_scales.specs.UtcTai.{tai_to_utc}
+use Rattle.utc.specs.iso_texts.Expanded.{iso_text_expanded}
 
 -- ---- a stamp's text
 pub text-is : (o : Outcome (List ℕ)) (t : List ℕ) → o ≡ answer t → t ≡ S.text_or o
@@ -37,35 +35,7 @@ pub text-none : (o : Outcome (List ℕ)) (k : ℕ) → o ≡ refusal k → ascii
 unfolding S.text_or
 text-none o k e = sym (ap S.text_or e)
 
-module _ (rows : List Row) (tai : JulianDate) where
-  pub date-is : (u : JulianDate) → answer u ≡ tai_to_utc rows tai → S.text_or (iso_text_expanded rows u) ≡ S.date_told rows tai
-  unfolding S.date_told onward
-  date-is u e = ap (λ (o : Outcome JulianDate). S.text_or (onward o (iso_text_expanded rows))) e
-
-  pub date-none : (k : ℕ) → refusal k ≡ tai_to_utc rows tai → ascii_bytes "no text" ≡ S.date_told rows tai
-  unfolding S.date_told S.text_or onward
-  date-none k e = ap (λ (o : Outcome JulianDate). S.text_or (onward o (iso_text_expanded rows))) e
-
--- ---- a time
-module _ (o : Outcome ℕ) (r : MillisAnswer) (e : millis_outcome r ≡ o) where
-  pub span_is : (m : ℕ) → r ≡ M.Millis m → S.span_by (answer m) ≡ S.span_by o
-  unfolding millis_outcome
-  span_is m g = ap S.span_by (sym (ap millis_outcome g) ∙ e)
-
-  pub span_none : (k : ℕ) → r ≡ M.Refused k → ascii_bytes " span unknown" ≡ S.span_by o
-  unfolding millis_outcome S.span_by
-  span_none k g = ap S.span_by (sym (ap millis_outcome g) ∙ e)
-
 -- ---- a run
-module _ (rows : List Row) (e : Ends) where
-  pub some-ordered : e.any ≡ true → S.ends_told rows e ≡ S.ordered_told rows e
-  unfolding S.ordered_told
-  some-ordered h = sym (rw h)
-
-  pub none-ordered : e.any ≡ false → ascii_bytes "no stamp is ordered" ≡ S.ordered_told rows e
-  unfolding S.ordered_told
-  none-ordered h = sym (rw h)
-
 module _ (name : List ℕ) (out : Seen) where
   pub none_out : out.many ≡ 0 → [] ≡ S.out_line name out
   unfolding S.out_line
@@ -126,10 +96,40 @@ module _ (rows : List Row) (known : ℕ) (gps tai utc : RunEnd) (js ks ns : List
       ∙ ap (λ (k : ℕ). (S.runs_told rows gps tai utc all ++ S.table_told rows known) ++ S.looks_told k) (h ∙ look_is)
 
 -- ---- the answers
-pub put-call : {t p ys : List ℕ} {r : TextAnswer} (o : Outcome (List ℕ)) → answer t ≡ o → TextPut t p r ys → TextCall o p r ys
+pub put-call : {t p ys : List ℕ} {r : Result ℕ Refusal} (o : Outcome (List ℕ)) → answer t ≡ o → TextPut t p r ys → TextCall o p r ys
 unfolding written buffer_holds onward
 put-call {t} {p} {ys} {r} o e put = subst (λ (q : Outcome (List ℕ)). TextCall q p r ys) e (record { says = put.says; holds = put.holds })
 
-pub call-refused : (k : ℕ) (p : List ℕ) (o : Outcome (List ℕ)) → refusal k ≡ o → TextCall o p (Refused k) p
-unfolding text_outcome written buffer_holds onward
-call-refused k p o e = subst (λ (q : Outcome (List ℕ)). TextCall q p (Refused k) p) e (record { says = refl; holds = refl })
+pub call-refused : (k : ℕ) (p : List ℕ) (r : Result ℕ Refusal) (o : Outcome (List ℕ)) → outcome r ≡ refusal k → refusal k ≡ o → TextCall o p r p
+unfolding written buffer_holds onward
+call-refused k p r o h e = subst (λ (q : Outcome (List ℕ)). TextCall q p r p) e (record { says = h; holds = refl })
+
+-- ---- the text of a date in TAI
+module _ (rows : List Row) (tai : JulianDate) where
+  pub date-is : (u : JulianDate) → answer u ≡ tai_to_utc rows tai → S.text_or (iso_text_expanded rows u) ≡ S.date_told rows tai
+  unfolding S.date_told onward
+  date-is u e = ap (λ (o : Outcome JulianDate). S.text_or (onward o (iso_text_expanded rows))) e
+
+  pub date-none : (k : ℕ) → refusal k ≡ tai_to_utc rows tai → ascii_bytes "no text" ≡ S.date_told rows tai
+  unfolding S.date_told S.text_or onward
+  date-none k e = ap (λ (o : Outcome JulianDate). S.text_or (onward o (iso_text_expanded rows))) e
+
+-- ---- a time
+module _ (o : Outcome ℕ) (r : Result ℕ Refusal) (e : outcome r ≡ o) where
+  pub span_is : (m : ℕ) → r ≡ Ok m → S.span_by (answer m) ≡ S.span_by o
+  unfolding outcome
+  span_is m g = ap S.span_by (sym (ap outcome g) ∙ e)
+
+  pub span_none : (k : Refusal) → r ≡ Err k → ascii_bytes " span unknown" ≡ S.span_by o
+  unfolding outcome S.span_by
+  span_none k g = ap S.span_by (sym (ap outcome g) ∙ e)
+
+-- ---- the ends of a run, where some stamp is ordered and where none is
+module _ (rows : List Row) (e : Ends) where
+  pub some-ordered : e.any ≡ true → S.ends_told rows e ≡ S.ordered_told rows e
+  unfolding S.ordered_told
+  some-ordered h = sym (rw h)
+
+  pub none-ordered : e.any ≡ false → ascii_bytes "no stamp is ordered" ≡ S.ordered_told rows e
+  unfolding S.ordered_told
+  none-ordered h = sym (rw h)

@@ -2,12 +2,12 @@
 use Rattle.std.proofs.Common.{◌≡◌, ℕ, zero, suc, ◌+◌, ◌-◌, ◌*◌, ◌<◌, ◌≤◌, Bool, true, false, cond, eqb, leb, List, [], ◌∷◌, length, take, drop, sym, refl, ap}
 use Rattle.std.proofs.Common.{◌∙◌, arith, length-append, length-drop, take-append-drop, take_all, drop-drop, eq-eqb, ne_eqb, leb-false}
 use lib.Seq.{slice, take-nil}
-use Rattle.refusals.specs.Outcome.{Outcome, answer, refusal}
+use Rattle.std.specs.Prelude.{Result, Ok, Err}
+use Rattle.refusals.specs.declared.Refusal.{Refusal}
+use Rattle.refusals.specs.Refusal.{refusal_number}
+use Rattle.refusals.specs.Outcome.{Outcome, answer, refusal, outcome}
 use Rattle.leap_table.specs.rows.Announced.{least}
 use Rattle.numerals.specs.little_endian.LittleEndian.{u32_at}
-use Rattle.stamps.specs.declared.BlockAnswer.{BlockAnswer}
-use Rattle.stamps.specs.declared.BlockAnswer.TheVariants as Block
-use Rattle.stamps.specs.Block.{block_outcome}
 use Rattle.stamps.proofs.Blocks.{block-accepted}
 use Rattle.line_listing.specs.declared.taken.RunSize.{RunSize}
 use Rattle.line_listing.specs.taken.Run.{Blocks, block_length, first_block, with_block, blocks_in, run_blocks, stamps_of, blocks_bytes}
@@ -42,17 +42,24 @@ pub whole-rest : (s : List ℕ) (at : ℕ) → take (length s - at) (drop at s) 
 whole-rest s at = take_all (length s - at) (drop at s) (omega (arith, length-drop at s))
 
 -- the block at the start of what is left, by the answer r of the call
-module _ (s : List ℕ) (at : ℕ) (r : BlockAnswer) (e : block_outcome r ≡ first_block (take (length s - at) (drop at s))) where
-  of_rest : first_block (drop at s) ≡ block_outcome r
+module _ (s : List ℕ) (at : ℕ) (r : Result ℕ Refusal) (e : outcome r ≡ first_block (take (length s - at) (drop at s))) where
+  of_rest : first_block (drop at s) ≡ outcome r
   of_rest = ap first_block (sym (whole-rest s at)) ∙ sym e
 
-  pub rest-taken : (n : ℕ) → r ≡ Block.Stamps n → first_block (drop at s) ≡ answer n
-  unfolding block_outcome
-  rest-taken n q = of_rest ∙ ap block_outcome q
+  pub rest-taken : (n : ℕ) → r ≡ Ok n → first_block (drop at s) ≡ answer n
+  unfolding outcome
+  rest-taken n q = of_rest ∙ ap outcome q
 
-  pub rest-refused : (k : ℕ) → r ≡ Block.Refused k → first_block (drop at s) ≡ refusal k
-  unfolding block_outcome
-  rest-refused k q = of_rest ∙ ap block_outcome q
+  pub rest-refused : (k : Refusal) → r ≡ Err k → first_block (drop at s) ≡ refusal (refusal_number k)
+  unfolding outcome
+  rest-refused k q = of_rest ∙ ap outcome q
+
+  pub rest-not-taken : ((n : ℕ) → r ≡ Ok n → ⊥) → (k : ℕ) × (first_block (drop at s) ≡ refusal k)
+  rest-not-taken h = by r refl
+    where
+      by : (x : Result ℕ Refusal) → r ≡ x → (k : ℕ) × (first_block (drop at s) ≡ refusal k)
+      by (Ok n) q = absurd (h n q)
+      by (Err k) q = (refusal_number k, rest-refused k q)
 
 -- ---- as many as bytes are enough
 abbrev none : Blocks

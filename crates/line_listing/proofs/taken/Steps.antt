@@ -1,17 +1,19 @@
 -- What is taken of a run, block by block: the stamps of one block, the blocks behind it, and the call as a whole. Assumes nothing.
-use Rattle.std.proofs.Common.{◌≡◌, ℕ, zero, suc, ◌+◌, ◌-◌, ◌*◌, ◌/◌, ◌<◌, ◌≤◌, Bool, true, false, cond, ◌&&◌, eqb, leb, List, [], ◌∷◌, ◌++◌, length, take, drop}
+use Rattle.std.proofs.Common.{◌≡◌, ℕ, ◌+◌, ◌-◌, ◌*◌, ◌/◌, ◌<◌, ◌≤◌, Bool, true, false, cond, ◌&&◌, eqb, leb, List, [], ◌∷◌, ◌++◌, length, take, drop}
 use Rattle.std.proofs.Common.{replicate, sym, refl, ap, ◌∙◌, subst, append_assoc, append-nil, arith, length-append, length-drop, take-append-drop}
-use Rattle.std.proofs.Common.{drop_of_length-le, length-take-le, drop-drop, take_at, drop_at, eq-eqb, ne_eqb, leb-true}
+use Rattle.std.proofs.Common.{drop_of_length-le, length-take-le, drop-drop, take_at, drop_at, ne_eqb, leb-true}
 use lib.ListN.{length-replicate, replicate-append-replicate}
 use lib.Seq.{slice, length-slice, take-length}
 use borrow.Rule.Slice.PartMut.{put_mid, same_len_mid, mid_len}
-use Rattle.refusals.specs.Outcome.{Outcome, answer, refusal}
+use Rattle.std.specs.Prelude.{Result, Ok, Err}
+use Rattle.std.specs.Result.{result_unwrap_or}
+use Rattle.refusals.specs.declared.Refusal.{Refusal}
+use Rattle.refusals.specs.Refusal.{refusal_number}
+use Rattle.refusals.specs.Outcome.{Outcome, answer, refusal, outcome, number_said}
+use Rattle.refusals.proofs.Handed.{number_low}
 use Rattle.constants.specs.scale_numbers.Scales.{TAI}
 use Rattle.leap_table.specs.rows.Table.{Row}
-use Rattle.leap_table.specs.rows.Announced.{unless_refused}
-use Rattle.runs.specs.declared.by_formula.RunAnswer.{RunAnswer}
-use Rattle.runs.specs.declared.by_formula.RunAnswer.TheVariants as Answer
-use Rattle.runs.specs.by_formula.Run.{RunCall, run_call, run_outcome, run_written, refused_among, first_part, second_part, with_parts, with_numbers}
+use Rattle.runs.specs.by_formula.Run.{RunCall, run_call, run_written, refused_among, first_part, second_part, with_parts, with_numbers}
 use Rattle.runs.specs.ways.Ways.{is_run_scale}
 use Rattle.runs.specs.Run.{stamp_answer, run_refusal, run_by}
 use Rattle.runs.proofs.Calls.{none-refused, run-count}
@@ -103,6 +105,14 @@ pub record TakenTo (rows : List Row) (scale : ℕ) (s o1₀ o2₀ ns₀ : List �
   pub len2 : length o2 ≡ length o2₀
   pub len3 : length ns ≡ length ns₀
 
+-- a block of n stamps at the place `at` is there, and there is room for its stamps
+pub record StepFits (s o1 o2 ns : List ℕ) (at place n : ℕ) : Type 0 where
+  pub few : n ≤ 4000
+  pub there : at + (8 + 16 * n) ≤ length s
+  pub places1 : 8 * place + 8 * n ≤ length o1
+  pub places2 : 8 * place + 8 * n ≤ length o2
+  pub bytes : place + n ≤ length ns
+
 module _ (rows : List Row) (scale : ℕ) (known : is_run_scale scale ≡ true) where
   -- ---- a run whose lengths fit is answered
   tai-known : is_run_scale TAI ≡ true
@@ -147,19 +157,25 @@ module _ (rows : List Row) (scale : ℕ) (known : is_run_scale scale ≡ true) w
           (numbers-anew (stamp_answer rows scale TAI js ks) n numbers (replicate n 0) e3 (length-replicate n 0))
           ∙ sym block_written
 
-      module _ (r : RunAnswer) (o1' o2' numbers' : List ℕ) (e : run_call (run_outcome r) o1' o2' numbers' ≡ run_by rows scale TAI j k o1 o2 numbers) where
-        pub block-done : (count : ℕ) → r ≡ Answer.Converted count → run_call (answer count) o1' o2' numbers' ≡ block_run rows scale n s
-        unfolding run_outcome
-        block-done count t = ap (λ (x : RunAnswer). run_call (run_outcome x) o1' o2' numbers') (sym t) ∙ e ∙ block-over
+      -- no block that is there is refused whole
+      pub block-done : (r : Result ℕ Refusal) (o1' o2' numbers' : List ℕ) → run_call (outcome r) o1' o2' numbers' ≡ run_by rows scale TAI j k o1 o2 numbers
+          → run_call (answer (result_unwrap_or r 0)) o1' o2' numbers' ≡ block_run rows scale n s
+      unfolding outcome run_written
+      block-done (Ok count) o1' o2' numbers' e = e ∙ block-over
+      block-done (Err c) o1' o2' numbers' e =
+          let q : refusal (refusal_number c) ≡ answer (refused_among (stamp_answer rows scale TAI js ks) n) =
+          ap (λ (x : RunCall). x.answer) (e ∙ block-over ∙ block_written) in
+          let z : ◌≡◌ {A = ℕ} 0 1 = cc q in
+          let w : ⊥ = omega arith in absurd w
 
-        -- no block that is there is refused whole
-        pub block-never : (number : ℕ) → r ≡ Answer.Refused number → ⊥
-        unfolding run_outcome run_written
-        block-never number t =
-            let q : refusal number ≡ answer (refused_among (stamp_answer rows scale TAI js ks) n) =
-            ap (λ (x : RunCall). x.answer)
-            (ap (λ (x : RunAnswer). run_call (run_outcome x) o1' o2' numbers') (sym t) ∙ e ∙ block-over ∙ block_written) in
-            let z : ◌≡◌ {A = ℕ} 0 1 = cc q in omega arith
+      pub block-never : (r : Result ℕ Refusal) (o1' o2' numbers' : List ℕ) → run_call (outcome r) o1' o2' numbers' ≡ run_by rows scale TAI j k o1 o2 numbers
+          → (number : Refusal) → r ≡ Err number → ⊥
+      unfolding outcome run_written
+      block-never r o1' o2' numbers' e number g =
+          let q : refusal (refusal_number number) ≡ answer (refused_among (stamp_answer rows scale TAI js ks) n) =
+          ap (λ (x : RunCall). x.answer)
+          (ap (λ (x : Result ℕ Refusal). run_call (outcome x) o1' o2' numbers') (sym g) ∙ e ∙ block-over ∙ block_written) in
+          let z : ◌≡◌ {A = ℕ} 0 1 = cc q in omega arith
 
     -- what a block leaves is as long as what was lent
     pub left1 : (r : ℕ) (p1 p2 ps : List ℕ) → run_call (answer r) p1 p2 ps ≡ block_run rows scale n s → length p1 ≡ 8 * n
@@ -323,6 +339,9 @@ module _ (rows : List Row) (scale : ℕ) (known : is_run_scale scale ≡ true) w
         pub fits3 : place + n ≤ length ns
         fits3 = omega (arith, counts, room.bytes, t.len3)
 
+        pub step_fits : StepFits s o1 o2 ns at place n
+        step_fits = record { few = fits.0; there = fits.1; places1 = fits1; places2 = fits2; bytes = fits3 }
+
         module _ (r : ℕ) (p1 p2 ps : List ℕ) (b : run_call (answer r) p1 p2 ps ≡ block_run rows scale n (drop at s)) where
           pub taken-on : TakenTo rows scale s o1₀ o2₀ ns₀ (at + (8 + 16 * n)) (place + n) (refused + r) (put_mid (8 * place) (8 * place + 8 * n - 8 * place)
               o1 p1)
@@ -383,29 +402,33 @@ module _ (rows : List Row) (scale : ℕ) (known : is_run_scale scale ≡ true) w
               further8 : (l l₀ : List ℕ) → drop (8 * place) l ≡ drop (8 * place) l₀ → drop (8 * place + 8 * n) l ≡ drop (8 * (place + n)) l₀
               further8 l l₀ d = further (8 * place) (8 * n) l l₀ d ∙ ap (λ (k : ℕ). drop k l₀) (sym eight)
 
--- ---- the call: how many stamps there are, and the number of the refusal
-module _ (rows : List Row) (scale : ℕ) (s o1 o2 ns : List ℕ) (all : RunSize) (ea : all ≡ size_of (run_blocks s)) (number : ℕ)
-    (en : number ≡ take_refusal scale all.stamps (length o1) (length o2) (length ns)) where
-  same : take_refusal scale (stamps_of (run_blocks s).sizes) (length o1) (length o2) (length ns) ≡ number
+-- ---- the call: how many stamps there are, and the result r of the judging of the room
+module _ (rows : List Row) (scale : ℕ) (s o1 o2 ns : List ℕ) (all : RunSize) (ea : all ≡ size_of (run_blocks s)) (r : Result Unit Refusal)
+    (er : number_said r ≡ take_refusal scale all.stamps (length o1) (length o2) (length ns)) where
+  same : take_refusal scale (stamps_of (run_blocks s).sizes) (length o1) (length o2) (length ns) ≡ number_said r
   unfolding size_of
-  same = ap (λ (x : RunSize). take_refusal scale x.stamps (length o1) (length o2) (length ns)) (sym ea) ∙ sym en
+  same = ap (λ (x : RunSize). take_refusal scale x.stamps (length o1) (length o2) (length ns)) (sym ea) ∙ sym er
 
-  pub call-refused : (number ≡ 0 → ⊥) → run_call (run_outcome (Answer.Refused number)) o1 o2 ns ≡ taken_by rows scale (run_blocks s).sizes s o1 o2 ns
-  unfolding taken_by run_outcome
-  call-refused h = rw (same, ne_eqb number 0 h)
+  pub call-refused : (k : Refusal) → r ≡ Err k → run_call (refusal (refusal_number k)) o1 o2 ns ≡ taken_by rows scale (run_blocks s).sizes s o1 o2 ns
+  unfolding taken_by number_said
+  call-refused k p = rw (same ∙ ap number_said p, ne_eqb (refusal_number k) 0 (λ z. omega (arith, number_low k)))
 
-  module _ (z : number ≡ 0) where
+  module _ (u : Unit) (p : r ≡ Ok u) where
+    none : take_refusal scale (stamps_of (run_blocks s).sizes) (length o1) (length o2) (length ns) ≡ 0
+    unfolding number_said
+    none = same ∙ ap number_said p
+
     pub call-room : RunRoom scale s o1 o2 ns
     unfolding take_refusal
-    call-room = room (is_run_scale scale) (leb (8 * many) (length o1)) (leb (8 * many) (length o2)) (leb many (length ns)) refl refl refl refl (same ∙ z)
+    call-room = room (is_run_scale scale) (leb (8 * many) (length o1)) (leb (8 * many) (length o2)) (leb many (length ns)) refl refl refl refl none
       where
         many : ℕ
         many = stamps_of (run_blocks s).sizes
 
         room : (a b c d : Bool) → is_run_scale scale ≡ a → leb (8 * many) (length o1) ≡ b → leb (8 * many) (length o2) ≡ c → leb many (length ns) ≡ d
             → ◌≡◌ {A = ℕ} (cond a (cond (b && (c && d)) 0 11) 18) 0 → RunRoom scale s o1 o2 ns
-        room true true true true p q r t e = record {
-          known = p;
+        room true true true true q1 q r t e = record {
+          known = q1;
           places1 = leb-true (8 * many) (length o1) q;
           places2 = leb-true (8 * many) (length o2) r;
           bytes = leb-true many (length ns) t;
@@ -415,27 +438,22 @@ module _ (rows : List Row) (scale : ℕ) (s o1 o2 ns : List ℕ) (all : RunSize)
         room true false c d p q r t e = let w : ⊥ = omega arith in absurd w
         room false b c d p q r t e = let w : ⊥ = omega arith in absurd w
 
-    pub call-taken : (r : ℕ) (o1' o2' ns' : List ℕ)
-        → run_call (answer r) o1' o2' ns' ≡ taken_written (stamps_of (run_blocks s).sizes) (taken_run rows scale (run_blocks s).sizes s) o1 o2 ns
-        → run_call (run_outcome (Answer.Converted r)) o1' o2' ns' ≡ taken_by rows scale (run_blocks s).sizes s o1 o2 ns
-    unfolding taken_by run_outcome
-    call-taken r o1' o2' ns' e = rw (same, eq-eqb number 0 z) e
+    pub call-taken : (count : ℕ) (o1' o2' ns' : List ℕ)
+        → run_call (answer count) o1' o2' ns' ≡ taken_written (stamps_of (run_blocks s).sizes) (taken_run rows scale (run_blocks s).sizes s) o1 o2 ns
+        → run_call (answer count) o1' o2' ns' ≡ taken_by rows scale (run_blocks s).sizes s o1 o2 ns
+    unfolding taken_by
+    call-taken count o1' o2' ns' e = rw none e
 
--- ---- the call that tests its table: the number n that is found, and the rows
-module _ (o : Outcome (List Row)) (rows : List Row) (n : ℕ) (e : unless_refused n rows ≡ o) (scale : ℕ) (s o1 o2 ns : List ℕ) where
-  pub table-refused : (n ≡ 0 → ⊥) → run_call (run_outcome (Answer.Refused n)) o1 o2 ns ≡ taken_call o scale s o1 o2 ns
-  unfolding taken_call run_outcome
-  table-refused h = go n h ∙ ap (λ (x : Outcome (List Row)). taken_call x scale s o1 o2 ns) e
-    where
-      go : (k : ℕ) → (k ≡ 0 → ⊥) → run_call (refusal k) o1 o2 ns ≡ taken_call (unless_refused k rows) scale s o1 o2 ns
-      go zero h = absurd (h refl)
-      go (suc k) h = refl
+-- ---- the call that tests its table
+pub table-refused : (o : Outcome (List Row)) (k : ℕ) → refusal k ≡ o → (scale : ℕ) (s o1 o2 ns : List ℕ)
+    → run_call (refusal k) o1 o2 ns ≡ taken_call o scale s o1 o2 ns
+unfolding taken_call
+table-refused o k e scale s o1 o2 ns = ap (λ (x : Outcome (List Row)). taken_call x scale s o1 o2 ns) e
 
-  pub table_taken : n ≡ 0 → taken_by rows scale (run_blocks s).sizes s o1 o2 ns ≡ taken_call o scale s o1 o2 ns
-  unfolding taken_call
-  table_taken h =
-      ap (λ (k : ℕ). taken_call (unless_refused k rows) scale s o1 o2 ns) (sym h)
-      ∙ ap (λ (x : Outcome (List Row)). taken_call x scale s o1 o2 ns) e
+pub table_taken : (o : Outcome (List Row)) (rows : List Row) → answer rows ≡ o → (scale : ℕ) (s o1 o2 ns : List ℕ)
+    → taken_by rows scale (run_blocks s).sizes s o1 o2 ns ≡ taken_call o scale s o1 o2 ns
+unfolding taken_call
+table_taken o rows e scale s o1 o2 ns = ap (λ (x : Outcome (List Row)). taken_call x scale s o1 o2 ns) e
 
 -- ---- a run whose blocks are there passes, and at most all of its stamps are refused
 abbrev pub noughts : ℕ → List ℕ

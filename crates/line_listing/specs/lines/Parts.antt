@@ -1,13 +1,12 @@
 -- The lines of an order of stamps, and the part of them that one call writes. Written from the header of C, ct_line_listing_part: whole lines, each given the
 -- room of the longest, at most 256 in a part. Assumes nothing.
-use Rattle.std.specs.Prelude.{◌≡◌, ℕ, zero, suc, ◌+◌, ◌-◌, ◌/◌, Bool, true, cond, ◌&&◌, List, [], ◌++◌, length, nat_lt}
-use Rattle.refusals.specs.Outcome.{Outcome, answer, refusal, onward}
+use Rattle.std.specs.Prelude.{◌≡◌, ℕ, zero, suc, ◌+◌, ◌-◌, ◌/◌, Bool, true, cond, ◌&&◌, List, [], ◌++◌, length, nat_lt, Result}
+use Rattle.refusals.specs.declared.Refusal.{Refusal}
+use Rattle.refusals.specs.Outcome.{Outcome, answer, onward, outcome}
 use Rattle.utc.specs.iso_texts.TextCall.{buffer_holds}
 use Rattle.leap_table.specs.rows.Table.{Row}
 use Rattle.leap_table.specs.rows.Announced.{least}
 use Rattle.line_listing.specs.declared.lines.Part.{Part}
-use Rattle.line_listing.specs.declared.lines.PartAnswer.{PartAnswer}
-use Rattle.line_listing.specs.declared.lines.PartAnswer.TheVariants.{Lines, Refused}
 use Rattle.line_listing.specs.lines.StampLine.{Stamps, line_in_order, place_line, no_text_count, date_of_place, number_of_place}
 
 -- the most bytes of a line
@@ -55,12 +54,8 @@ part_answered sentences rows all order line room = record {
   textless = textless_from rows all order line (listed_count sentences order line room);
 }
 
-unfoldable pub listed_outcome : PartAnswer → Outcome Part
-listed_outcome (Lines p) = answer p
-listed_outcome (Refused k) = refusal k
-
 -- ---- the call: r answers the part by the table's rows, or the table's refusal, and the buffer, which held `before`, holds `after`
-pub record ListedCall (sentences : Bool) (table : Outcome (List Row)) (all : Stamps) (order : List ℕ) (line : ℕ) (before : List ℕ) (r : PartAnswer)
+pub record ListedCall (sentences : Bool) (table : Outcome (List Row)) (all : Stamps) (order : List ℕ) (line : ℕ) (before : List ℕ) (r : Result Part Refusal)
     (after : List ℕ) : Type 0 where
-  pub says : listed_outcome r ≡ onward table (λ rows. answer (part_answered sentences rows all order line (length before)))
+  pub says : outcome r ≡ onward table (λ rows. answer (part_answered sentences rows all order line (length before)))
   pub holds : after ≡ buffer_holds (onward table (λ rows. answer (listed_part sentences rows all order line (length before)))) before

@@ -1,19 +1,18 @@
 -- The part of the listing that one call writes. Written from the header of C, ct_line_listing_part: a caller's cursor is a line and a count, both 0 at the
 -- start; line 0 is the head, lines 1 to n those of the stamps, then comes the last line, and after it a part is empty. Refused are 18, a line of the part that
 -- names a stamp that is not there, and 11, a buffer of less than 550 bytes. Assumes nothing.
-use Rattle.std.specs.Prelude.{◌≡◌, ℕ, ◌+◌, ◌-◌, ◌%◌, ◌≤◌, Bool, cond, List, [], length, ◌==◌, nat_le}
-use Rattle.refusals.specs.Outcome.{Outcome, onward}
+use Rattle.std.specs.Prelude.{◌≡◌, ℕ, ◌+◌, ◌-◌, ◌%◌, ◌≤◌, Bool, cond, List, [], length, ◌==◌, nat_le, Result, Ok}
+use Rattle.refusals.specs.declared.Refusal.{Refusal}
+use Rattle.refusals.specs.Outcome.{Outcome, onward, outcome}
 use Rattle.utc.specs.iso_texts.TextCall.{buffer_holds}
 use Rattle.leap_table.specs.rows.Table.{Row}
 use Rattle.leap_table.specs.rows.Announced.{unless_refused}
 use Rattle.line_listing.specs.declared.head.RunEnd.{RunEnd}
 use Rattle.line_listing.specs.declared.lines.Part.{Part}
-use Rattle.line_listing.specs.declared.lines.PartAnswer.{PartAnswer}
-use Rattle.line_listing.specs.declared.lines.PartAnswer.TheVariants.{Lines}
 use Rattle.line_listing.specs.head.Counts.{kinds_in}
 use Rattle.line_listing.specs.head.Head.{head_text, end_text}
 use Rattle.line_listing.specs.lines.StampLine.{Stamps}
-use Rattle.line_listing.specs.lines.Parts.{lines_of_order, listed_count, listed_part, textless_from, absent_refusal, listed_outcome}
+use Rattle.line_listing.specs.lines.Parts.{lines_of_order, listed_count, listed_part, textless_from, absent_refusal}
 
 -- the bytes of a part, and the cursor behind it
 pub record Step : Type 0 where
@@ -59,11 +58,11 @@ step_answered s = record { written = length s.bytes; line = s.line; textless = s
 
 -- ---- the call: r answers the part by the table's rows, or a refusal, and the buffer, which held `before`, holds `after`
 pub record ListingCall (sentences : Bool) (table : Outcome (List Row)) (gps tai utc : RunEnd) (all : Stamps) (order : List ℕ) (line textless : ℕ)
-    (before : List ℕ) (r : PartAnswer) (after : List ℕ) : Type 0 where
-  pub says : listed_outcome r
+    (before : List ℕ) (r : Result Part Refusal) (after : List ℕ) : Type 0 where
+  pub says : outcome r
       ≡ onward table (λ rows. unless_refused (listing_refusal sentences (length all.numbers) order line (length before))
       (step_answered (part_from sentences rows gps tai utc all order line textless (length before))))
   pub holds : after
       ≡ buffer_holds (onward table (λ rows. unless_refused (listing_refusal sentences (length all.numbers) order line (length before))
       (part_from sentences rows gps tai utc all order line textless (length before)).bytes)) before
-  pub fits : (p : Part) → r ≡ Lines p → p.written ≤ length before
+  pub fits : (p : Part) → r ≡ Ok p → p.written ≤ length before

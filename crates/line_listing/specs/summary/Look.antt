@@ -18,8 +18,6 @@ use Rattle.utc_scales.specs.UtcTai.{tai_to_utc}
 use Rattle.since_launch.specs.Millis.{millis_from_to}
 use Rattle.line_listing.specs.declared.head.RunEnd.{RunEnd}
 use Rattle.line_listing.specs.declared.summary.Ends.{Ends}
-use Rattle.line_listing.specs.declared.summary.LookAnswer.{LookAnswer}
-use Rattle.line_listing.specs.declared.summary.LookAnswer.TheVariants as A
 use Rattle.line_listing.specs.lines.StampLine.{Stamps}
 use Rattle.line_listing.specs.head.Counts.{first_end, second_end}
 use Rattle.line_listing.specs.summary.Seen.{seen_in, ends_of}
@@ -125,7 +123,3 @@ bits a b c d = cond a 1 0 + cond b 2 0 + cond c 4 0 + cond d 8 0
 
 unfoldable pub look_of : List Row → ℕ → RunEnd → RunEnd → RunEnd → Stamps → ℕ
 look_of rows known gps tai utc all = bits (left_out all) (no_stamp gps tai utc all) (after_known rows known all) (scales_apart rows all)
-
-unfoldable pub look_outcome : LookAnswer → Outcome ℕ
-look_outcome (A.Look n) = answer n
-look_outcome (A.Refused k) = refusal k

@@ -10,7 +10,6 @@ use lib.Ieee.Bits.{of_bits-fits}
 use borrow.Author.Tests.{ltb-true, ltb-false, lt-ltb, le-ltb, not-false}
 use Rattle.rounding.specs.Value.{L}
 use Rattle.numerals.specs.little_endian.LittleEndian.{u64_at}
-use Rattle.julian.specs.declared.JulianDate.{JulianDate}
 use Rattle.julian.specs.Equality.{FiniteSums}
 use Rattle.julian.specs.Worth.{Worth}
 use Rattle.julian.specs.order.Places.{has_place, is_earlier}
@@ -18,10 +17,6 @@ use Rattle.julian.proofs.order.Exactly.{finite-error, sooner-exactly, sum-worth}
 use Rattle.line_up.specs.keep.Piles.{OrderLaws}
 use Rattle.julian.specs.stamp_lists.Stamps.{stamp_of}
 use Rattle.line_up.specs.keep.Stamps.{unordered_at, sooner_at}
-
-pub sooner-is : (js ks : List ℕ) (i j : ℕ) (a b : JulianDate) → a ≡ stamp_of js ks i → b ≡ stamp_of js ks j → is_earlier a b ≡ sooner_at js ks i j
-unfolding sooner_at
-sooner-is js ks i j a b p q = rw (p, q)
 
 module _ (js ks : List ℕ) where
   abbrev pub FiniteAt : ℕ → Type 0

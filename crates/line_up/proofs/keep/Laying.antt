@@ -9,6 +9,8 @@ use lib.Dec.{eqb, ltb}
 use lib.ListN.{length, get_or, take, drop, set, length-set}
 use lib.Seq.{slice, slice_empty, slice-cons, length-take-le, get_or-take, take-set-lt, take-suc-set, drop-append-le}
 use borrow.Author.Tests.{eqb-true, ne_eqb, le-ltb, ltb-true, ltb-false}
+use Rattle.std.specs.Prelude.{max}
+use Rattle.std.proofs.lemmas.Bool.Decides.{nat_tests}
 use Rattle.line_up.specs.keep.Piles.{piles_before, laid, piles_after, rank, all_laid, ranks, After, Rises, All, OrderLaws}
 use Rattle.line_up.specs.keep.Asked.{Searchable, tail_put, Layable, Laid}
 use Rattle.line_up.proofs.keep.Longest.{clash, laid-ok, not_before}
@@ -126,6 +128,10 @@ module _ (ok : ℕ → Type 0) (lt : ℕ → ℕ → Bool) (order : OrderLaws ok
       let k : q < length ts = omega arith in
       first-false (lt i t) i t q (piles_before lt i ts) ts refl oi os.0 os.1 r.0 k (late-within i ts q oi os.1 r.1 k e) refl
 
+-- the larger of two numbers, as `laying_goes` has it
+pub larger_is : (a b : ℕ) → max a b ≡ cond (ltb a b) b a
+larger_is a b = grind (arith, nat_tests)
+
 -- the stamps before place i are laid
 pub record Laying (ok : ℕ → Type 0) (lt : ℕ → ℕ → Bool) (ns : List ℕ) (from to : ℕ) (tails₀ rs₀ tails rs : List ℕ) (many i : ℕ) : Type 0 where
   pub tails_length : length tails ≡ length tails₀
@@ -141,19 +147,6 @@ pub record Laying (ok : ℕ → Type 0) (lt : ℕ → ℕ → Bool) (ns : List �
 module _ (ok : ℕ → Type 0) (lt : ℕ → ℕ → Bool) (order : OrderLaws ok lt) (ns : List ℕ) (from to : ℕ) (tails₀ rs₀ : List ℕ)
     (a : Layable ns from to tails₀ rs₀)
     (oks : (p : ℕ) → from ≤ p → p < to → get_or ns p 0 ≡ 0 → ok p) where
-  pub laying_starts : Laying ok lt ns from to tails₀ rs₀ tails₀ rs₀ 0 from
-  laying_starts = record {
-    tails_length = refl;
-    ranks_length = refl;
-    low = omega arith;
-    high = a.low;
-    few = omega arith;
-    all_ok = tt;
-    rises = tt;
-    whole_piles = refl;
-    whole_ranks = rw (slice_empty from rs₀);
-  }
-
   module _ (tails rs : List ℕ) (many i : ℕ) (l : Laying ok lt ns from to tails₀ rs₀ tails rs many i) (h : i < to) where
     pub many-room : many < length tails
     many-room = omega (arith, l.few, l.tails_length, a.tail_room)
@@ -243,3 +236,20 @@ module _ (ok : ℕ → Type 0) (lt : ℕ → ℕ → Bool) (order : OrderLaws ok
         piles = sym (append-nil (slice from to rs)) ∙ sym (ap (λ (j : ℕ). slice from j rs ++ []) e)
             ∙ sym (ap (λ (s : List ℕ). slice from i rs ++ ranks lt i s (take many tails)) z) ∙ l.whole_ranks;
       }
+
+-- ---- before the first stamp nothing is laid
+module _ (ok : ℕ → Type 0) (lt : ℕ → ℕ → Bool) (order : OrderLaws ok lt) (ns : List ℕ) (from to : ℕ) (tails₀ rs₀ : List ℕ)
+    (a : Layable ns from to tails₀ rs₀)
+    (oks : (p : ℕ) → from ≤ p → p < to → get_or ns p 0 ≡ 0 → ok p) where
+  pub laying_starts : Laying ok lt ns from to tails₀ rs₀ tails₀ rs₀ 0 from
+  laying_starts = record {
+    tails_length = refl;
+    ranks_length = refl;
+    low = omega arith;
+    high = a.low;
+    few = omega arith;
+    all_ok = tt;
+    rises = tt;
+    whole_piles = refl;
+    whole_ranks = rw (slice_empty from rs₀);
+  }

@@ -1,8 +1,8 @@
 -- The search for a pile. Assumes nothing.
-use Prim.Native.Nat.{ℕ, ◌+◌, ◌-◌, ◌<◌, ◌≤◌}
+use Prim.Native.Nat.{ℕ, ◌-◌, ◌<◌, ◌≤◌}
 use native.Mathlib.Omega.{arith}
 use mathlib.Core.Path.{◌≡◌, refl, sym, ap, ◌∙◌}
-use mathlib.Core.Bool.{Bool, true, false, cond}
+use mathlib.Core.Bool.{Bool, true, false}
 use mathlib.Core.List.{List}
 use lib.Dec.{ltb}
 use lib.ListN.{get_or, take}
@@ -34,30 +34,14 @@ module _ (lt : ℕ → ℕ → Bool) (tails : List ℕ) (many i : ℕ) (s : Sear
       clash (lt i (get_or tails q 0)) e (ap (lt i) (sym k) ∙ before-late lt i (take many tails) q l)
   later-behind false q h e f = ltb-false q (piles_before lt i (take many tails)) f
 
-  goes_by : (c : Bool) (low mid high : ℕ) → lt i (get_or tails mid 0) ≡ c → low ≤ mid → mid < high → Searching lt tails many i low high
-      → Searching lt tails many i (cond c low (mid + 1)) (cond c mid high)
-  goes_by true low mid high e h k g = record {
+  -- where the stamp comes before the last of a pile, its own pile is not behind that one
+  pub search_below : (low mid high t : ℕ) → t ≡ get_or tails mid 0 → lt i t ≡ true → mid < high → Searching lt tails many i low high
+      → Searching lt tails many i low mid
+  search_below low mid high t et e k g = record {
     above = g.above;
-    below = later-behind (ltb mid (piles_before lt i (take many tails))) mid (omega (arith, g.within)) e refl;
+    below = later-behind (ltb mid (piles_before lt i (take many tails))) mid (omega (arith, g.within)) (ap (lt i) (sym et) ∙ e) refl;
     within = omega (arith, g.within);
   }
-  goes_by false low mid high e h k g = record {
-    above = omega (arith, s.split mid (omega (arith, g.within)) e);
-    below = g.below;
-    within = g.within;
-  }
-
-  pub search_goes : (c : Bool) (low mid high t low' high' : ℕ) → t ≡ get_or tails mid 0 → c ≡ lt i t → low ≤ mid → mid < high
-      → Searching lt tails many i low high → low' ≡ cond c low (mid + 1) → high' ≡ cond c mid high → Searching lt tails many i low' high'
-  search_goes c low mid high t low' high' et e h k g el eh = rw (el, eh) (goes_by c low mid high (ap (lt i) (sym et) ∙ sym e) h k g)
-
-  pub search_ends : (low high : ℕ) → Searching lt tails many i low high → high ≤ low → low ≡ piles_before lt i (take many tails)
-  search_ends low high g h = omega (arith, g.above, g.below)
-
-  pub halves-fall : (c : Bool) (low mid high low' high' : ℕ) → low ≤ mid → mid < high → low' ≡ cond c low (mid + 1) → high' ≡ cond c mid high
-      → high' - low' < high - low
-  halves-fall true low mid high low' high' h k el eh = omega arith
-  halves-fall false low mid high low' high' h k el eh = omega arith
 
   pub none_before : many ≡ 0 → 0 ≡ piles_before lt i (take many tails)
   none_before e = omega (arith, before-many)

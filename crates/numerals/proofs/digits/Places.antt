@@ -7,7 +7,7 @@ use mathlib.Core.Path.{◌≡◌, refl, sym, ap, ◌∙◌, subst}
 use mathlib.Core.List.{List, [], ◌∷◌, ◌++◌, append_assoc, append-nil}
 use lib.ListN.{length, take, drop, set, length-drop, length-append, take-append-drop}
 use lib.Seq.{take_all, take-length, drop-length, drop-drop, take_at, drop-append-add, length-take-le, set_split}
-use Rattle.numerals.specs.digits.Placed.{pasted, Placed, Placing}
+use Rattle.numerals.specs.digits.Placed.{pasted, Placed, Placing, Copying}
 
 -- ---- a part that was lent, d[at..], and is back as ys
 module _ (d : List ℕ) (at : ℕ) (le : at ≤ length d) where
@@ -37,29 +37,26 @@ module _ (d : List ℕ) (at : ℕ) (le : at ≤ length d) where
       ∙ ap (λ (l : List ℕ). take at d ++ l) (append-nil ys ∙ e ∙ lent)
       ∙ take-append-drop at d
 
-  -- `bytes::copy` into d[at..]
-  pub bytes-put : (src ys : List ℕ) (n : ℕ) → n ≡ length src → ys ≡ take (length src) src ++ drop (length src) (take (length d - at) (drop at d))
-      → Placed d at src (at + n) (take at d ++ (ys ++ drop (length d - at) (drop at d)))
-  bytes-put src ys n en e =
-      record {
-        ends = ap (λ (k : ℕ). at + k) en;
-        holds = part-put src ys (e ∙ ap (λ (l : List ℕ). l ++ drop (length src) (take (length d - at) (drop at d))) (take-length src));
-      }
+  -- a copy into d[at..]
+  pub copied_behind : (src ys : List ℕ) (n : ℕ) → Copying src (take (length d - at) (drop at d)) n ys
+      → Placing d at src (at + n) (take at d ++ (ys ++ drop (length d - at) (drop at d)))
+  copied_behind src ys n c = record { written = fits; left = no }
+    where
+      fits : at + length src ≤ length d → Placed d at src (at + n) (take at d ++ (ys ++ drop (length d - at) (drop at d)))
+      fits h =
+          let e = c.copied (omega (arith, lent_length)) in
+          record {
+            ends = ap (λ (k : ℕ). at + k) e.0;
+            holds = part-put src ys (e.1 ∙ ap (λ (l : List ℕ). l ++ drop (length src) (take (length d - at) (drop at d))) (take-length src));
+          }
 
--- `bytes::copy` into all of d
-pub copied : (src d ys : List ℕ) (n : ℕ) → n ≡ length src → ys ≡ take (length src) src ++ drop (length src) d → Placed d 0 src n ys
-unfolding pasted
-copied src d ys n en e =
-    let z : length src ≡ 0 + length src = omega arith in
-    record { ends = en ∙ z; holds = e ∙ ap (λ (l : List ℕ). l ++ drop (length src) d) (take-length src) ∙ ap (λ (k : ℕ). src ++ drop k d) z }
+      no : length d < at + length src → (at + n ≡ at) × (take at d ++ (ys ++ drop (length d - at) (drop at d)) ≡ d)
+      no h = let e = c.left (omega (arith, lent_length)) in (omega (arith, e.0), part-kept ys e.1)
 
--- ---- with room, and without
+-- ---- with room
 module _ {d t : List ℕ} {at : ℕ} where
   pub all_room : {r : ℕ} {d' : List ℕ} → at + length t ≤ length d → Placed d at t r d' → Placing d at t r d'
   all_room h p = record { written = λ _. p; left = λ g. let no : ⊥ = omega arith in absurd no }
-
-  pub no_room : length d < at + length t → Placing d at t at d
-  no_room h = record { written = λ g. let no : ⊥ = omega arith in absurd no; left = λ _. (refl, refl) }
 
 -- ---- two writes
 module _ {d s t d' d'' : List ℕ} {at r r2 : ℕ} where

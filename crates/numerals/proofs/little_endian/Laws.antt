@@ -1,8 +1,9 @@
 -- What `u32_at` and `u64_at` are where the bytes are there, and where they are not. Assumes nothing.
 use Prim.Native.Nat.{ℕ, ◌+◌, ◌*◌, ◌<◌, ◌≤◌}
-use mathlib.Core.Path.{◌≡◌}
+use native.Mathlib.Omega.{arith}
+use mathlib.Core.Path.{◌≡◌, ap}
 use mathlib.Core.List.{List}
-use lib.ListN.{length}
+use lib.ListN.{length, get_or}
 use borrow.Author.Tests.{le-leb, lt-leb}
 use Rattle.numerals.specs.little_endian.LittleEndian.{four_at, u32_at, u64_at}
 
@@ -19,6 +20,16 @@ module _ (s : List ℕ) (at : ℕ) where
   unfolding u64_at
   absent64 h = simp (lt-leb _ _ h)
 
-  pub present64 : (a b : ℕ) → a ≡ four_at s at → b ≡ four_at s (at + 4) → at + 8 ≤ length s → a + 4294967296 * b ≡ u64_at s at
-  unfolding u64_at
-  present64 a b e g h = simp (le-leb _ _ h, e, g)
+  abbrev byte : ℕ → ℕ
+  byte i = get_or s (at + i) 0
+
+  same : (i : ℕ) → get_or s (at + 4 + i) 0 ≡ byte (4 + i)
+  same i = let e : at + 4 + i ≡ at + (4 + i) = omega arith in ap (λ (k : ℕ). get_or s k 0) e
+
+  -- of eight bytes as std adds them up
+  pub present64 : (n : ℕ)
+      → n
+      ≡ get_or s at 0 + byte 1 * 0x100 + byte 2 * 0x1_0000 + byte 3 * 0x100_0000 + byte 4 * 0x1_0000_0000 + byte 5 * 0x100_0000_0000
+      + byte 6 * 0x1_0000_0000_0000 + byte 7 * 0x100_0000_0000_0000 → at + 8 ≤ length s → n ≡ u64_at s at
+  unfolding u64_at four_at
+  present64 n e h = simp (le-leb _ _ h) (omega (arith, e, same 1, same 2, same 3))

@@ -1,5 +1,5 @@
 -- A number read from a part of as many bytes. Assumes nothing.
-use Prim.Native.Nat.{ℕ, ◌+◌, ◌-◌, ◌<◌, ◌≤◌}
+use Prim.Native.Nat.{ℕ, ◌+◌, ◌-◌, ◌*◌, ◌<◌, ◌≤◌}
 use native.Mathlib.Omega.{arith}
 use mathlib.Core.Path.{◌≡◌, ap, ◌∙◌}
 use mathlib.Core.List.{List}
@@ -39,3 +39,15 @@ module _ (s : List ℕ) (at : ℕ) where
   four-in-part h =
       let n : length (take 4 (drop at s)) ≡ 4 = length-take-le 4 (drop at s) (omega (arith, length-drop at s)) in
       rw (n, le-leb (at + 4) (length s) h) (four s at 4 0 (omega arith) ∙ ap (four_at s) at_0)
+
+-- ---- the part that is lent of a list of numbers, which is number i
+module _ (s : List ℕ) (i n : ℕ) where
+  pub nth_64 : n ≡ u64_at (take (8 * i + 8 - 8 * i) (drop (8 * i) s)) 0 → 8 * i + 8 ≤ length s → n ≡ u64_at s (8 * i)
+  nth_64 e h =
+      let k : 8 * i + 8 - 8 * i ≡ 8 = omega arith in
+      e ∙ ap (λ (m : ℕ). u64_at (take m (drop (8 * i) s)) 0) k ∙ eight_in_part s (8 * i) h
+
+  pub nth_32 : n ≡ u32_at (take (4 * i + 4 - 4 * i) (drop (4 * i) s)) 0 → 4 * i + 4 ≤ length s → n ≡ u32_at s (4 * i)
+  nth_32 e h =
+      let k : 4 * i + 4 - 4 * i ≡ 4 = omega arith in
+      e ∙ ap (λ (m : ℕ). u32_at (take m (drop (4 * i) s)) 0) k ∙ four-in-part s (4 * i) h

@@ -2,32 +2,30 @@
 use Prim.Native.Nat.{ℕ, ◌+◌, ◌-◌, ◌*◌, ◌<◌, ◌≤◌}
 use native.Mathlib.Omega.{arith}
 use mathlib.Core.Path.{◌≡◌, sym, ap, ◌∙◌}
-use mathlib.Core.List.{List, [], ◌∷◌, ◌++◌, append_assoc, append-nil}
-use lib.ListN.{length, take, drop, get_or, length-drop}
+use mathlib.Core.List.{List, [], ◌++◌, append_assoc, append-nil}
+use lib.ListN.{length, take, drop, length-drop}
 use lib.Seq.{sets, sets-eq, length-take-le, drop-drop, drop-length}
 use borrow.Rule.Slice.PartMut.{mid_of, post_of, put_mid}
 use borrow.Author.Tests.{le-leb, lt-leb}
 use Rattle.numerals.specs.little_endian.LittleEndian.{four_bytes, eight_bytes, with_u32, with_u64, with_nth32, with_nth64}
-
--- eight bytes one by one
-abbrev pub eight_of : List ℕ → List ℕ
-eight_of b = get_or b 0 0 ∷ get_or b 1 0 ∷ get_or b 2 0 ∷ get_or b 3 0 ∷ get_or b 4 0 ∷ get_or b 5 0 ∷ get_or b 6 0 ∷ get_or b 7 0 ∷ []
+use mathlib.Core.List.{◌∷◌}
+use lib.ListN.{get_or}
 
 pub too_few : (l : List ℕ) (n : ℕ) → length l < 8 → l ≡ with_u64 l n
 unfolding with_u64
 too_few l n h = simp (lt-leb _ _ h)
 
-pub put-at-start : (l b : List ℕ) (n : ℕ) → 8 ≤ length l → b ≡ eight_bytes n → sets l 0 (eight_of b) ≡ with_u64 l n
+pub put_at_start : (l b : List ℕ) (n : ℕ) → b ≡ eight_bytes n → 8 ≤ length l → b ++ drop 8 l ≡ with_u64 l n
 unfolding with_u64
-put-at-start l b n h e = sets-eq (eight_of b) l 0 h ∙ ap (λ (x : List ℕ). eight_of x ++ drop 8 l) e ∙ simp (le-leb _ _ h)
+put_at_start l b n e h = ap (λ (x : List ℕ). x ++ drop 8 l) e ∙ simp (le-leb _ _ h)
 
 pub too_few_4 : (l : List ℕ) (n : ℕ) → length l < 4 → l ≡ with_u32 l n
 unfolding with_u32
 too_few_4 l n h = simp (lt-leb _ _ h)
 
-pub put-4-at-start : (l : List ℕ) (n : ℕ) → 4 ≤ length l → sets l 0 (four_bytes n) ≡ with_u32 l n
+pub put_4_at_start : (l b : List ℕ) (n : ℕ) → b ≡ four_bytes n → 4 ≤ length l → b ++ drop 4 l ≡ with_u32 l n
 unfolding with_u32
-put-4-at-start l n h = sets-eq (four_bytes n) l 0 h ∙ simp (le-leb _ _ h)
+put_4_at_start l b n e h = ap (λ (x : List ℕ). x ++ drop 4 l) e ∙ simp (le-leb _ _ h)
 
 -- ---- a part of k bytes from `at` on, all of which are written
 module _ (l : List ℕ) (at k : ℕ) (h : at + k ≤ length l) where
@@ -70,17 +68,19 @@ module _ (l : List ℕ) (i n : ℕ) where
   unfolding with_nth64
   no_place_64 h = simp (lt-leb _ _ h)
 
-  pub placed-64 : (l' : List ℕ) → 8 * i + 8 ≤ length l → l' ≡ sets l (8 * i) (eight_bytes n) → l' ≡ with_nth64 l i n
+  pub nth_put_64 : (part : List ℕ) → part ≡ with_u64 (mid_of (8 * i) (8 * i + 8 - 8 * i) l) n → 8 * i + 8 ≤ length l
+      → put_mid (8 * i) (8 * i + 8 - 8 * i) l part ≡ with_nth64 l i n
   unfolding with_nth64
-  placed-64 l' h e = e ∙ simp (le-leb _ _ h)
+  nth_put_64 part e h = put_in_place l part (8 * i) (8 * i + 8 - 8 * i) n (omega arith) h e ∙ simp (le-leb _ _ h)
 
   pub no_place_32 : length l < 4 * i + 4 → l ≡ with_nth32 l i n
   unfolding with_nth32
   no_place_32 h = simp (lt-leb _ _ h)
 
-  pub placed-32 : (l' : List ℕ) → 4 * i + 4 ≤ length l → l' ≡ sets l (4 * i) (four_bytes n) → l' ≡ with_nth32 l i n
+  pub nth_put_32 : (part : List ℕ) → part ≡ with_u32 (mid_of (4 * i) (4 * i + 4 - 4 * i) l) n → 4 * i + 4 ≤ length l
+      → put_mid (4 * i) (4 * i + 4 - 4 * i) l part ≡ with_nth32 l i n
   unfolding with_nth32
-  placed-32 l' h e = e ∙ simp (le-leb _ _ h)
+  nth_put_32 part e h = put-4-in-place l part (4 * i) (4 * i + 4 - 4 * i) n (omega arith) h e ∙ simp (le-leb _ _ h)
 
   -- what a caller who knows that the place is there reads off
   pub put-64-is : 8 * i + 8 ≤ length l → with_nth64 l i n ≡ sets l (8 * i) (eight_bytes n)
@@ -90,3 +90,25 @@ module _ (l : List ℕ) (i n : ℕ) where
   pub put-32-is : 4 * i + 4 ≤ length l → with_nth32 l i n ≡ sets l (4 * i) (four_bytes n)
   unfolding with_nth32
   put-32-is h = simp (le-leb _ _ h)
+
+-- ---- the same with the bytes set one by one, from a place on: what stands after them stays as it is
+-- eight bytes one by one
+abbrev pub eight_of : List ℕ → List ℕ
+eight_of b = get_or b 0 0 ∷ get_or b 1 0 ∷ get_or b 2 0 ∷ get_or b 3 0 ∷ get_or b 4 0 ∷ get_or b 5 0 ∷ get_or b 6 0 ∷ get_or b 7 0 ∷ []
+
+pub put-at-start : (l b : List ℕ) (n : ℕ) → 8 ≤ length l → b ≡ eight_bytes n → sets l 0 (eight_of b) ≡ with_u64 l n
+unfolding with_u64
+put-at-start l b n h e = sets-eq (eight_of b) l 0 h ∙ ap (λ (x : List ℕ). eight_of x ++ drop 8 l) e ∙ simp (le-leb _ _ h)
+
+pub put-4-at-start : (l : List ℕ) (n : ℕ) → 4 ≤ length l → sets l 0 (four_bytes n) ≡ with_u32 l n
+unfolding with_u32
+put-4-at-start l n h = sets-eq (four_bytes n) l 0 h ∙ simp (le-leb _ _ h)
+
+module _ (l : List ℕ) (i n : ℕ) where
+  pub placed-64 : (l' : List ℕ) → 8 * i + 8 ≤ length l → l' ≡ sets l (8 * i) (eight_bytes n) → l' ≡ with_nth64 l i n
+  unfolding with_nth64
+  placed-64 l' h e = e ∙ simp (le-leb _ _ h)
+
+  pub placed-32 : (l' : List ℕ) → 4 * i + 4 ≤ length l → l' ≡ sets l (4 * i) (four_bytes n) → l' ≡ with_nth32 l i n
+  unfolding with_nth32
+  placed-32 l' h e = e ∙ simp (le-leb _ _ h)

@@ -1,38 +1,31 @@
--- The signed number of a pattern of 32 bits, as the machine makes it. Assumes nothing.
-use Prim.Native.Nat.{ℕ, ◌-◌, ◌<◌, ◌≤◌}
+-- The signed number of a pattern of 32 bits, as std reads it. Assumes nothing.
+use Prim.Native.Nat.{ℕ, suc, ◌-◌, ◌<◌, ◌≤◌}
 use native.Mathlib.Omega.{arith}
-use mathlib.Core.Path.{◌≡◌, refl, sym, ap, subst, ◌∙◌}
+use mathlib.Core.Path.{◌≡◌, refl, ap, subst, ◌∙◌}
 use mathlib.Core.Bool.{Bool, true, false, cond}
 use lib.Dec.{ltb}
-use lib.IntN.{ℤ, pos, negsuc, ◌-ℤ◌}
+use lib.IntN.{ℤ, pos, negsuc}
 use mir.Syntax.{w32}
 use mir.Val.{SFits, to_z, of_z}
-use mir.Facts.{to_z-of_z, to_z_pos}
-use borrow.Author.Tests.{ltb-true, ltb-false, le-ltb, lt-ltb}
+use mir.Facts.{to_z-of_z, to_z_pos, to_z-neg, sfits_to_z}
+use borrow.Author.Tests.{ltb-true, ltb-false}
 use Rattle.numerals.specs.little_endian.LittleEndian.{signed32}
-use Rattle.numerals.proofs.little_endian.Signed.{minus_one}
 
-module _ (n : ℕ) where
-  pub low-32 : n < 2147483648 → to_z w32 n ≡ signed32 n
-  unfolding signed32
-  low-32 h = to_z_pos w32 {n = n} (omega arith) ∙ simp (lt-ltb n 2147483648 h)
+pub signed_32 : (n : ℕ) → n < 4294967296 → to_z w32 n ≡ signed32 n
+unfolding signed32
+signed_32 n h = go (ltb n 2147483648) refl
+  where
+    go : (b : Bool) → ltb n 2147483648 ≡ b → to_z w32 n ≡ cond b (pos n) (negsuc (4294967295 - n))
+    go true e = to_z_pos w32 {n = n} (ltb-true n 2147483648 e)
+    go false e =
+        let l : 2147483648 ≤ n = ltb-false n 2147483648 e in
+        let k : n ≡ 4294967296 - suc (4294967295 - n) = omega arith in
+        ap (to_z w32) k ∙ to_z-neg w32 (4294967295 - n) (omega arith)
 
-  module _ (high : 2147483648 ≤ n) (wide : n ≤ 4294967295) where
-    minus : negsuc 0 -ℤ to_z w32 (4294967295 - n) ≡ negsuc (4294967295 - n)
-    minus = ap (λ (x : ℤ). negsuc 0 -ℤ x) (to_z_pos w32 {n = 4294967295 - n} (omega arith)) ∙ minus_one (4294967295 - n)
-
-    pub fits-32 : SFits w32 (negsuc 0 -ℤ to_z w32 (4294967295 - n))
-    fits-32 = subst (SFits w32) (sym minus) (record { sfits = omega arith })
-
-    pub high-32 : to_z w32 (of_z w32 (negsuc 0 -ℤ to_z w32 (4294967295 - n))) ≡ signed32 n
-    unfolding signed32
-    high-32 = to_z-of_z {w = w32} fits-32 ∙ minus ∙ simp (le-ltb n 2147483648 high)
+-- as a function hands it out
+pub of_pattern_32 : (n : ℕ) (z : ℤ) → z ≡ to_z w32 n → n < 4294967296 → to_z w32 (of_z w32 z) ≡ signed32 n
+of_pattern_32 n z e h = ap (λ (x : ℤ). to_z w32 (of_z w32 x)) e ∙ to_z-of_z {w = w32} (sfits_to_z {w = w32} {n = n} (record { fits = h })) ∙ signed_32 n h
 
 -- a pattern of 32 bits has a number of 32 bits
 pub signed-32-fits : (n : ℕ) → n ≤ 4294967295 → SFits w32 (signed32 n)
-unfolding signed32
-signed-32-fits n h = go (ltb n 2147483648) refl
-  where
-    go : (b : Bool) → ltb n 2147483648 ≡ b → SFits w32 (cond b (pos n) (negsuc (4294967295 - n)))
-    go true e = record { sfits = ltb-true n 2147483648 e }
-    go false e = record { sfits = omega (arith, ltb-false n 2147483648 e) }
+signed-32-fits n h = subst (SFits w32) (signed_32 n (omega arith)) (sfits_to_z {w = w32} {n = n} (record { fits = omega arith }))

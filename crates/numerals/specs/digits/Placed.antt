@@ -14,3 +14,8 @@ pub record Placed (d : List ℕ) (at : ℕ) (t : List ℕ) (next : ℕ) (after :
 pub record Placing (d : List ℕ) (at : ℕ) (t : List ℕ) (next : ℕ) (after : List ℕ) : Type 0 where
   pub written : at + length t ≤ length d → Placed d at t next after
   pub left : length d < at + length t → (next ≡ at) × (after ≡ d)
+
+-- t was copied to the start of d, and `count` is how many bytes it is; where it does not fit, nothing is written and `count` is 0
+pub record Copying (t d : List ℕ) (count : ℕ) (after : List ℕ) : Type 0 where
+  pub copied : length t ≤ length d → (count ≡ length t) × (after ≡ take (length t) t ++ drop (length t) d)
+  pub left : length d < length t → (count ≡ 0) × (after ≡ d)

@@ -1,5 +1,5 @@
 -- The call as a whole: the refusals of the lengths, what no refusal says, and the answer. Assumes nothing.
-use Prim.Native.Nat.{ℕ, zero, suc, ◌+◌, ◌*◌, ◌/◌, ◌%◌, ◌<◌, ◌≤◌}
+use Prim.Native.Nat.{ℕ, ◌*◌, ◌/◌, ◌%◌, ◌<◌, ◌≤◌}
 use native.Mathlib.Omega.{arith}
 use mathlib.Core.Path.{◌≡◌, refl, sym, ap, subst, ◌∙◌}
 use mathlib.Core.Bool.{Bool, true, false, cond, ◌&&◌}
@@ -7,69 +7,33 @@ use mathlib.Core.List.{List}
 use lib.Dec.{eqb, leb}
 use lib.ListN.{length, get_or, take, drop}
 use borrow.Author.Tests.{eq-eqb, ne_eqb, le-leb, lt-leb, eqb-true, leb-true}
-use Rattle.refusals.specs.Outcome.{Outcome, answer, refusal}
+use Rattle.std.specs.Prelude.{Result, Ok, Err}
+use Rattle.refusals.specs.declared.Refusal.{Refusal}
+use Rattle.refusals.specs.Refusal.{refusal_number}
+use Rattle.refusals.specs.Outcome.{Outcome, answer, refusal, number_said}
+use Rattle.refusals.proofs.Handed.{number_low}
 use Rattle.julian.specs.declared.JulianDate.{JulianDate}
 use Rattle.leap_table.specs.rows.Table.{Row}
-use Rattle.leap_table.specs.rows.Announced.{unless_refused}
-use Rattle.runs.specs.declared.by_formula.RunAnswer.TheVariants as Answer
-use Rattle.runs.specs.by_formula.Run.{run_outcome, refused_among, run_call, run_written}
+use Rattle.runs.specs.by_formula.Run.{refused_among, run_call, run_written}
 use Rattle.runs.specs.by_formula.Asked.{HasPlace, StampPut, RunPut}
 use Rattle.runs.proofs.by_formula.Puts.{Putting, at_most, put_refused, put_same, len1, len2, len3}
 use Rattle.parsing.specs.run_dates.RunDates.{date_read, text_in_place, text_date, dates_refusal, dates_by, dates_of_texts}
 use Rattle.parsing.specs.run_dates.Asked.{RoomForDates, TextThere}
 
--- ---- the refusals, by the outcomes of the tests
-module _ (size1 size2 room1 room2 room3 : ℕ) where
-  pub broken_texts : (size1 % 27 ≡ 0 → ⊥) → 14 ≡ dates_refusal size1 size2 room1 room2 room3
-  unfolding dates_refusal
-  broken_texts c = rw (ne_eqb (size1 % 27) 0 c)
-
-  module _ (c : size1 % 27 ≡ 0) where
-    pub sizes-differ : (size1 / 27 ≡ size2 → ⊥) → 12 ≡ dates_refusal size1 size2 room1 room2 room3
-    unfolding dates_refusal
-    sizes-differ e = rw (eq-eqb (size1 % 27) 0 c, ne_eqb (size1 / 27) size2 e)
-
-    module _ (e : size1 / 27 ≡ size2) where
-      pub few-first : room1 / 8 < size2 → 11 ≡ dates_refusal size1 size2 room1 room2 room3
-      unfolding dates_refusal
-      few-first f = rw (eq-eqb (size1 % 27) 0 c, eq-eqb (size1 / 27) size2 e, lt-leb (8 * size2) room1 (omega arith))
-
-      module _ (f : size2 ≤ room1 / 8) where
-        first_fits : 8 * size2 ≤ room1
-        first_fits = omega arith
-
-        pub few-second : room2 / 8 < size2 → 11 ≡ dates_refusal size1 size2 room1 room2 room3
-        unfolding dates_refusal
-        few-second g = rw (
-          eq-eqb (size1 % 27) 0 c,
-          eq-eqb (size1 / 27) size2 e,
-          le-leb (8 * size2) room1 first_fits,
-          lt-leb (8 * size2) room2 (omega arith),
-        )
-
-        module _ (g : size2 ≤ room2 / 8) where
-          second_fits : 8 * size2 ≤ room2
-          second_fits = omega arith
-
-          pub few-numbers : room3 < size2 → 11 ≡ dates_refusal size1 size2 room1 room2 room3
-          unfolding dates_refusal
-          few-numbers h = rw (
-            eq-eqb (size1 % 27) 0 c,
-            eq-eqb (size1 / 27) size2 e,
-            le-leb (8 * size2) room1 first_fits,
-            le-leb (8 * size2) room2 second_fits,
-            lt-leb size2 room3 h,
-          )
-
-          pub none-refused : size2 ≤ room3 → 0 ≡ dates_refusal size1 size2 room1 room2 room3
-          unfolding dates_refusal
-          none-refused h = rw (
-            eq-eqb (size1 % 27) 0 c,
-            eq-eqb (size1 / 27) size2 e,
-            le-leb (8 * size2) room1 first_fits,
-            le-leb (8 * size2) room2 second_fits,
-            le-leb size2 room3 h,
-          )
+-- ---- no refusal, by the tests
+pub none-refused : (size1 size2 room1 room2 room3 : ℕ) → size1 % 27 ≡ 0 → size1 / 27 ≡ size2 → size2 ≤ room1 / 8 → size2 ≤ room2 / 8 → size2 ≤ room3
+    → 0 ≡ dates_refusal size1 size2 room1 room2 room3
+unfolding dates_refusal
+none-refused size1 size2 room1 room2 room3 c e f g h =
+    let first : 8 * size2 ≤ room1 = omega arith in
+    let second : 8 * size2 ≤ room2 = omega arith in
+    rw (
+      eq-eqb (size1 % 27) 0 c,
+      eq-eqb (size1 / 27) size2 e,
+      le-leb (8 * size2) room1 first,
+      le-leb (8 * size2) room2 second,
+      le-leb size2 room3 h,
+    )
 
 -- ---- what no refusal says
 pub record Fitting (size1 size2 room1 room2 room3 : ℕ) : Type 0 where
@@ -100,10 +64,11 @@ module _ (size1 size2 room1 room2 room3 : ℕ) where
 
 -- ---- one text
 module _ (rows : List Row) (texts lengths : List ℕ) (i long : ℕ) (e : long ≡ get_or lengths i 0) where
-  pub too_long : (out1 out2 : List ℕ) → 27 < long → StampPut (text_date rows texts lengths i) i out1 out2 15 out1 out2
+  pub too_long : (number : ℕ) (out1 out2 : List ℕ) → 27 < long → number ≡ 15 → StampPut (text_date rows texts lengths i) i out1 out2 number
+      out1 out2
   unfolding text_date
-  too_long out1 out2 h =
-      put_refused (text_date rows texts lengths i) 15 i 15 out1 out2 (rw (lt-leb (get_or lengths i 0) 27 (subst (λ (m : ℕ). 27 < m) e h))) refl
+  too_long number out1 out2 h n =
+      put_refused (text_date rows texts lengths i) 15 i number out1 out2 (rw (lt-leb (get_or lengths i 0) 27 (subst (λ (m : ℕ). 27 < m) e h))) n
 
   -- k is the number of bytes that are lent
   pub text_read : {r : ℕ} {out1 out2 out1' out2' : List ℕ} {o : Outcome JulianDate} (k : ℕ) → long ≤ 27 → k ≡ long
@@ -116,8 +81,8 @@ module _ (rows : List Row) (texts lengths : List ℕ) (i long : ℕ) (e : long �
       (le-leb (get_or lengths i 0) 27 (subst (λ (m : ℕ). m ≤ 27) e h)))) p
 
 -- ---- the places of text i of n
-module _ {f : ℕ → Outcome JulianDate} {n : ℕ} {texts lengths out1₀ out2₀ numbers₀ out1 out2 numbers : List ℕ} {refused i : ℕ}
-    (room : RoomForDates n texts lengths out1₀ out2₀ numbers₀) (p : Putting f n out1₀ out2₀ numbers₀ out1 out2 numbers refused i) (h : i < n) where
+module _ {f : ℕ → Outcome JulianDate} {n : ℕ} {texts lengths out1₀ out2₀ numbers₀ out1 out2 numbers : List ℕ} {number_said i : ℕ}
+    (room : RoomForDates n texts lengths out1₀ out2₀ numbers₀) (p : Putting f n out1₀ out2₀ numbers₀ out1 out2 numbers number_said i) (h : i < n) where
   pub has-places : HasPlace i out1 out2
   has-places = (omega (arith, h, room.places1, len1 p), omega (arith, h, room.places2, len2 p))
 
@@ -127,16 +92,22 @@ module _ {f : ℕ → Outcome JulianDate} {n : ℕ} {texts lengths out1₀ out2�
   pub has-text : TextThere i texts lengths
   has-text = (omega (arith, h, room.bytes_there), omega (arith, h, room.lengths_there))
 
--- ---- the call
-module _ (rows : List Row) (texts lengths out1 out2 numbers : List ℕ) (number : ℕ)
-    (en : number ≡ dates_refusal (length texts) (length lengths) (length out1) (length out2) (length numbers)) where
-  pub run-refused : (number ≡ 0 → ⊥) → run_call (run_outcome (Answer.Refused number)) out1 out2 numbers ≡ dates_by rows texts lengths out1 out2 numbers
-  unfolding dates_by run_outcome
-  run-refused h = rw (← en, ne_eqb number 0 h)
+-- ---- the call, by the result r of the judging of its lengths
+module _ (rows : List Row) (texts lengths out1 out2 numbers : List ℕ) (r : Result Unit Refusal)
+    (er : number_said r ≡ dates_refusal (length texts) (length lengths) (length out1) (length out2) (length numbers)) where
+  pub run-refused : (k : Refusal) → r ≡ Err k → run_call (refusal (refusal_number k)) out1 out2 numbers ≡ dates_by rows texts lengths out1 out2 numbers
+  unfolding dates_by number_said
+  run-refused k p =
+      let en : refusal_number k ≡ dates_refusal (length texts) (length lengths) (length out1) (length out2) (length numbers) = sym (ap number_said p) ∙ er in
+      rw (← en, ne_eqb (refusal_number k) 0 (λ z. omega (arith, number_low k)))
 
-  module _ (z : number ≡ 0) where
+  module _ (u : Unit) (p : r ≡ Ok u) where
+    none : 0 ≡ dates_refusal (length texts) (length lengths) (length out1) (length out2) (length numbers)
+    unfolding number_said
+    none = sym (ap number_said p) ∙ er
+
     fits : Fitting (length texts) (length lengths) (length out1) (length out2) (length numbers)
-    fits = fitting (length texts) (length lengths) (length out1) (length out2) (length numbers) (sym en ∙ z)
+    fits = fitting (length texts) (length lengths) (length out1) (length out2) (length numbers) (sym none)
 
     pub roomy : RoomForDates (length lengths) texts lengths out1 out2 numbers
     roomy = record {
@@ -147,10 +118,10 @@ module _ (rows : List Row) (texts lengths out1 out2 numbers : List ℕ) (number 
       places3 = fits.bytes;
     }
 
-    pub run_ends : (r : ℕ) (out1' out2' numbers' : List ℕ) → RunPut (text_date rows texts lengths) (length lengths) out1 out2 numbers r out1' out2' numbers'
-        → run_call (run_outcome (Answer.Converted r)) out1' out2' numbers' ≡ dates_by rows texts lengths out1 out2 numbers
-    unfolding dates_by run_outcome run_written
-    run_ends r out1' out2' numbers' p = rw (← en, eq-eqb number 0 z, p.count, p.first, p.second, p.third)
+    pub run_ends : (n : ℕ) (out1' out2' numbers' : List ℕ) → RunPut (text_date rows texts lengths) (length lengths) out1 out2 numbers n out1' out2' numbers'
+        → run_call (answer n) out1' out2' numbers' ≡ dates_by rows texts lengths out1 out2 numbers
+    unfolding dates_by run_written
+    run_ends n out1' out2' numbers' q = rw (← none, q.count, q.first, q.second, q.third)
 
 -- ---- at most all texts are refused
 pub run-count : (rows : List Row) (texts lengths out1 out2 numbers : List ℕ) (k : ℕ) → answer k ≡ (dates_by rows texts lengths out1 out2 numbers).answer
@@ -168,18 +139,13 @@ run-count rows texts lengths out1 out2 numbers k e = go (eqb number 0) e
         omega (arith, same, at_most (text_date rows texts lengths) (length lengths))
     go false q = let z : ◌≡◌ {A = ℕ} 0 1 = cc q in let w : ⊥ = omega arith in absurd w
 
--- ---- the call that tests its table: the number n that is found, and the rows
-module _ (o : Outcome (List Row)) (rows : List Row) (n : ℕ) (e : unless_refused n rows ≡ o) (texts lengths out1 out2 numbers : List ℕ) where
-  pub table-refused : (n ≡ 0 → ⊥) → run_call (run_outcome (Answer.Refused n)) out1 out2 numbers ≡ dates_of_texts o texts lengths out1 out2 numbers
-  unfolding dates_of_texts run_outcome
-  table-refused h = go n h ∙ ap (λ (x : Outcome (List Row)). dates_of_texts x texts lengths out1 out2 numbers) e
-    where
-      go : (k : ℕ) → (k ≡ 0 → ⊥) → run_call (refusal k) out1 out2 numbers ≡ dates_of_texts (unless_refused k rows) texts lengths out1 out2 numbers
-      go zero h = absurd (h refl)
-      go (suc k) h = refl
+-- ---- the call that tests its table
+pub table-refused : (o : Outcome (List Row)) (k : ℕ) → refusal k ≡ o → (texts lengths out1 out2 numbers : List ℕ)
+    → run_call (refusal k) out1 out2 numbers ≡ dates_of_texts o texts lengths out1 out2 numbers
+unfolding dates_of_texts
+table-refused o k e texts lengths out1 out2 numbers = ap (λ (x : Outcome (List Row)). dates_of_texts x texts lengths out1 out2 numbers) e
 
-  pub table_taken : n ≡ 0 → dates_by rows texts lengths out1 out2 numbers ≡ dates_of_texts o texts lengths out1 out2 numbers
-  unfolding dates_of_texts
-  table_taken h =
-      ap (λ (k : ℕ). dates_of_texts (unless_refused k rows) texts lengths out1 out2 numbers) (sym h)
-      ∙ ap (λ (x : Outcome (List Row)). dates_of_texts x texts lengths out1 out2 numbers) e
+pub table_taken : (o : Outcome (List Row)) (rows : List Row) → answer rows ≡ o → (texts lengths out1 out2 numbers : List ℕ)
+    → dates_by rows texts lengths out1 out2 numbers ≡ dates_of_texts o texts lengths out1 out2 numbers
+unfolding dates_of_texts
+table_taken o rows e texts lengths out1 out2 numbers = ap (λ (x : Outcome (List Row)). dates_of_texts x texts lengths out1 out2 numbers) e

@@ -3,7 +3,6 @@
 use Prim.Native.Nat.{ℕ, zero, suc}
 use mathlib.Core.Path.{◌≡◌, refl}
 use mathlib.Core.List.{List, [], ◌∷◌, ◌++◌}
-use mathlib.Core.Bool.{true}
 use lib.Ieee.{Float, round, of_int, add, mul, div, lt, le, eq}
 use Rattle.refusals.specs.Outcome.{refusal, onward}
 use Rattle.constants.specs.Constants.{seconds_per_day}
@@ -46,7 +45,7 @@ refusals_in_order = (refl, refl, refl, refl, refl, refl, refl, refl, refl, refl)
 
 -- a day of this leap
 abbrev day_of : Float → KeptDay
-day_of x = record { serves = true; jd1 = nought; jd2 = nought; leap = x; date = nines 11 }
+day_of x = record { jd1 = nought; jd2 = nought; leap = x; date = nines 11 }
 
 -- 23:59:60.5 is not in a day of 86,400 s, whatever day was before it
 pub second-sixty : time_judged (day_of nought) (form_with 0 0 0 23 59 60 605 1) ≡ refusal 4

@@ -1,5 +1,5 @@
 -- A text by the day that is kept has the date that the single call reads. Assumes nothing.
-use Prim.Native.Nat.{ℕ, ◌+◌, ◌*◌, ◌<◌, ◌≤◌}
+use Prim.Native.Nat.{ℕ, ◌+◌, ◌*◌, ◌≤◌}
 use native.Mathlib.Omega.{arith}
 use mathlib.Core.Path.{◌≡◌, refl, sym, ap, subst, ◌∙◌}
 use mathlib.Core.Bool.{Bool, true, false, cond, ◌&&◌, and-false, false≢true}
@@ -29,14 +29,29 @@ use Rattle.parsing.specs.scan.Scan.{pairs_at, kept, FractionRun, form_with, form
 use Rattle.parsing.specs.Judging.{quotient, time_in, fields_by, judged_form}
 use Rattle.parsing.specs.Parsed.{parsed, dated, parsed_utc}
 use Rattle.parsing.specs.run_dates.RunDates.{date_read}
-use Rattle.parsing.specs.run_dates.Kept.{first_eleven, time_form, time_scanned, time_judged, time_read, Served, RightForTexts, DayOf, KeptOfText}
+use Rattle.parsing.specs.run_dates.Kept.{first_eleven, time_form, time_scanned, time_judged, time_read, IsServed, Served, RightForTexts, KeptOfText}
+use Rattle.std.specs.Prelude.{Option, Some, None}
 use Rattle.parsing.proofs.scan.Runs.{worth-most, kept-all-small}
 use Rattle.parsing.proofs.Judgement.{parsed-is}
 
--- ---- a day that serves no text
-pub no_service : (rows : List Row) (h : KeptDay) → h.serves ≡ false → RightForTexts rows h
+-- ---- no day
+some_is : Option KeptDay → Bool
+some_is (Some h) = true
+some_is None = false
+
+pub no_service : (rows : List Row) → RightForTexts rows None
+unfolding RightForTexts some_is
+no_service rows = λ h e t s. absurd (false≢true (ap some_is e))
+
+-- ---- a day that serves a text
+pub serves : (h : KeptDay) (t : List ℕ) (b : Bool) → IsServed h t b → b ≡ true → Served h t
+unfolding IsServed
+serves h t b k e = k e
+
+pub date-by-day : (rows : List Row) (k : Option KeptDay) (h : KeptDay) (t : List ℕ) → RightForTexts rows k → k ≡ Some h → Served h t
+    → date_read rows t ≡ time_read h t
 unfolding RightForTexts
-no_service rows h e = λ t s. absurd (false≢true (sym e ∙ s.serves))
+date-by-day rows k h t r e s = r h e t s
 
 -- ---- eleven bytes that are the same, each by each
 pub same-eleven : (t d : List ℕ) → get_or t 0 0 ≡ get_or d 0 0 → get_or t 1 0 ≡ get_or d 1 0 → get_or t 2 0 ≡ get_or d 2 0 → get_or t 3 0 ≡ get_or d 3 0
@@ -243,12 +258,12 @@ module _ (rows : List Row) (h : KeptDay) (t : List ℕ) (y : ℤ) (m d : ℕ)
         go false = refl
 
 -- ---- the day that is kept of a text u that was read
-pub right-day : (rows : List Row) (u : List ℕ) (p : ParsedDateTime) (midnight : JulianDate) (leap : Float) (h : KeptDay)
+pub right-day : (rows : List Row) (u : List ℕ) (p : ParsedDateTime) (midnight : JulianDate) (leap : Float) (k : Option KeptDay)
     → parsed true u ≡ answer p → from_calendar p.year p.month p.day 0 0 nought ≡ answer midnight
-    → leap_at_end_of_day rows p.year (pos p.month) (pos p.day) ≡ answer leap → KeptOfText u midnight leap h → RightForTexts rows h
+    → leap_at_end_of_day rows p.year (pos p.month) (pos p.day) ≡ answer leap → KeptOfText u midnight leap k → RightForTexts rows k
 unfolding RightForTexts KeptOfText form_at
-right-day rows u p midnight leap h read begins counts k = λ t s.
-    let q = k s.serves in
+right-day rows u p midnight leap k read begins counts day = λ h is t s.
+    let q = day h is in
     let e : first_eleven t ≡ first_eleven u = s.same ∙ ap first_eleven q.characters in
     let r = same_read u t p e (read_as u p q.in_front q.long read) in
     let blank : is_blank (get_or t 0 0) ≡ false = ap (λ (l : List ℕ). is_blank (get_or l 0 0)) e ∙ q.in_front in

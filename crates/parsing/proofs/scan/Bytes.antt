@@ -1,5 +1,5 @@
 -- The bytes of a text that the code looks at, by their index in the whole text, and the forms that they make. Assumes nothing.
-use Prim.Native.Nat.{ℕ, ◌+◌, ◌-◌, ◌*◌, ◌<◌, ◌≤◌}
+use Prim.Native.Nat.{ℕ, ◌+◌, ◌-◌, ◌<◌, ◌≤◌}
 use native.Mathlib.Omega.{arith}
 use native.Mathlib.Nat.{add-zero, add_assoc}
 use mathlib.Core.Path.{◌≡◌, refl, sym, ap, ◌∙◌, subst}
@@ -15,7 +15,7 @@ use Rattle.parsing.specs.declared.scan.Form.{Form}
 use Rattle.parsing.specs.declared.scan.Run.{Run}
 use Rattle.parsing.specs.scan.Form.{byte_at, two_digits, two_say, is_separator, fraction_digits, date_right, time_right, after_blanks, after_fraction}
 use Rattle.parsing.specs.scan.Form.{end_right, right_form}
-use Rattle.parsing.specs.scan.Scan.{pairs_at, kept, FractionRun, form_with, form_by, form_at, scan_of}
+use Rattle.parsing.specs.scan.Scan.{pairs_at, kept, FractionRun, form_by, form_at, scan_of}
 use Rattle.parsing.proofs.scan.Runs.{worth-most, kept-all-small}
 
 pub date-at : (t : List ℕ) (at : ℕ) → date_right (drop at t)
@@ -61,26 +61,6 @@ outside utc t s e r = let g : right_form utc (after_blanks t) ≡ false = ap (ri
 pub within : (utc : Bool) (t s : List ℕ) (f : Form) → s ≡ after_blanks t → right_form utc s ≡ true → f ≡ form_at s → answer f ≡ scan_of utc t
 unfolding scan_of
 within utc t s f e r i = let g : right_form utc (after_blanks t) ≡ true = ap (right_form utc) (sym e) ∙ r in rw g (ap answer (i ∙ ap form_at e))
-
--- the form that the code makes of seven numbers of two digits
-module _ (t : List ℕ) (at : ℕ) where
-  byte : (k : ℕ) → get_or t (at + k) 0 ≡ byte_at (drop at t) k
-  byte k = sym (get_or-drop at t k 0)
-
-  both : (k j : ℕ) → two_say (get_or t (at + k) 0) (get_or t (at + j) 0) ≡ two_say (byte_at (drop at t) k) (byte_at (drop at t) j)
-  both k j = λ i. two_say (byte k i) (byte j i)
-
-  pub form-made : (whole places a b m d h n s : ℕ) → a ≡ two_say (get_or t at 0) (get_or t (at + 1) 0) → b ≡ two_say (get_or t (at + 2) 0) (get_or t (at + 3) 0)
-      → m ≡ two_say (get_or t (at + 5) 0) (get_or t (at + 6) 0) → d ≡ two_say (get_or t (at + 8) 0) (get_or t (at + 9) 0)
-      → h ≡ two_say (get_or t (at + 11) 0) (get_or t (at + 12) 0)
-      → n ≡ two_say (get_or t (at + 14) 0) (get_or t (at + 15) 0) → s ≡ two_say (get_or t (at + 17) 0) (get_or t (at + 18) 0)
-      → form_with (100 * a + b) m d h n s whole places ≡ form_by (drop at t) whole places
-  form-made whole places a b m d h n s ea eb em ed eh en es =
-      let first : a ≡ two_say (byte_at (drop at t) 0) (byte_at (drop at t) 1) = ea ∙ ap (λ (k : ℕ). two_say (get_or t k 0) (get_or t (at + 1) 0))
-      (sym (add-zero at))
-      ∙ both 0 1 in
-      λ i. form_with (100 * first i + (eb ∙ both 2 3) i) ((em ∙ both 5 6) i) ((ed ∙ both 8 9) i) ((eh ∙ both 11 12) i) ((en ∙ both 14 15) i)
-      ((es ∙ both 17 18) i) whole places
 
 -- the fields, with the fraction's run
 pub form-is : (t : List ℕ) (at second : ℕ) (r : Run) (f : Form) → second ≡ two_say (get_or t (at + 17) 0) (get_or t (at + 18) 0) → FractionRun second

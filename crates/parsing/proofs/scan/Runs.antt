@@ -5,16 +5,19 @@ use native.Mathlib.Nat.{add-zero, sub_self, pow-suc, pow-le-pow_right}
 use native.Mathlib.Numerals.{add-one}
 use mathlib.Core.Path.{◌≡◌, refl, sym, ap, ◌∙◌}
 use mathlib.Core.List.{List, [], ◌∷◌}
-use mathlib.Core.Bool.{Bool, true, false, cond, ◌&&◌, and-false}
-use lib.ListN.{length, drop, get_or, drop_of_length-le, get_or-eq_default}
+use mathlib.Core.Bool.{Bool, true, false, cond}
+use lib.ListN.{length, drop, get_or, drop_of_length-le}
 use lib.Seq.{drop-cons, drop-drop, get_or-drop}
 use lib.Dec.{ltb, eqb}
 use borrow.Author.Tests.{ltb-true, ltb-false, eq-eqb, ne_eqb}
 use Rattle.numerals.specs.digits.Decimal.{is_digit}
 use Rattle.numerals.proofs.digits.Decimal.{digit_bounds}
 use Rattle.parsing.specs.declared.scan.Run.{Run}
-use Rattle.parsing.specs.scan.Form.{is_blank, after_blanks, byte_at, digit_says, leading, fraction_digits, after_fraction, zulu_first}
+use Rattle.parsing.specs.scan.Form.{is_blank, after_blanks, byte_at, digit_says, leading, fraction_digits, after_fraction}
 use Rattle.parsing.specs.scan.Scan.{joined, kept_from, kept, DigitsRun, FractionRun}
+use mathlib.Core.Bool.{◌&&◌, and-false}
+use lib.ListN.{get_or-eq_default}
+use Rattle.parsing.specs.scan.Form.{zulu_first}
 
 -- what is left from i on, where there is a byte
 byte_first : (t : List ℕ) (i : ℕ) → i < length t → drop i t ≡ get_or t i 0 ∷ drop (i + 1) t
@@ -165,41 +168,18 @@ module _ (second at : ℕ) (t : List ℕ) (whole i : ℕ) (from : at ≤ i) wher
     within = omega arith;
   }
 
-  pub run_out : length t ≤ i → i ≤ length t → RunsOn second at t whole i → DigitsRun second at t (record { whole = whole; places = i - at; end = i })
-  run_out h k r = record {
-    whole = sym (kept_out t i whole (i - at) h) ∙ r.kept;
-    places = omega (arith, leading-out t i h, r.many);
-    end = omega arith;
-    within = k;
-  }
-
--- ---- the byte at an index
--- a byte that is not 0 stands in the text
-pub byte_inside : (t : List ℕ) (at b : ℕ) → 0 < b → get_or t at 0 ≡ b → at < length t
-byte_inside t at b h e = either (ltb at (length t)) refl
-  where
-    either : (x : Bool) → ltb at (length t) ≡ x → at < length t
-    either true k = ltb-true _ _ k
-    either false k = absurd (let z : 0 ≡ b = sym (get_or-eq_default t 0 (ltb-false _ _ k)) ∙ e in let y : ⊥ = omega arith in y)
+-- all bytes are read
+pub run_out : (second at : ℕ) (t : List ℕ) (whole i : ℕ) → at ≤ length t → i ≡ length t → RunsOn second at t whole i
+    → DigitsRun second at t (record { whole = whole; places = length t - at; end = length t })
+run_out second at t whole i from e r = let h : length t ≤ i = omega arith in record {
+  whole = sym (kept_out t i whole (i - at) h) ∙ r.kept;
+  places = omega (arith, leading-out t i h, r.many);
+  end = omega arith;
+  within = omega arith;
+}
 
 first_byte : (t : List ℕ) (at : ℕ) → byte_at (drop at t) 0 ≡ get_or t at 0
 first_byte t at = simp (get_or-drop, add-zero)
-
--- ---- a zone
-module _ (utc : Bool) (at : ℕ) (t : List ℕ) where
-  pub zone-plain : utc ≡ false → drop at t ≡ cond (zulu_first utc (drop at t)) (drop 1 (drop at t)) (drop at t)
-  zone-plain e = rw e
-
-  pub zone-none : (get_or t at 0 ≡ 90 → ⊥) → drop at t ≡ cond (zulu_first utc (drop at t)) (drop 1 (drop at t)) (drop at t)
-  zone-none n =
-      let e : eqb (byte_at (drop at t) 0) 90 ≡ false = ap (λ (c : ℕ). eqb c 90) (first_byte t at) ∙ ne_eqb _ _ n in
-      sym (ap (λ (b : Bool). cond (utc && b) (drop 1 (drop at t)) (drop at t)) e ∙ ap (λ (b : Bool). cond b (drop 1 (drop at t)) (drop at t)) (and-false utc))
-
-  pub zone-zulu : utc ≡ true → get_or t at 0 ≡ 90 → drop (at + 1) t ≡ cond (zulu_first utc (drop at t)) (drop 1 (drop at t)) (drop at t)
-  zone-zulu u z =
-      let e : eqb (byte_at (drop at t) 0) 90 ≡ true = ap (λ (c : ℕ). eqb c 90) (first_byte t at) ∙ eq-eqb _ _ z in
-      sym (ap (λ (b : Bool). cond (utc && b) (drop 1 (drop at t)) (drop at t)) e ∙ ap (λ (b : Bool). cond (b && true) (drop 1 (drop at t)) (drop at t)) u
-      ∙ drop-drop 1 at t)
 
 -- ---- a fraction
 kept-none : (w place : ℕ) (s : List ℕ) → length (leading s) ≡ 0 → kept_from w place s ≡ w
@@ -251,3 +231,38 @@ module _ (second : ℕ) (at : ℕ) (t : List ℕ) where
           behind = rw k (rw (m, drop-drop) (ap (λ (n : ℕ). drop n t) (let g : r.end ≡ at + (1 + r.places) = omega (arith, d.end) in g)));
           within = d.within;
         }
+
+-- ---- the byte at an index
+-- a byte that is not 0 stands in the text
+pub byte_inside : (t : List ℕ) (at b : ℕ) → 0 < b → get_or t at 0 ≡ b → at < length t
+byte_inside t at b h e = either (ltb at (length t)) refl
+  where
+    either : (x : Bool) → ltb at (length t) ≡ x → at < length t
+    either true k = ltb-true _ _ k
+    either false k = absurd (let z : 0 ≡ b = sym (get_or-eq_default t 0 (ltb-false _ _ k)) ∙ e in let y : ⊥ = omega arith in y)
+
+-- ---- a zone
+module _ (utc : Bool) (at : ℕ) (t : List ℕ) where
+  pub zone-plain : utc ≡ false → drop at t ≡ cond (zulu_first utc (drop at t)) (drop 1 (drop at t)) (drop at t)
+  zone-plain e = rw e
+
+  pub zone-none : (get_or t at 0 ≡ 90 → ⊥) → drop at t ≡ cond (zulu_first utc (drop at t)) (drop 1 (drop at t)) (drop at t)
+  zone-none n =
+      let e : eqb (byte_at (drop at t) 0) 90 ≡ false = ap (λ (c : ℕ). eqb c 90) (first_byte t at) ∙ ne_eqb _ _ n in
+      sym (ap (λ (b : Bool). cond (utc && b) (drop 1 (drop at t)) (drop at t)) e ∙ ap (λ (b : Bool). cond b (drop 1 (drop at t)) (drop at t)) (and-false utc))
+
+  pub zone-zulu : utc ≡ true → get_or t at 0 ≡ 90 → drop (at + 1) t ≡ cond (zulu_first utc (drop at t)) (drop 1 (drop at t)) (drop at t)
+  zone-zulu u z =
+      let e : eqb (byte_at (drop at t) 0) 90 ≡ true = ap (λ (c : ℕ). eqb c 90) (first_byte t at) ∙ eq-eqb _ _ z in
+      sym (ap (λ (b : Bool). cond (utc && b) (drop 1 (drop at t)) (drop at t)) e ∙ ap (λ (b : Bool). cond (b && true) (drop 1 (drop at t)) (drop at t)) u
+      ∙ drop-drop 1 at t)
+
+-- ---- all bytes are read, at any index that is no place of the text
+pub run_out_at : (second at : ℕ) (t : List ℕ) (whole i : ℕ) → at ≤ i → length t ≤ i → i ≤ length t → RunsOn second at t whole i
+    → DigitsRun second at t (record { whole = whole; places = i - at; end = i })
+run_out_at second at t whole i from h k r = record {
+  whole = sym (kept_out t i whole (i - at) h) ∙ r.kept;
+  places = omega (arith, leading-out t i h, r.many);
+  end = omega arith;
+  within = k;
+}

@@ -1,10 +1,10 @@
 -- The day that a run of texts keeps: the bytes of its date, its midnight and its leap, and the date that a time has by it. Written from Scan, Judging and
 -- Parsed, of which the calendar's part is taken out: a text whose first eleven bytes are those of a date that was read has its midnight and its leap. This
 -- project's own; no contract of a public function cites it. Assumes nothing.
-use Rattle.std.specs.Prelude.{ℕ, ◌≤◌, ◌≡◌, Bool, true, false, cond, ◌&&◌, List, [], ◌∷◌, leb, Float, length, get_or, drop}
-use Rattle.refusals.specs.Outcome.{Outcome, answer, refusal, onward}
+use Rattle.std.specs.Prelude.{ℕ, ◌≤◌, ◌≡◌, Bool, true, false, cond, ◌&&◌, List, [], ◌∷◌, leb, Float, length, get_or, drop, Option, Some}
+use Rattle.refusals.specs.Outcome.{Outcome, answer, refusal, onward, outcome}
 use Rattle.julian.specs.declared.JulianDate.{JulianDate}
-use Rattle.julian.specs.JulianDate.{julian, julian_outcome}
+use Rattle.julian.specs.JulianDate.{julian}
 use Rattle.julian.specs.DayFraction.{day_fraction}
 use Rattle.leap_table.specs.rows.Table.{Row}
 use Rattle.utc.specs.FromCalendar.{midnight_plus}
@@ -46,7 +46,6 @@ time_read h t = onward (time_scanned t) (time_judged h)
 -- ---- the day
 -- the day h serves the text t
 pub record Served (h : KeptDay) (t : List ℕ) : Type 0 where
-  pub serves : h.serves ≡ true
   pub long : 19 ≤ length t
   pub same : first_eleven t ≡ first_eleven h.date
 
@@ -58,8 +57,8 @@ unfoldable pub IsServed : KeptDay → List ℕ → Bool → Type 0
 IsServed h t found = found ≡ true → Served h t
 
 -- where it serves a text, the time alone gives the date that the single call reads
-unfoldable pub RightForTexts : List Row → KeptDay → Type 0
-RightForTexts rows h = (t : List ℕ) → Served h t → date_read rows t ≡ time_read h t
+unfoldable pub RightForTexts : List Row → Option KeptDay → Type 0
+RightForTexts rows k = (h : KeptDay) → k ≡ Some h → (t : List ℕ) → Served h t → date_read rows t ≡ time_read h t
 
 -- h has what the texts with the date of t share: no blank stands in front of it
 pub record DayOf (t : List ℕ) (midnight : JulianDate) (leap : Float) (h : KeptDay) : Type 0 where
@@ -70,10 +69,10 @@ pub record DayOf (t : List ℕ) (midnight : JulianDate) (leap : Float) (h : Kept
   pub second : h.jd2 ≡ midnight.jd2
   pub counts : h.leap ≡ leap
 
-unfoldable pub KeptOfText : List ℕ → JulianDate → Float → KeptDay → Type 0
-KeptOfText t midnight leap h = h.serves ≡ true → DayOf t midnight leap h
+unfoldable pub KeptOfText : List ℕ → JulianDate → Float → Option KeptDay → Type 0
+KeptOfText t midnight leap k = (h : KeptDay) → k ≡ Some h → DayOf t midnight leap h
 
 -- what a text is read as is its date, and the day that is kept is right
 pub record RightRead (rows : List Row) (t : List ℕ) (r : TextRead) : Type 0 where
-  pub found : julian_outcome r.found ≡ date_read rows t
+  pub found : outcome r.found ≡ date_read rows t
   pub kept : RightForTexts rows r.kept

@@ -6,8 +6,6 @@ use Rattle.refusals.specs.Outcome.{Outcome, answer, refusal}
 use Rattle.numerals.specs.digits.Decimal.{is_digit}
 use Rattle.parsing.specs.declared.scan.Form.{Form}
 use Rattle.parsing.specs.declared.scan.Run.{Run}
-use Rattle.parsing.specs.declared.scan.Scanned.{Scanned}
-use Rattle.parsing.specs.declared.scan.Scanned.TheVariants as Scan
 use Rattle.parsing.specs.scan.Form.{byte_at, two_digits, digit_says, two_say, leading, fraction_digits, after_fraction, after_blanks, right_form}
 
 -- three numbers of two digits with a mark between them, from index i of t on; no contract of a public function cites it
@@ -55,10 +53,6 @@ form_by s whole places =
 
 unfoldable pub form_at : List ℕ → Form
 form_at s = form_by s (kept (two_say (byte_at s 17) (byte_at s 18)) (drop 19 s)) (length (fraction_digits (drop 19 s)))
-
-unfoldable pub scanned_outcome : Scanned → Outcome Form
-scanned_outcome (Scan.Within f) = answer f
-scanned_outcome Scan.Outside = refusal 15
 
 unfoldable pub scan_of : Bool → List ℕ → Outcome Form
 scan_of utc t = cond (right_form utc (after_blanks t)) (answer (form_at (after_blanks t))) (refusal 15)

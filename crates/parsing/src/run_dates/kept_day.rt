@@ -1,24 +1,23 @@
 // The day that is kept for the texts that follow: the bytes of its date, its midnight and its leap. It serves the texts that begin with the same eleven bytes,
 // of which the time alone is scanned and judged, as the single call does it; every other text is read whole.
-ghost use Rattle.std.specs.Prelude.{◌≡◌, true, false, ◌≤◌, length};
-ghost use Rattle.refusals.specs.Outcome.{answer};
-ghost use Rattle.julian.specs.JulianDate.{julian_outcome};
-ghost use Rattle.julian.specs.DayFraction.{fraction_outcome};
+// kept: where a text is refused the day of the one before stays, so that its `Err` is matched and not handed on by `?`.
+ghost use Rattle.std.specs.Prelude.{◌≡◌, true, ◌≤◌, length};
+ghost use Rattle.refusals.specs.Outcome.{answer, outcome};
 ghost use Rattle.utc.specs.FromCalendar.{midnight_plus};
-ghost use Rattle.leap_table.specs.rows.Announced.{rows_in};
+ghost use Rattle.leap_table.specs.rows.Announced.{rows_of};
 ghost use Rattle.parsing.specs.Parsed.{parsed};
-ghost use Rattle.parsing.specs.scan.Scan.{scanned_outcome};
 ghost use Rattle.parsing.specs.run_dates.Kept as K;
 
-use crate::scan::{Form, Scanned};
-use crate::{ParsedAnswer, ParsedDateTime, scan};
-use julian::{FractionAnswer, JulianAnswer, JulianDate};
-use leap_table::offsets::SecondsByRule;
+use crate::scan::Form;
+use crate::{ParsedDateTime, scan};
+use julian::JulianDate;
+use leap_table::rows::AnnouncedRows;
+use refusals::Refusal;
 
-// The day of the texts that begin with `date`: its midnight in two parts, and how much longer than 86,400 s it is. Where `serves` is false it is none.
+// The day of the texts that begin with `date`: its midnight in two parts, and how much longer than 86,400 s it is.
+// kept: two floats and no `JulianDate`: `time_judged` and `DayOf` of specs/run_dates/Kept speak of `h.jd1` and `h.jd2`.
 #[derive(Clone, Copy)]
 pub(crate) struct KeptDay {
-    pub serves: bool,
     pub jd1: f64,
     pub jd2: f64,
     pub leap: f64,
@@ -28,89 +27,53 @@ pub(crate) struct KeptDay {
 // What a text is read as, and the day that is kept for the next text.
 #[derive(Clone, Copy)]
 pub(crate) struct TextRead {
-    pub found: JulianAnswer,
-    pub kept: KeptDay,
-}
-
-// No day.
-pub(crate) fn no_day() -> KeptDay
-    ensures { result.serves ≡ false }
-{
-    KeptDay {
-        serves: false,
-        jd1: 0.0,
-        jd2: 0.0,
-        leap: 0.0,
-        date: [0; 11],
-    }
+    pub found: Result<JulianDate, Refusal>,
+    pub kept: Option<KeptDay>,
 }
 
 // Whether a text begins with these eleven bytes; the last digit of a day differs most often.
+// kept: byte by byte in this order. `text[..11] == d[..]` is slower: 35 ns for each text of a day in place of 27, and 71 in place of 61 where each has another.
+#[tactic(auto, using(crate::proofs::Found::eleven), unfolding(crate::specs::run_dates::Kept::SameDate))]
 fn same_date(text: &[u8], d: [u8; 11]) -> bool
     requires { 19 ≤ length text.now }
     ensures { K.SameDate text.now d result }
 {
-    if text[9] != d[9] {
-        return false;
-    }
-    if text[8] != d[8] {
-        return false;
-    }
-    if text[6] != d[6] {
-        return false;
-    }
-    if text[5] != d[5] {
-        return false;
-    }
-    if text[3] != d[3] {
-        return false;
-    }
-    if text[2] != d[2] {
-        return false;
-    }
-    if text[1] != d[1] {
-        return false;
-    }
-    if text[0] != d[0] {
-        return false;
-    }
-    if text[4] != d[4] {
-        return false;
-    }
-    if text[7] != d[7] {
-        return false;
-    }
-    text[10] == d[10]
+    text[9] == d[9]
+        && text[8] == d[8]
+        && text[6] == d[6]
+        && text[5] == d[5]
+        && text[3] == d[3]
+        && text[2] == d[2]
+        && text[1] == d[1]
+        && text[0] == d[0]
+        && text[4] == d[4]
+        && text[7] == d[7]
+        && text[10] == d[10]
 }
 
 // Whether the day serves a text.
-fn is_served(text: &[u8], kept: KeptDay) -> bool
-    ensures { K.IsServed kept text.now result }
+#[tactic(auto, unfolding(crate::specs::run_dates::Kept::IsServed, crate::specs::run_dates::Kept::SameDate))]
+fn is_served(text: &[u8], day: KeptDay) -> bool
+    ensures { K.IsServed day text.now result }
 {
-    if !kept.serves {
-        return false;
-    }
-    if text.len() < 19 {
-        return false;
-    }
-    let date = kept.date;
-    same_date(text, date)
+    text.len() >= 19 && same_date(text, day.date)
 }
 
 // The time of a text and what stands behind it; the date is not looked at.
-fn time_scanned(text: &[u8]) -> Scanned
+#[tactic(auto, using(crate::proofs::Found::times), unfolding(refusals::specs::Refusal::refusal_number))]
+fn time_scanned(text: &[u8]) -> Result<Form, Refusal>
     requires { 19 ≤ length text.now }
-    ensures { scanned_outcome result ≡ K.time_scanned text.now }
+    ensures { outcome result ≡ K.time_scanned text.now }
 {
     if !scan::pairs_right(text, 11, b':') {
-        return Scanned::Outside;
+        return Err(Refusal::TextOutsideGrammar);
     }
     let second = scan::two(text[17], text[18]);
     let run = scan::fraction(text, 19, second);
     if !scan::end_right(text, run.end, true) {
-        return Scanned::Outside;
+        return Err(Refusal::TextOutsideGrammar);
     }
-    Scanned::Within(Form {
+    Ok(Form {
         year: 0,
         month: 0,
         day: 0,
@@ -123,28 +86,24 @@ fn time_scanned(text: &[u8]) -> Scanned
 }
 
 // The date of a midnight and a fraction of its day, or the refusal.
-fn at_time(midnight: JulianDate, fraction: FractionAnswer) -> JulianAnswer
-    ensures { julian_outcome result ≡ midnight_plus midnight (fraction_outcome fraction) }
+#[tactic(auto, using(refusals::proofs::Handed::handed_by), unfolding(utc::specs::FromCalendar::midnight_plus))]
+fn at_time(midnight: JulianDate, fraction: Result<f64, Refusal>) -> Result<JulianDate, Refusal>
+    ensures { outcome result ≡ midnight_plus midnight (outcome fraction) }
 {
-    match fraction {
-        FractionAnswer::Refused(number) => JulianAnswer::Refused(number),
-        FractionAnswer::Fraction(f) => JulianAnswer::Date(JulianDate::new(
-            midnight.jd1,
-            midnight.jd2 + f,
-        )),
-    }
+    Ok(JulianDate::new(midnight.jd1, midnight.jd2 + fraction?))
 }
 
 // The date of a time of the day. Refusals in order: 16 the digits of the fraction, 4 the time.
-fn time_judged(form: Form, kept: KeptDay) -> JulianAnswer
+#[tactic(auto, using(refusals::proofs::Handed::handed_by), unfolding(crate::specs::run_dates::Kept::time_judged, refusals::specs::Refusal::refusal_number))]
+fn time_judged(form: Form, kept: KeptDay) -> Result<JulianDate, Refusal>
     requires { form.whole ≤ 1000000000000000 }
-    ensures { julian_outcome result ≡ K.time_judged kept form }
+    ensures { outcome result ≡ K.time_judged kept form }
 {
     if form.places > 13 {
-        return JulianAnswer::Refused(refusals::TOO_MANY_FRACTION_DIGITS);
+        return Err(Refusal::TooManyFractionDigits);
     }
     if !crate::time_in(form) {
-        return JulianAnswer::Refused(refusals::TIME_NOT_IN_DAY);
+        return Err(Refusal::TimeNotInDay);
     }
     let second = crate::second_of(form.whole, form.places);
     let fraction = julian::day_fraction(form.hour, form.minute, second, kept.leap);
@@ -152,28 +111,23 @@ fn time_judged(form: Form, kept: KeptDay) -> JulianAnswer
 }
 
 // The date of a text that the day serves.
-fn time_read(text: &[u8], kept: KeptDay) -> JulianAnswer
+#[tactic(auto, using(crate::proofs::Found::small), unfolding(crate::specs::run_dates::Kept::time_read))]
+fn time_read(text: &[u8], kept: KeptDay) -> Result<JulianDate, Refusal>
     requires { 19 ≤ length text.now }
-    ensures { julian_outcome result ≡ K.time_read kept text.now }
+    ensures { outcome result ≡ K.time_read kept text.now }
 {
-    match time_scanned(text) {
-        Scanned::Outside => JulianAnswer::Refused(refusals::TEXT_OUTSIDE_GRAMMAR),
-        Scanned::Within(form) => time_judged(form, kept),
-    }
+    time_judged(time_scanned(text)?, kept)
 }
 
 // What is kept of the day of a text: nothing where a blank stands in front of its date.
-fn kept_of(text: &[u8], midnight: JulianDate, leap: f64) -> KeptDay
+#[tactic(auto, unfolding(crate::specs::run_dates::Kept::KeptOfText))]
+fn kept_of(text: &[u8], midnight: JulianDate, leap: f64) -> Option<KeptDay>
     ensures { K.KeptOfText text.now midnight leap result }
 {
-    if text.len() < 19 {
-        return no_day();
+    if text.len() < 19 || scan::blank(text[0]) {
+        return None;
     }
-    if scan::blank(text[0]) {
-        return no_day();
-    }
-    KeptDay {
-        serves: true,
+    Some(KeptDay {
         jd1: midnight.jd1,
         jd2: midnight.jd2,
         leap,
@@ -181,39 +135,35 @@ fn kept_of(text: &[u8], midnight: JulianDate, leap: f64) -> KeptDay
             text[0], text[1], text[2], text[3], text[4], text[5], text[6], text[7], text[8],
             text[9], text[10],
         ],
-    }
+    })
 }
 
 // The date of the fields of a text, and the day that is kept: that of the text, and where its date is refused the one before.
-fn dated_anew<'a>(
+fn dated_anew(
     text: &[u8],
     fields: ParsedDateTime,
-    kept: KeptDay,
-    size: usize,
-    months: &'a [i32; 16],
-    seconds: &'a [i32; 16],
+    kept: Option<KeptDay>,
+    table: &AnnouncedRows,
 ) -> TextRead
-    requires { (parsed true text.now ≡ answer fields) × K.RightForTexts (rows_in size months.now seconds.now) kept }
-    ensures { K.RightRead (rows_in size months.now seconds.now) text.now result }
+    requires { (parsed true text.now ≡ answer fields) × K.RightForTexts (rows_of table.now) kept }
+    ensures { K.RightRead (rows_of table.now) text.now result }
 {
     match JulianDate::from_calendar(fields.year, fields.month, fields.day, 0, 0, 0.0) {
-        JulianAnswer::Refused(number) => TextRead {
-            found: JulianAnswer::Refused(number),
+        Err(refusal) => TextRead {
+            found: Err(refusal),
             kept,
         },
-        JulianAnswer::Date(midnight) => match leap_table::offsets::leap_at_end_of_day_by_arrays(
+        Ok(midnight) => match leap_table::offsets::leap_at_end_of_day_by_rows(
             fields.year,
             fields.month as i32,
             fields.day as i32,
-            size,
-            months,
-            seconds,
+            table,
         ) {
-            SecondsByRule::Refused(number) => TextRead {
-                found: JulianAnswer::Refused(number),
+            Err(refusal) => TextRead {
+                found: Err(refusal),
                 kept,
             },
-            SecondsByRule::Seconds(leap, _) => {
+            Ok((leap, _)) => {
                 let fraction = julian::day_fraction(
                     fields.hour,
                     fields.minute,
@@ -229,25 +179,22 @@ fn dated_anew<'a>(
 }
 
 // Reads a text, by the day that is kept where it serves.
-pub(crate) fn read_text<'a>(
-    text: &[u8],
-    kept: KeptDay,
-    size: usize,
-    months: &'a [i32; 16],
-    seconds: &'a [i32; 16],
-) -> TextRead
-    requires { K.RightForTexts (rows_in size months.now seconds.now) kept }
-    ensures { K.RightRead (rows_in size months.now seconds.now) text.now result }
+#[tactic(auto, using(crate::proofs::Found::served), unfolding(crate::specs::run_dates::RunDates::date_read, crate::specs::Parsed::parsed_utc))]
+pub(crate) fn read_text(text: &[u8], kept: Option<KeptDay>, table: &AnnouncedRows) -> TextRead
+    requires { K.RightForTexts (rows_of table.now) kept }
+    ensures { K.RightRead (rows_of table.now) text.now result }
 {
-    if is_served(text, kept) {
-        let found = time_read(text, kept);
+    if let Some(day) = kept
+        && is_served(text, day)
+    {
+        let found = time_read(text, day);
         return TextRead { found, kept };
     }
     match crate::parse(text, true) {
-        ParsedAnswer::Refused(number) => TextRead {
-            found: JulianAnswer::Refused(number),
+        Err(refusal) => TextRead {
+            found: Err(refusal),
             kept,
         },
-        ParsedAnswer::Fields(fields) => dated_anew(text, fields, kept, size, months, seconds),
+        Ok(fields) => dated_anew(text, fields, kept, table),
     }
 }

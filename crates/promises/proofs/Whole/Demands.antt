@@ -5,7 +5,9 @@ use mathlib.Core.List.{List}
 use Prim.Native.Nat.{ℕ}
 use lib.Ieee.{Float}
 use lib.Ieee.Scale.{finite}
-use Rattle.refusals.specs.Outcome.{Outcome, answer, refusal, onward}
+use Rattle.std.specs.Prelude.{Err}
+use Rattle.refusals.specs.declared.Refusal.{Refusal}
+use Rattle.refusals.specs.Outcome.{Outcome, answer, refusal, onward, outcome}
 use Rattle.refusals.proofs.Onward.{stopped}
 use Rattle.julian.specs.declared.JulianDate.{JulianDate}
 use Rattle.julian.specs.Finite.{finite_parts}
@@ -43,10 +45,7 @@ use Rattle.utc_scales.proofs.ut1_laws.Ut1.{table-utc-to-ut1-means}
 use Rattle.utc_scales.proofs.ut1_laws.Back.{table-ut1-to-utc-means}
 use Rattle.leap_table.specs.declared.offsets.Rule.{Rule}
 use Rattle.leap_table.specs.offsets.Rule.{forget}
-use Rattle.utc.specs.declared.text.TextAnswer.TheVariants.{Refused}
-use Rattle.utc.specs.declared.iso_texts.TextByRule.TheVariants as Ruled
-use Rattle.utc.specs.text.Answer.{text_outcome}
-use Rattle.utc.specs.iso_texts.ByRule.{TextRuleCall, text_by_rule_outcome}
+use Rattle.utc.specs.iso_texts.ByRule.{TextRuleCall}
 use Rattle.utc.proofs.iso_texts.TextRules.{rule-call-forgets}
 use Rattle.utc.proofs.laws.Numbers as Text
 use Rattle.utc.proofs.laws.HalfEvenTexts.{even-not-finite}
@@ -123,9 +122,9 @@ pub calendar-not-finite : (x y : Float) → finite x && finite y ≡ false → j
 unfolding julian_to_calendar
 calendar-not-finite x y h = stopped _ (DayNumber.not_finite x y h)
 
-pub refused-stays : (o : Outcome (List ℕ × Rule)) (before after : List ℕ) (n : ℕ) → TextRuleCall o before (Ruled.Refused n) after → after ≡ before
-unfolding text_outcome text_by_rule_outcome forget onward
-refused-stays o before after n c = nothing_written (forget o) before after n (rule-call-forgets o before after (Ruled.Refused n) (Refused n) refl c)
+pub refused-stays : (o : Outcome (List ℕ × Rule)) (before after : List ℕ) (k : Refusal) → TextRuleCall o before (Err k) after → after ≡ before
+unfolding outcome forget onward
+refused-stays o before after k c = nothing_written (forget o) before after k (rule-call-forgets o before after (Err k) (Err k) refl c)
 
 -- ---- the demands
 module _ (t : AnnouncedRows) (rows : List Row) (e : table_of t ≡ answer rows) where

@@ -1,12 +1,14 @@
 -- THREE RECORDERS, THEIR RUNS, THEIR LINE AND THEIR PLACES, for every table that is taken. Assumes nothing.
-use mathlib.Core.Path.{◌≡◌, refl, sym, ap, ◌∙◌}
+use mathlib.Core.Path.{◌≡◌, sym, ap, ◌∙◌}
 use mathlib.Core.List.{List}
 use Prim.Native.Nat.{ℕ, ◌+◌, ◌-◌, ◌*◌, ◌^◌, ◌≤◌}
 use native.Mathlib.Omega.{arith}
 use native.Mathlib.Nat.{mul-add, mul_assoc, mul_comm, mul-le-mul_left, mul-pos}
 use lib.Dec.{lit<}
 use lib.ListN.{length}
-use Rattle.refusals.specs.Outcome.{answer}
+use Rattle.std.specs.Prelude.{Result}
+use Rattle.refusals.specs.declared.Refusal.{Refusal}
+use Rattle.refusals.specs.Outcome.{answer, outcome}
 use Rattle.rounding.specs.Value.{L}
 use Rattle.rounding.proofs.Value.{L-pos}
 use Rattle.ticks.specs.judging.Refusing.{number_at}
@@ -19,8 +21,7 @@ use Rattle.stamps.proofs.listing_laws.NotFinite.{not_finite_refused, not_finite_
 use Rattle.runs.specs.Run.{run_refusal}
 use Rattle.runs.proofs.laws.Theorems as Runs
 use Rattle.line_up.proofs.laws.Theorems as Lines
-use Rattle.ticks.specs.declared.places.PlacesAnswer.{PlacesAnswer}
-use Rattle.ticks.specs.places.Places.{places_outcome, places_call, placed_run}
+use Rattle.ticks.specs.places.Places.{places_call, placed_run}
 use Rattle.ticks.proofs.laws.Readings.{readings_mean, readings_near}
 use Rattle.since_launch.proofs.laws.OnGrid.{on-grid-nearest}
 use Rattle.since_launch.proofs.laws.Anywhere.{anywhere_near}
@@ -47,7 +48,7 @@ run rows from to js ks out1 out2 numbers z = record {
 pub line : (js ks ns : List ℕ) (first second : ℕ) (out : List ℕ) (tails ranks : ℕ) → Line js ks ns first second out tails ranks
 line = Lines.lined-up
 
-pub places : (ps ls ms ns before ns' after : List ℕ) (r : PlacesAnswer) → places_call (places_outcome r) after ns' ≡ placed_run ps ls ms before ns
+pub places : (ps ls ms ns before ns' after : List ℕ) (r : Result ℕ Refusal) → places_call (outcome r) after ns' ≡ placed_run ps ls ms before ns
     → Places ps ls ms ns before r ns' after
 places ps ls ms ns before ns' after r e = record {
   call = readings_mean ps ls ms ns before ns' after r e;

@@ -7,6 +7,8 @@ use lib.ListN.{length}
 use lib.IntN.{pos, negsuc}
 use mathlib.Core.Bool.{false}
 use lib.Ieee.{Float, lt, of_bits}
+use Rattle.std.specs.Prelude.{Result}
+use Rattle.refusals.specs.declared.Refusal.{Refusal}
 use Rattle.refusals.specs.Outcome.{answer}
 use Rattle.floats.specs.Whole.{abs, away}
 use Rattle.calendar.specs.Gregorian.{gregorian_date}
@@ -69,7 +71,6 @@ use Rattle.stamps.specs.declared.Reporting.TheVariants.{Numbers, Sentences}
 use Rattle.stamps.proofs.reason_laws.ReadBack.{same-sentence}
 use Rattle.stamps.proofs.listing_laws.Whole.{parts-alike}
 use Rattle.stamps.proofs.listing_laws.Longest.{number-line-most, longest-line}
-use Rattle.ticks.specs.declared.TicksAnswer.{TicksAnswer}
 use Rattle.ticks.specs.Ticks.{TicksCall, placed_ticks}
 use Rattle.ticks.proofs.laws.Call.{call-means}
 use Rattle.standby_laws.proofs.Quarters.{quarters-hold, quarters-least}
@@ -127,7 +128,7 @@ request_7 = record {
 pub request_9 : R.Request9
 request_9 = record { same_is = Stamps.same_is; is_same = Stamps.is_same; equal_too = same-implies-equal }
 
-pub request_10 : (ps ms ts before after : List ℕ) (r : TicksAnswer) → TicksCall (placed_ticks ps ms ts (length before)) before r after
+pub request_10 : (ps ms ts before after : List ℕ) (r : Result ℕ Refusal) → TicksCall (placed_ticks ps ms ts (length before)) before r after
     → R.Request10 ps ms ts before after r
 request_10 ps ms ts before after r c = record {
   placed = (call-means ps ms ts before after r c).placed;

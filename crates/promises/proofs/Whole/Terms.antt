@@ -10,7 +10,9 @@ use lib.IntN.{ℤ, nat_abs}
 use lib.ListN.{length}
 use lib.Ieee.{Float, lt, of_bits}
 use borrow.Author.Tests.{ltb-true, ltb-false, lt-leb}
-use Rattle.refusals.specs.Outcome.{Outcome, answer, refusal, onward}
+use Rattle.std.specs.Prelude.{Result}
+use Rattle.refusals.specs.declared.Refusal.{Refusal}
+use Rattle.refusals.specs.Outcome.{Outcome, answer, refusal, onward, outcome}
 use Rattle.refusals.proofs.Onward.{came, went}
 use Rattle.julian.specs.declared.CalendarFields.{CalendarFields}
 use Rattle.julian.specs.declared.JulianDate.{JulianDate}
@@ -28,7 +30,6 @@ use Rattle.leap_table.specs.walk.Walk.{Walked, month_in, walked, walk_of}
 use Rattle.leap_table.specs.walk.Rows.{compared}
 use Rattle.leap_table.specs.walk.Lists.{walk_of_numbers}
 use Rattle.leap_table.specs.walk.Due.{triple_numbers}
-use Rattle.leap_table.specs.walk.Call.{walk_outcome}
 use Rattle.leap_table.proofs.walk.OfCall.{walk_of-numbers, numbers-offset, numbers-behind}
 use Rattle.leap_table.proofs.offsets.RuleLaws as Rules
 use Rattle.leap_table.proofs.offsets.Rules.{offset-forgets}
@@ -43,8 +44,7 @@ use Rattle.utc_scales.specs.to_ut1.UtcUt1.{utc_to_ut1}
 use Rattle.utc_scales.proofs.days.Rules.{taken-apart}
 use Rattle.utc_scales.proofs.Rules.{utc-to-tai-forgets}
 use Rattle.utc_scales.proofs.to_ut1.Rules.{utc-to-ut1-forgets}
-use Rattle.utc.specs.declared.text.TextAnswer.{TextAnswer}
-use Rattle.utc.specs.text.Answer.{text_outcome, text_written}
+use Rattle.utc.specs.text.Answer.{text_written}
 use Rattle.utc.specs.iso_texts.TextCall.{written, TextCall}
 use Rattle.utc.specs.iso_texts.IsoText.{day_text_by}
 use Rattle.utc.specs.iso_texts.TextForm.{TextForm}
@@ -103,7 +103,7 @@ module _ (t : AnnouncedRows) (rows : List Row) (e : table_of t ≡ answer rows) 
 
   pub rows_counted : (ds : List Triple) (d : Triple) (before after : List Float) (c : ℕ) → Walks t ds before c after
       → c ≡ compared (starts rows) (map month_in ds)
-  unfolding walk_outcome
+  unfolding outcome
   rows_counted ds d before after c call =
       let next : List Row → Outcome Walked = λ l. walk_of_numbers l (triple_numbers ds) (length before) in
       let (w, p, q) = came (onward (table_of t) next) (λ k. answer k.rows_compared) c (sym call.says) in
@@ -114,8 +114,8 @@ module _ (t : AnnouncedRows) (rows : List Row) (e : table_of t ≡ answer rows) 
       ∙ ap (λ (k : List Row). compared (starts k) (map month_in ds)) same
 
 -- ---- a sentence that is longer than its buffer
-pub too_long : (k : ℕ) (v : Values) (s before after : List ℕ) (r : TextAnswer) → sentence k v ≡ answer s → length before < length s
-    → TextCall (sentence k v) before r after → text_outcome r ≡ refusal 11
+pub too_long : (k : ℕ) (v : Values) (s before after : List ℕ) (r : Result ℕ Refusal) → sentence k v ≡ answer s → length before < length s
+    → TextCall (sentence k v) before r after → outcome r ≡ refusal 11
 unfolding written text_written
 too_long k v s before after r e h call =
     call.says ∙ went (λ (x : List ℕ). text_written x (length before)) e

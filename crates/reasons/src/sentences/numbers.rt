@@ -15,6 +15,7 @@ pub fn place_decimal(n: u64, dst: &mut [u8], at: usize) -> usize
     let mut all = [0u8; 20];
     let mut rest = n;
     let mut i = 20;
+    // kept: no plainer: how many pairs of digits a number has is not known before, and a `for` would have to count them first.
     while rest >= 100 {
         let pair = (rest % 100) as u8;
         i -= 1;
@@ -33,24 +34,13 @@ pub fn place_decimal(n: u64, dst: &mut [u8], at: usize) -> usize
     place_bytes(&all[i..], dst, at)
 }
 
-// A number without its sign.
-fn size(n: i32) -> u32
-    ensures { result ≡ nat_abs n }
-{
-    if n < 0 {
-        (0 - (n as i64)) as u32
-    } else {
-        n as u32
-    }
-}
-
 // A whole number, with a sign where it is below 0.
 pub(crate) fn signed(n: i32, dst: &mut [u8], at: usize) -> usize
     requires { at + 21 ≤ length dst.old }
     ensures placed { Placed dst.old at (signed_digits n) result dst.new }
     ensures upper_bound { result ≤ at + 21 }
 {
-    let digits = size(n) as u64;
+    let digits = n.unsigned_abs() as u64;
     if n < 0 {
         let next = place_bytes(b"-", dst, at);
         return place_decimal(digits, dst, next);
@@ -68,6 +58,7 @@ fn hex_digit(d: u64) -> u8
 }
 
 // The 16 hexadecimal digits of a number.
+#[tactic(auto, unfolding(numerals::specs::digits::Hexadecimal::hex16, numerals::specs::digits::Hexadecimal::hex_digits))]
 fn sixteen(n: u64) -> [u8; 16]
     ensures { result ≡ hex16 n }
 {

@@ -9,6 +9,7 @@ use crate::sentences::{Named, numbers};
 use numerals::place::place_bytes;
 
 // The text of a number at the start of a slice. No number past 28 has one.
+#[tactic(auto, unfolding(crate::specs::sentences::Texts::fixed_text, crate::specs::sentences::Texts::texts))]
 pub(crate) fn text(number: u32, dst: &mut [u8]) -> usize
     ensures { Placing dst.old 0 (fixed_text number) result dst.new }
 {
@@ -49,6 +50,7 @@ pub(crate) fn text(number: u32, dst: &mut [u8]) -> usize
     }
 }
 
+// kept: three functions, since each of the three kinds of values is written by a function of its own, and a closure for it would be no plainer.
 // A field's word, and a whole number that may be below 0.
 fn signed(word: &[u8], n: i32, dst: &mut [u8], at: usize) -> usize
     requires { (length word.now ≤ 14) × (at + 40 ≤ length dst.old) }
@@ -80,6 +82,7 @@ fn float(word: &[u8], x: f64, dst: &mut [u8], at: usize) -> usize
 }
 
 // The word and the value of the field that is named.
+#[tactic(auto, unfolding(crate::specs::sentences::Render::named_text))]
 pub(crate) fn named(field: Named, dst: &mut [u8], at: usize) -> usize
     requires { at + 40 ≤ length dst.old }
     ensures placed { Placed dst.old at (named_text field) result dst.new }

@@ -1,5 +1,5 @@
 -- The call as a whole: the refusals, what no refusal says, and the answer. Assumes nothing.
-use Prim.Native.Nat.{ℕ, ◌*◌, ◌/◌, ◌%◌, ◌<◌, ◌≤◌}
+use Prim.Native.Nat.{ℕ, ◌*◌, ◌/◌, ◌%◌, ◌≤◌}
 use native.Mathlib.Omega.{arith}
 use native.Mathlib.Nat.{div-mul-le_self}
 use mathlib.Core.Path.{◌≡◌, refl, sym, ap, ◌∙◌}
@@ -8,109 +8,18 @@ use mathlib.Core.List.{List}
 use lib.Dec.{eqb, leb}
 use lib.ListN.{length}
 use lib.Ieee.{Float, binary64, of_bits}
-use borrow.Author.Tests.{eq-eqb, ne_eqb, le-leb, lt-leb, eqb-true, leb-true}
-use Rattle.refusals.specs.Outcome.{answer, refusal}
+use borrow.Author.Tests.{ne_eqb, eqb-true, leb-true}
+use Rattle.std.specs.Prelude.{Result, Ok, IsErrAnd}
+use Rattle.refusals.specs.declared.Refusal.{Refusal}
+use Rattle.refusals.specs.Refusal.{refusal_number}
+use Rattle.refusals.proofs.Handed.{handed_on, number_low}
+use Rattle.refusals.specs.Outcome.{answer, refusal, outcome}
 use Rattle.numerals.specs.little_endian.LittleEndian.{u64_at}
 use Rattle.julian.specs.stamp_lists.Stamps.{stamp_of}
-use Rattle.runs.specs.declared.by_formula.RunAnswer.TheVariants as Answer
-use Rattle.runs.specs.by_formula.Run.{run_outcome, refused_among, run_call, run_written}
+use Rattle.runs.specs.by_formula.Run.{refused_among, run_call, run_written}
 use Rattle.runs.specs.by_formula.Formula.{formula_answer, formula_refusal, formula_run}
 use Rattle.runs.specs.by_formula.Asked.{Roomy, RunPut, change_of, answer_of_kind, size_due, kind_refusal, IsFormula, changed_stamp, offset_stamp}
 use Rattle.runs.proofs.by_formula.Puts.{run-same, at_most}
-
--- ---- the refusals, by the outcomes of the tests
-module _ (kind size1 size2 size3 room1 room2 room : ℕ) where
-  pub no_pair : kind ≡ 0 → 18 ≡ kind_refusal kind size1 size2 size3 room1 room2 room
-  unfolding kind_refusal
-  no_pair a = rw (eq-eqb kind 0 a)
-
-  module _ (a : kind ≡ 0 → ⊥) where
-    pub broken_first : (size1 % 8 ≡ 0 → ⊥) → 14 ≡ kind_refusal kind size1 size2 size3 room1 room2 room
-    unfolding kind_refusal
-    broken_first b = rw (ne_eqb kind 0 a, ne_eqb (size1 % 8) 0 b)
-
-    module _ (b : size1 % 8 ≡ 0) where
-      pub broken_second : (size2 % 8 ≡ 0 → ⊥) → 14 ≡ kind_refusal kind size1 size2 size3 room1 room2 room
-      unfolding kind_refusal
-      broken_second c = rw (ne_eqb kind 0 a, eq-eqb (size1 % 8) 0 b, ne_eqb (size2 % 8) 0 c)
-
-      module _ (c : size2 % 8 ≡ 0) where
-        pub broken_third : (size3 % 8 ≡ 0 → ⊥) → 14 ≡ kind_refusal kind size1 size2 size3 room1 room2 room
-        unfolding kind_refusal
-        broken_third d = rw (ne_eqb kind 0 a, eq-eqb (size1 % 8) 0 b, eq-eqb (size2 % 8) 0 c, ne_eqb (size3 % 8) 0 d)
-
-        module _ (d : size3 % 8 ≡ 0) where
-          pub parts-differ : (size1 ≡ size2 → ⊥) → 12 ≡ kind_refusal kind size1 size2 size3 room1 room2 room
-          unfolding kind_refusal
-          parts-differ e = rw (ne_eqb kind 0 a, eq-eqb (size1 % 8) 0 b, eq-eqb (size2 % 8) 0 c, eq-eqb (size3 % 8) 0 d, ne_eqb size1 size2 e)
-
-          module _ (e : size1 ≡ size2) where
-            pub offsets-differ : (size3 ≡ size_due kind size1 → ⊥) → 12 ≡ kind_refusal kind size1 size2 size3 room1 room2 room
-            unfolding kind_refusal
-            offsets-differ f = rw (
-              ne_eqb kind 0 a,
-              eq-eqb (size1 % 8) 0 b,
-              eq-eqb (size2 % 8) 0 c,
-              eq-eqb (size3 % 8) 0 d,
-              eq-eqb size1 size2 e,
-              ne_eqb size3 (size_due kind size1) f,
-            )
-
-            module _ (f : size3 ≡ size_due kind size1) where
-              pub few-first : room1 < size1 → 11 ≡ kind_refusal kind size1 size2 size3 room1 room2 room
-              unfolding kind_refusal
-              few-first g = rw (
-                ne_eqb kind 0 a,
-                eq-eqb (size1 % 8) 0 b,
-                eq-eqb (size2 % 8) 0 c,
-                eq-eqb (size3 % 8) 0 d,
-                eq-eqb size1 size2 e,
-                eq-eqb size3 (size_due kind size1) f,
-                lt-leb size1 room1 g,
-              )
-
-              module _ (g : size1 ≤ room1) where
-                pub few-second : room2 < size1 → 11 ≡ kind_refusal kind size1 size2 size3 room1 room2 room
-                unfolding kind_refusal
-                few-second h = rw (
-                  ne_eqb kind 0 a,
-                  eq-eqb (size1 % 8) 0 b,
-                  eq-eqb (size2 % 8) 0 c,
-                  eq-eqb (size3 % 8) 0 d,
-                  eq-eqb size1 size2 e,
-                  eq-eqb size3 (size_due kind size1) f,
-                  le-leb size1 room1 g,
-                  lt-leb size1 room2 h,
-                )
-
-                module _ (h : size1 ≤ room2) where
-                  pub few-numbers : room < size1 / 8 → 11 ≡ kind_refusal kind size1 size2 size3 room1 room2 room
-                  unfolding kind_refusal
-                  few-numbers k = rw (
-                    ne_eqb kind 0 a,
-                    eq-eqb (size1 % 8) 0 b,
-                    eq-eqb (size2 % 8) 0 c,
-                    eq-eqb (size3 % 8) 0 d,
-                    eq-eqb size1 size2 e,
-                    eq-eqb size3 (size_due kind size1) f,
-                    le-leb size1 room1 g,
-                    le-leb size1 room2 h,
-                    lt-leb (size1 / 8) room k,
-                  )
-
-                  pub none-refused : size1 / 8 ≤ room → 0 ≡ kind_refusal kind size1 size2 size3 room1 room2 room
-                  unfolding kind_refusal
-                  none-refused k = rw (
-                    ne_eqb kind 0 a,
-                    eq-eqb (size1 % 8) 0 b,
-                    eq-eqb (size2 % 8) 0 c,
-                    eq-eqb (size3 % 8) 0 d,
-                    eq-eqb size1 size2 e,
-                    eq-eqb size3 (size_due kind size1) f,
-                    le-leb size1 room1 g,
-                    le-leb size1 room2 h,
-                    le-leb (size1 / 8) room k,
-                  )
 
 -- ---- what no refusal says
 pub record Fitting (kind size1 size2 size3 room1 room2 room : ℕ) : Type 0 where
@@ -152,18 +61,21 @@ module _ (kind size1 size2 size3 room1 room2 room : ℕ) where
       refl refl refl refl refl refl z
 
 -- ---- the call
-module _ (from to : ℕ) (js ks os out1 out2 numbers : List ℕ) (kind : ℕ) (days : Float) (is : IsFormula from to kind days) (number : ℕ)
-    (en : number ≡ kind_refusal kind (length js) (length ks) (length os) (length out1) (length out2) (length numbers)) where
-  refusal_is : number ≡ formula_refusal from to (length js) (length ks) (length os) (length out1) (length out2) (length numbers)
-  refusal_is = en ∙ is.refuses (length js) (length ks) (length os) (length out1) (length out2) (length numbers)
+module _ (from to : ℕ) (js ks os out1 out2 numbers : List ℕ) (kind : ℕ) (days : Float) (is : IsFormula from to kind days) where
+  refusal_is : (n : ℕ) → n ≡ kind_refusal kind (length js) (length ks) (length os) (length out1) (length out2) (length numbers)
+      → n ≡ formula_refusal from to (length js) (length ks) (length os) (length out1) (length out2) (length numbers)
+  refusal_is n e = e ∙ is.refuses (length js) (length ks) (length os) (length out1) (length out2) (length numbers)
 
-  pub run-refused : (number ≡ 0 → ⊥) → run_call (run_outcome (Answer.Refused number)) out1 out2 numbers ≡ formula_run from to js ks os out1 out2 numbers
-  unfolding formula_run run_outcome
-  run-refused h = rw (← refusal_is, ne_eqb number 0 h)
+  -- what the call answers where it hands on the refusal k of its scales or lengths
+  pub run-refused : (s : Result ℕ Refusal) (k : Refusal) → IsErrAnd s (λ e. e ≡ k)
+      → refusal_number k ≡ kind_refusal kind (length js) (length ks) (length os) (length out1) (length out2) (length numbers)
+      → run_call (outcome s) out1 out2 numbers ≡ formula_run from to js ks os out1 out2 numbers
+  unfolding formula_run
+  run-refused s k p e = rw (handed_on s k p, ← refusal_is (refusal_number k) e, ne_eqb (refusal_number k) 0 (λ z. omega (arith, z, number_low k)))
 
-  module _ (z : number ≡ 0) where
+  module _ (z : 0 ≡ kind_refusal kind (length js) (length ks) (length os) (length out1) (length out2) (length numbers)) where
     fits : Fitting kind (length js) (length ks) (length os) (length out1) (length out2) (length numbers)
-    fits = fitting kind (length js) (length ks) (length os) (length out1) (length out2) (length numbers) (sym en ∙ z)
+    fits = fitting kind (length js) (length ks) (length os) (length out1) (length out2) (length numbers) (sym z)
 
     pub roomy : Roomy (length js / 8) js ks out1 out2 numbers
     roomy =
@@ -183,9 +95,9 @@ module _ (from to : ℕ) (js ks os out1 out2 numbers : List ℕ) (kind : ℕ) (d
         omega (arith, e, div-mul-le_self (length js) 8)
 
     ends : (r : ℕ) (out1' out2' numbers' : List ℕ) → RunPut (formula_answer from to js ks os) (length js / 8) out1 out2 numbers r out1' out2' numbers'
-        → run_call (run_outcome (Answer.Converted r)) out1' out2' numbers' ≡ formula_run from to js ks os out1 out2 numbers
-    unfolding formula_run run_outcome run_written
-    ends r out1' out2' numbers' p = rw (← refusal_is, eq-eqb number 0 z, p.count, p.first, p.second, p.third)
+        → run_call (outcome (Ok r)) out1' out2' numbers' ≡ formula_run from to js ks os out1 out2 numbers
+    unfolding formula_run outcome run_written
+    ends r out1' out2' numbers' p = rw (← refusal_is 0 z, p.count, p.first, p.second, p.third)
 
     -- by the offsets of the stamps
     by-offsets : (earlier : Bool) → (eqb kind 1 || eqb kind 2) ≡ true → earlier ≡ eqb kind 2 → (i : ℕ)
@@ -202,7 +114,7 @@ module _ (from to : ℕ) (js ks os out1 out2 numbers : List ℕ) (kind : ℕ) (d
 
     pub ends-by-offsets : (earlier : Bool) → (eqb kind 1 || eqb kind 2) ≡ true → earlier ≡ eqb kind 2 → (r : ℕ) (out1' out2' numbers' : List ℕ)
         → RunPut (offset_stamp earlier js ks os) (length js / 8) out1 out2 numbers r out1' out2' numbers'
-        → run_call (run_outcome (Answer.Converted r)) out1' out2' numbers' ≡ formula_run from to js ks os out1 out2 numbers
+        → run_call (outcome (Ok r)) out1' out2' numbers' ≡ formula_run from to js ks os out1 out2 numbers
     ends-by-offsets earlier h e r out1' out2' numbers' p = ends r out1' out2' numbers' (run-same (by-offsets earlier h e) p)
 
     -- by one change for all
@@ -216,16 +128,11 @@ module _ (from to : ℕ) (js ks os out1 out2 numbers : List ℕ) (kind : ℕ) (d
         go false true p q t = cc
         go false false p q t = rw (fits.some, p, q)
 
-    pub ends-by-change : (eqb kind 1 || eqb kind 2) ≡ false → (r : ℕ) (out1' out2' numbers' : List ℕ)
-        → RunPut (changed_stamp (change_of kind days) js ks) (length js / 8) out1 out2 numbers r out1' out2' numbers'
-        → run_call (run_outcome (Answer.Converted r)) out1' out2' numbers' ≡ formula_run from to js ks os out1 out2 numbers
-    ends-by-change h r out1' out2' numbers' p = ends r out1' out2' numbers' (run-same (by-change h) p)
-
-    pub ends-by-shift : (eqb kind 1 || eqb kind 2) ≡ false → kind ≡ 3 → (r : ℕ) (out1' out2' numbers' : List ℕ)
-        → RunPut (changed_stamp (change_of 3 days) js ks) (length js / 8) out1 out2 numbers r out1' out2' numbers'
-        → run_call (run_outcome (Answer.Converted r)) out1' out2' numbers' ≡ formula_run from to js ks os out1 out2 numbers
-    ends-by-shift h e r out1' out2' numbers' p =
-        ends-by-change h r out1' out2' numbers' (run-same (λ i. ap (λ (k : ℕ). changed_stamp (change_of k days) js ks i) (sym e)) p)
+    pub ends-by-change : (f : Float → Float → Float) → f ≡ change_of kind days → (eqb kind 1 || eqb kind 2) ≡ false → (r : ℕ) (out1' out2' numbers' : List ℕ)
+        → RunPut (changed_stamp f js ks) (length js / 8) out1 out2 numbers r out1' out2' numbers'
+        → run_call (outcome (Ok r)) out1' out2' numbers' ≡ formula_run from to js ks os out1 out2 numbers
+    ends-by-change f e h r out1' out2' numbers' p =
+        ends r out1' out2' numbers' (run-same (λ i. ap (λ (g : Float → Float → Float). changed_stamp g js ks i) e ∙ by-change h i) p)
 
 -- ---- at most all stamps are refused
 pub formula_count : (from to : ℕ) (js ks os out1 out2 numbers : List ℕ) (k : ℕ) → answer k ≡ (formula_run from to js ks os out1 out2 numbers).answer

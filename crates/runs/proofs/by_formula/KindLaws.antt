@@ -8,10 +8,12 @@ use borrow.Author.Tests.{eqb-true}
 use Rattle.refusals.specs.Outcome.{onward}
 use Rattle.julian.specs.shifts.Shifts.{plus, minus}
 use Rattle.julian.proofs.shifts.Outcomes.{and_left, and_right}
-use Rattle.scales.specs.Formulas.{gps_days, tt_days}
+use Rattle.scales.specs.Formulas.{gps_days, tt_days, tdb_to_tcb}
 use Rattle.scales.specs.Conversions.{answer_of}
 use Rattle.runs.specs.by_formula.Formula.{formula_of, by_formula, takes_offset, lengths_refusal, formula_refusal}
-use Rattle.runs.specs.by_formula.Asked.{change_of, answer_of_kind, size_due, kind_refusal, IsFormula, needs_none}
+use Rattle.runs.specs.declared.by_formula.pairs.Kind.{Kind}
+use Rattle.runs.specs.declared.by_formula.pairs.Kind.TheVariants as K
+use Rattle.runs.specs.by_formula.Asked.{kind_number, change_of, answer_of_kind, size_due, kind_refusal, IsFormula, needs_none}
 
 -- ---- each pair of scales
 pub gps_to_tai : IsFormula 4 1 3 gps_days
@@ -109,3 +111,38 @@ module _ (from to : ℕ) (days : Float) (h : needs_none from to ≡ false) where
 -- a kind that was found, and days that it does not read
 pub kept : {from to r kind : ℕ} {x days : Float} → r ≡ kind → x ≡ days → ((y : Float) → IsFormula from to kind y) → IsFormula from to r x
 kept {x = x} e q is = rw e (is x)
+
+-- ---- what a kind is not
+pub some_kind : (k : Kind) → (k ≡ K.NoFormula → ⊥) → eqb (kind_number k) 0 ≡ false
+some_kind K.NoFormula h0 = absurd (h0 refl)
+some_kind K.Later h0 = refl
+some_kind K.Earlier h0 = refl
+some_kind K.Shift h0 = refl
+some_kind K.TtToTcg h0 = refl
+some_kind K.TcgToTt h0 = refl
+some_kind K.TcbToTdb h0 = refl
+some_kind K.TdbToTcb h0 = refl
+
+pub no_offset : (k : Kind) → (k ≡ K.Later → ⊥) → (k ≡ K.Earlier → ⊥) → (eqb (kind_number k) 1 || eqb (kind_number k) 2) ≡ false
+no_offset K.NoFormula h0 h1 = refl
+no_offset K.Later h0 h1 = absurd (h0 refl)
+no_offset K.Earlier h0 h1 = absurd (h1 refl)
+no_offset K.Shift h0 h1 = refl
+no_offset K.TtToTcg h0 h1 = refl
+no_offset K.TcgToTt h0 h1 = refl
+no_offset K.TcbToTdb h0 h1 = refl
+no_offset K.TdbToTcb h0 h1 = refl
+
+pub last_change : (k : Kind) (days : Float) → (k ≡ K.Shift → ⊥) → (k ≡ K.TtToTcg → ⊥) → (k ≡ K.TcgToTt → ⊥) → (k ≡ K.TcbToTdb → ⊥)
+    → change_of (kind_number k) days ≡ tdb_to_tcb
+unfolding change_of
+last_change K.NoFormula days h0 h1 h2 h3 = refl
+last_change K.Later days h0 h1 h2 h3 = refl
+last_change K.Earlier days h0 h1 h2 h3 = refl
+last_change K.Shift days h0 h1 h2 h3 = absurd (h0 refl)
+last_change K.TtToTcg days h0 h1 h2 h3 = absurd (h1 refl)
+last_change K.TcgToTt days h0 h1 h2 h3 = absurd (h2 refl)
+last_change K.TcbToTdb days h0 h1 h2 h3 = absurd (h3 refl)
+last_change K.TdbToTcb days h0 h1 h2 h3 = refl
+
+pub ruleset kinds = (some_kind, no_offset, last_change)

@@ -1,7 +1,7 @@
 -- A day in hand: what UTC to TAI computes of one day alone, and what it answers by it. Written from UtcTai: `stretch_day_fraction` and `tai_from_midnight` with
 -- the operations that read the day's offsets alone taken out, each as it stands there. This project's own: the Rust computes them anew for each date. Assumes
 -- nothing.
-use Rattle.std.specs.Prelude.{◌≡◌, ℕ, true, List, pos, ◌-ℤ◌, T, Float}
+use Rattle.std.specs.Prelude.{◌≡◌, ℕ, true, List, pos, ◌-ℤ◌, T, Float, Option, None, Some}
 use Rattle.std.specs.Float.{fin, binary64}
 use Rattle.std.specs.Float.Ieee.{fits, add, sub, mul, div, lt, le, of_int}
 use Rattle.refusals.specs.Outcome.{answer}
@@ -17,12 +17,6 @@ use Rattle.leap_table.specs.declared.offsets.DayOffsets.{DayOffsets}
 use Rattle.leap_table.specs.rows.Table.{Row}
 use Rattle.leap_table.specs.offsets.Leap.{drift_rate, leap_amount}
 use Rattle.runs.specs.declared.by_day.DayInHand.{DayInHand}
-use Rattle.runs.specs.declared.by_day.ByHand.{ByHand}
-use Rattle.runs.specs.declared.by_day.ByHand.TheVariants as B
-use Rattle.runs.specs.declared.by_day.InDay.{InDay}
-use Rattle.runs.specs.declared.by_day.InDay.TheVariants as I
-use Rattle.runs.specs.declared.by_day.Round.{Round}
-use Rattle.runs.specs.declared.by_day.Round.TheVariants as Q
 use Rattle.utc_scales.specs.days.Dates.{offsets_of}
 use Rattle.utc_scales.specs.days.LargerPart.{first_is_kept}
 use Rattle.utc_scales.specs.UtcTai.{utc_to_tai, refined, tai_to_utc}
@@ -58,17 +52,17 @@ unfoldable pub tai_part : DayInHand → Float → Float
 tai_part h f = add binary64 h.zero (add binary64 (mul binary64 (mul binary64 f h.leap) h.drift) h.start)
 
 -- a fraction that is found is that of the day of the midnight x
-unfoldable pub InDayOf : Float → Float → InDay → Type 0
-InDayOf x y (I.Fraction f) = day_number_and_fraction x y ≡ answer (record { day = day_from x; fraction = f })
-InDayOf x y I.Elsewhere = Unit
+unfoldable pub InDayOf : Float → Float → Option Float → Type 0
+InDayOf x y (Some f) = day_number_and_fraction x y ≡ answer (record { day = day_from x; fraction = f })
+InDayOf x y None = Unit
 
 -- a date that is found is UTC to TAI of the date, whose larger part is jd1
-unfoldable pub RightTaiByHand : List Row → JulianDate → ByHand → Type 0
-RightTaiByHand rows d (B.Date t) = (utc_to_tai rows d ≡ answer t) × (first_is_kept d ≡ true)
-RightTaiByHand rows d B.Elsewhere = Unit
+unfoldable pub RightTaiByHand : List Row → JulianDate → Option JulianDate → Type 0
+RightTaiByHand rows d (Some t) = (utc_to_tai rows d ≡ answer t) × (first_is_kept d ≡ true)
+RightTaiByHand rows d None = Unit
 
 -- what `fraction_in_day` finds, for every midnight
-unfoldable pub FindsFraction : Float → InDay → Type 0
+unfoldable pub FindsFraction : Float → Option Float → Type 0
 FindsFraction y r = (x : Float) → T (fits binary64 x) → Midnight x → accepted x y ≡ true → InDayOf x y r
 
 -- -1.0, the midnight of no day
@@ -76,33 +70,33 @@ abbrev pub minus_one : Float
 minus_one = fin true 1 (pos 0)
 
 -- a date that is found by a day that begins at jd1, where jd2 is from 0.0 to below 1.0
-unfoldable pub FindsTaiOf : JulianDate → DayInHand → ByHand → Type 0
+unfoldable pub FindsTaiOf : JulianDate → DayInHand → Option JulianDate → Type 0
 FindsTaiOf d h r = (rows : List Row) → HeldDay rows h → d.jd1 ≡ h.midnight → le nought d.jd2 ≡ true → lt d.jd2 one ≡ true → RightTaiByHand rows d r
 
 -- a date that is found by a day in hand, whichever table it is right for
-unfoldable pub FindsTai : JulianDate → DayInHand → ByHand → Type 0
+unfoldable pub FindsTai : JulianDate → DayInHand → Option JulianDate → Type 0
 FindsTai d h r = (rows : List Row) → RightHand rows h → RightTaiByHand rows d r
 
 -- a part that a round finds is that of the round of TAI to UTC
-unfoldable pub RightRound : List Row → Float → Float → Float → Round → Type 0
-RightRound rows big small guess (Q.Part x) = (refined rows big small guess ≡ answer x) × (first_is_kept (julian big guess) ≡ true)
-RightRound rows big small guess Q.Elsewhere = Unit
+unfoldable pub RightRound : List Row → Float → Float → Float → Option Float → Type 0
+RightRound rows big small guess (Some x) = (refined rows big small guess ≡ answer x) × (first_is_kept (julian big guess) ≡ true)
+RightRound rows big small guess None = Unit
 
-unfoldable pub FindsRound : Float → Float → Float → DayInHand → Round → Type 0
+unfoldable pub FindsRound : Float → Float → Float → DayInHand → Option Float → Type 0
 FindsRound big small guess h r = (rows : List Row) → RightHand rows h → RightRound rows big small guess r
 
 -- a date that is found is TAI to UTC of the date
-unfoldable pub RightUtcByHand : List Row → JulianDate → ByHand → Type 0
-RightUtcByHand rows d (B.Date u) = tai_to_utc rows d ≡ answer u
-RightUtcByHand rows d B.Elsewhere = Unit
+unfoldable pub RightUtcByHand : List Row → JulianDate → Option JulianDate → Type 0
+RightUtcByHand rows d (Some u) = tai_to_utc rows d ≡ answer u
+RightUtcByHand rows d None = Unit
 
-unfoldable pub FindsUtc : JulianDate → DayInHand → ByHand → Type 0
+unfoldable pub FindsUtc : JulianDate → DayInHand → Option JulianDate → Type 0
 FindsUtc d h r = (rows : List Row) → RightHand rows h → RightUtcByHand rows d r
 
 -- a date that is found is that of the way from one scale to another
-unfoldable pub RightWay : List Row → ℕ → ℕ → JulianDate → ByHand → Type 0
-RightWay rows from to d (B.Date t) = way_of rows from to d ≡ answer t
-RightWay rows from to d B.Elsewhere = Unit
+unfoldable pub RightWay : List Row → ℕ → ℕ → JulianDate → Option JulianDate → Type 0
+RightWay rows from to d (Some t) = way_of rows from to d ≡ answer t
+RightWay rows from to d None = Unit
 
-unfoldable pub FindsWay : ℕ → ℕ → JulianDate → DayInHand → ByHand → Type 0
+unfoldable pub FindsWay : ℕ → ℕ → JulianDate → DayInHand → Option JulianDate → Type 0
 FindsWay from to d h r = (rows : List Row) → RightHand rows h → RightWay rows from to d r

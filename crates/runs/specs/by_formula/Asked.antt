@@ -10,6 +10,8 @@ use Rattle.julian.specs.declared.JulianDate.{JulianDate}
 use Rattle.julian.specs.shifts.Shifts.{plus, minus, converted, converted_by}
 use Rattle.scales.specs.Formulas.{tt_to_tcg, tcg_to_tt, tcb_to_tdb, tdb_to_tcb}
 use Rattle.julian.specs.stamp_lists.Stamps.{stamp_of}
+use Rattle.runs.specs.declared.by_formula.pairs.Kind.{Kind}
+use Rattle.runs.specs.declared.by_formula.pairs.Kind.TheVariants as K
 use Rattle.runs.specs.by_formula.Run.{first_part, second_part, number_byte, with_part, with_parts, with_numbers, refused_among}
 use Rattle.runs.specs.by_formula.Formula.{by_formula, formula_refusal}
 
@@ -39,6 +41,16 @@ pub record RunPut (f : ℕ → Outcome JulianDate) (n : ℕ) (out1 out2 numbers 
   pub third : numbers' ≡ with_numbers f n numbers
 
 -- ---- the kinds of formulas: 0 none, 1 the stamp's own offset added, 2 taken away, 3 so many days, 4 TT to TCG, 5 TCG to TT, 6 TCB to TDB, 7 TDB to TCB
+
+abbrev pub kind_number : Kind → ℕ
+kind_number K.NoFormula = 0
+kind_number K.Later = 1
+kind_number K.Earlier = 2
+kind_number K.Shift = 3
+kind_number K.TtToTcg = 4
+kind_number K.TcgToTt = 5
+kind_number K.TcbToTdb = 6
+kind_number K.TdbToTcb = 7
 
 -- what the smaller part becomes
 unfoldable pub change_of : ℕ → Float → Float → Float → Float

@@ -7,8 +7,6 @@ use Rattle.std.specs.Float.Ieee.{to_bits}
 use Rattle.refusals.specs.Outcome.{Outcome, answer, refusal}
 use Rattle.numerals.specs.little_endian.LittleEndian.{eight_bytes}
 use Rattle.julian.specs.declared.JulianDate.{JulianDate}
-use Rattle.runs.specs.declared.by_formula.RunAnswer.{RunAnswer}
-use Rattle.runs.specs.declared.by_formula.RunAnswer.TheVariants as Answer
 
 -- ---- one stamp
 
@@ -44,10 +42,6 @@ refused_among f zero = 0
 refused_among f (suc k) = refused_among f k + cond (eqb (number_byte (f k)) 0) 0 1
 
 -- ---- the call
-
-unfoldable pub run_outcome : RunAnswer → Outcome ℕ
-run_outcome (Answer.Converted n) = answer n
-run_outcome (Answer.Refused k) = refusal k
 
 -- the answer, and what is left in the slices that are written
 pub record RunCall : Type 0 where

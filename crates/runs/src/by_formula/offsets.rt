@@ -4,7 +4,11 @@ ghost use Rattle.std.specs.Float.Ieee.{neg};
 ghost use Rattle.runs.specs.by_formula.Asked.{HasPlace, Roomy, StampPut, RunPut, number_of_not_finite_at, offset_stamp};
 
 use super::changes::change_stamp;
-use super::{is_number, one_if_refused, pairs, pattern_at};
+use super::pairs::Kind;
+use super::{PART_NOT_FINITE, is_number, one_if_refused, pattern_at};
+use refusals::Refusal;
+
+const OFFSET_NOT_FINITE: u8 = Refusal::OffsetNotFinite as u8;
 
 // The number of a stamp whose offset is not finite: 9 where a part is not, and else 10.
 fn not_finite_number(jd1s: &[u8], jd2s: &[u8], i: usize) -> u8
@@ -12,14 +16,15 @@ fn not_finite_number(jd1s: &[u8], jd2s: &[u8], i: usize) -> u8
     ensures { result ≡ number_of_not_finite_at jd1s.now jd2s.now i }
 {
     if !is_number(pattern_at(jd1s, i)) {
-        return 9;
+        return PART_NOT_FINITE;
     }
     if !is_number(pattern_at(jd2s, i)) {
-        return 9;
+        return PART_NOT_FINITE;
     }
-    10
+    OFFSET_NOT_FINITE
 }
 
+// kept: no plainer: a truth value and no closure, since this one test stands for it.
 fn turned(earlier: bool, days: f64) -> f64
     ensures { result ≡ cond earlier (neg days) days }
 {
@@ -46,7 +51,7 @@ fn offset_stamp(
     }
     let days = f64::from_bits(c) / constants::SECONDS_PER_DAY_F64;
     change_stamp(
-        pairs::SHIFT,
+        Kind::Shift,
         turned(earlier, days),
         jd1s,
         jd2s,
@@ -56,6 +61,7 @@ fn offset_stamp(
     )
 }
 
+// kept: a loop beside those of `changes` and lib.rt, alike but for the call: one over a closure would ask of it, in clauses, what it writes at each place.
 // Moves n stamps by their offsets, and says how many are refused.
 pub(crate) fn offset_all(
     earlier: bool,
@@ -72,12 +78,10 @@ pub(crate) fn offset_all(
         numbers.old result out1.new out2.new numbers.new }
 {
     let mut refused = 0;
-    let mut i = 0;
-    while i < n {
+    for i in 0..n {
         let number = offset_stamp(earlier, jd1s, jd2s, offsets, i, out1, out2);
         numbers[i] = number;
         refused += one_if_refused(number);
-        i += 1;
     }
     refused
 }

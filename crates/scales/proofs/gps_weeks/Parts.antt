@@ -32,6 +32,10 @@ positive {z} {p} {n} {d} a r e h = go r.sign r.size r.is r.eq
 half-val : Val half 1 0 2
 half-val = record { sign = false; size = 1; has = (refl, refl); is = refl }
 
+pub half_is : of_bits binary64 0x3fe0_0000_0000_0000 ≡ half
+unfolding of_bits round
+half_is = refl
+
 pub midnight-is : (n : ℕ) → 0 < n → n ≤ 2 ^ 53 → sub binary64 (of_int binary64 (pos n)) half ≡ week_midnight n
 unfolding week_midnight
 midnight-is n h k = positive (2 * n - 1) (sub_rounds binary64 (lit< tt) (val-scale 2 (of_int_val (pos n) k (lit≤ tt))) half-val) (omega arith) (omega arith)
@@ -46,6 +50,9 @@ unfolding part_of_day div round of_int
 part-is zero h = refl
 part-is (suc n) h = positive (suc n) (div_rounds binary64 (lit< tt) (lit< tt) (lit< tt) (of_int_val (pos (suc n)) h (lit≤ tt)) day-millis-val) (omega arith)
     (omega arith)
+
+-- what the two parts are found by
+pub ruleset parts = (half_is, midnight-is, day-millis, part-is)
 
 -- ---- a count of 64 bits, and one from 1 to 2 ^ 52 by one cast
 pub from-zero-most : (z : ℤ) → SFits w64 z → from_zero z ≤ 9223372036854775807

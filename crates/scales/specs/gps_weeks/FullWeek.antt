@@ -2,12 +2,6 @@
 -- those ten bits that lies nearest the reference and is not below 0", 19 "where two weeks not below 0 are equally near". Assumes nothing.
 use Rattle.std.specs.Prelude.{◌≡◌, ℕ, ◌+◌, ◌-◌, ◌%◌, ◌<◌, ◌≤◌, cond, ◌||◌, ◌==◌, ◌≢◌, nat_le, nat_lt}
 use Rattle.refusals.specs.Outcome.{Outcome, answer, refusal}
-use Rattle.scales.specs.declared.gps_weeks.FullWeekAnswer.{FullWeekAnswer}
-use Rattle.scales.specs.declared.gps_weeks.FullWeekAnswer.TheVariants as Answer
-
-unfoldable pub full_outcome : FullWeekAnswer → Outcome ℕ
-full_outcome (Answer.Week w) = answer w
-full_outcome (Answer.Refused number) = refusal number
 
 -- the week `back` before the reference, or the one 1,024 later, whichever is nearer
 unfoldable pub by_distance : ℕ → ℕ → Outcome ℕ

@@ -12,14 +12,7 @@ use Rattle.julian.specs.declared.JulianDate.{JulianDate}
 use Rattle.julian.specs.Finite.{finite_jd}
 use Rattle.time_of_day.specs.TimeShown.{from_zero}
 use Rattle.scales.specs.declared.gps_weeks.WeekTime.{WeekTime}
-use Rattle.scales.specs.declared.gps_weeks.WeekAnswer.{WeekAnswer}
-use Rattle.scales.specs.declared.gps_weeks.WeekAnswer.TheVariants as Answer
 use Rattle.scales.specs.gps_weeks.WeekDate.{first_day}
-
--- document 02's answer: a week and its milliseconds, or a refusal number
-unfoldable pub week_outcome : WeekAnswer → Outcome WeekTime
-week_outcome (Answer.At t) = answer t
-week_outcome (Answer.Refused number) = refusal number
 
 abbrev pub week_time : ℕ → ℕ → WeekTime
 week_time week ms = record { week = week; millis = ms }

@@ -1,12 +1,11 @@
 -- ANYWHERE, for every pair of dates with parts under 2 ^ 52 in size that is answered, the milliseconds are within 0.5 ms and 96 ps of the exact ones.
 -- Assumes nothing.
-use mathlib.Core.Path.{◌≡◌, refl, sym, ap, ◌∙◌, subst}
+use mathlib.Core.Path.{◌≡◌, refl, sym, ap, ◌∙◌}
 use Prim.Native.Nat.{ℕ, ◌+◌, ◌*◌, ◌^◌, ◌≤◌, ◌<◌}
 use native.Mathlib.Nat.{add-mul, mul_assoc, mul_comm, mul-le-mul_right}
 use native.Mathlib.Omega.{arith}
 use mathlib.Core.Bool.{Bool, true, false, cond, ◌&&◌}
 use lib.IntN.{ℤ, pos, ◌+ℤ◌, ◌-ℤ◌}
-use lib.Ieee.{Float}
 use Rattle.refusals.specs.Outcome.{Outcome, answer, refusal, onward}
 use Rattle.rounding.specs.Value.{L, plus_z, minus_z}
 use Rattle.rounding.proofs.Value.{val-move, L-pos}
@@ -23,7 +22,6 @@ use Rattle.julian.specs.Worth.{Worth, SmallParts}
 use Rattle.time_of_day.specs.TimeShown.{from_zero}
 use Rattle.time_of_day.specs.HalfEven.{grid_units}
 use Rattle.time_of_day.proofs.Fractions.{one-val}
-use Rattle.since_launch.specs.declared.Place.{Place}
 use Rattle.since_launch.specs.Millis.{place_of, place_in, units_of, count_of, millis_from_to}
 use Rattle.since_launch.specs.laws.NearestMillis.{NearestMillis}
 use Rattle.since_launch.specs.laws.NearSums.{NearMillis}

@@ -2,7 +2,7 @@
 -- their bits. Assumes nothing.
 use Prim.Native.Nat.{ℕ, zero, suc, ◌+◌}
 use mathlib.Core.Path.{◌≡◌, refl}
-use mathlib.Core.List.{List, [], ◌∷◌}
+use mathlib.Core.List.{[], ◌∷◌}
 use lib.Ieee.{binary64, of_bits, round, lt, add, sub, mul, div, neg, to_signed}
 use Rattle.refusals.specs.Outcome.{Outcome, answer, refusal, onward}
 use Rattle.numerals.specs.little_endian.LittleEndian.{four_at, u64_at, eight_bytes}
@@ -10,11 +10,10 @@ use Rattle.numerals.specs.little_endian.Written.{all_bytes}
 use Rattle.julian.specs.day_number.Answer.{day_number_and_fraction}
 use Rattle.julian.specs.JulianDate.{julian}
 use Rattle.julian.specs.stamp_lists.Stamps.{stamp_of}
-use Rattle.julian.specs.Finite.{finite_jd}
 use Rattle.time_of_day.specs.TimeShown.{from_zero}
 use Rattle.time_of_day.specs.HalfEven.{grid_units}
 use Rattle.since_launch.specs.declared.Place.{Place}
-use Rattle.since_launch.specs.Millis.{place_of, place_in, place_at, in_range, count_of, since_launch, millis_from_to}
+use Rattle.since_launch.specs.Millis.{place_of, place_in, in_range, count_of, since_launch, millis_from_to}
 use Rattle.since_launch.specs.Run.{stamp_millis, millis_number_byte, with_millis, with_all, with_millis_numbers, millis_refused, millis_call, millis_written}
 
 -- ---- by units of 2 ^ -52 day

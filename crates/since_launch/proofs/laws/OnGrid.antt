@@ -1,21 +1,18 @@
 -- ON THE GRID the milliseconds are the nearest to the exact difference of the two dates, a half going up, however each is divided into two parts; a later date
 -- never has fewer. Assumes nothing.
-use mathlib.Core.Path.{◌≡◌, refl, sym, ap, ◌∙◌, subst}
-use Prim.Native.Nat.{ℕ, ◌+◌, ◌*◌, ◌^◌, ◌≤◌, ◌<◌}
+use mathlib.Core.Path.{◌≡◌, sym, subst}
+use Prim.Native.Nat.{ℕ, ◌+◌, ◌*◌, ◌^◌, ◌≤◌}
 use native.Mathlib.Omega.{arith}
-use mathlib.Core.Bool.{Bool, true, ◌&&◌}
-use lib.Dec.{T}
-use lib.IntN.{ℤ, pos, ◌+ℤ◌}
-use lib.Ieee.{Float, binary64, fits}
-use Rattle.refusals.specs.Outcome.{Outcome, answer, refusal, onward}
+use mathlib.Core.Bool.{true}
+use lib.IntN.{pos, ◌+ℤ◌}
+use Rattle.refusals.specs.Outcome.{answer, onward}
 use Rattle.rounding.specs.Value.{plus_z, minus_z}
 use Rattle.rounding.proofs.Value.{val-finite-true}
 use Rattle.julian.specs.declared.JulianDate.{JulianDate}
-use Rattle.julian.specs.JulianDate.{julian}
 use Rattle.julian.specs.Finite.{finite_parts}
 use Rattle.julian.specs.day_number.Answer.{day_number_and_fraction}
 use Rattle.julian.specs.day_number.Ranges.{InDays}
-use Rattle.julian.specs.day_number.ExactDay.{OnGrid, grid_sum, GridSumInRange, exact_day, exact_fraction, fraction_of, exact_day_number, DayAt}
+use Rattle.julian.specs.day_number.ExactDay.{exact_day, exact_fraction, fraction_of, exact_day_number}
 use Rattle.julian.proofs.day_number.ExactDay.{exact, exact-day, fraction-exact}
 use Rattle.julian.proofs.day_number.Ranges.{day-range}
 use Rattle.time_of_day.specs.TimeShown.{from_zero}
@@ -24,7 +21,7 @@ use Rattle.time_of_day.proofs.EvenExact.{units-are}
 use Rattle.since_launch.specs.declared.Place.{Place}
 use Rattle.since_launch.specs.Millis.{place_of, place_in, units_of, count_of, millis_from_to}
 use Rattle.since_launch.specs.laws.GridDates.{GridDate, sum_of}
-use Rattle.since_launch.specs.laws.NearestMillis.{NearestMillis, MillisDecided}
+use Rattle.since_launch.specs.laws.NearestMillis.{MillisDecided}
 use Rattle.since_launch.proofs.Places.{days-are}
 use Rattle.since_launch.proofs.laws.MillisDecided.{count-decided, decided-move, answered-nearest}
 

@@ -1,9 +1,9 @@
 -- Two dates that are each within 1/1000 ms of a whole millisecond are exactly so many milliseconds apart. Assumes nothing.
-use mathlib.Core.Path.{◌≡◌, sym, ap, ◌∙◌, subst}
+use mathlib.Core.Path.{◌≡◌, ap, ◌∙◌}
 use Prim.Native.Nat.{ℕ, ◌+◌, ◌*◌, ◌^◌, ◌≤◌, ◌<◌}
-use native.Mathlib.Nat.{add-mul, one-mul, mul-le-mul_right, lt_of_mul-lt-mul_right}
+use native.Mathlib.Nat.{add-mul, one-mul, lt_of_mul-lt-mul_right}
 use native.Mathlib.Omega.{arith}
-use Rattle.refusals.specs.Outcome.{Outcome, answer, refusal}
+use Rattle.refusals.specs.Outcome.{Outcome}
 use Rattle.rounding.specs.Value.{L}
 use Rattle.rounding.proofs.Value.{L-pos}
 use Rattle.since_launch.specs.Millis.{count_of}

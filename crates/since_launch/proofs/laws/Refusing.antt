@@ -1,5 +1,5 @@
 -- Which number is given exactly when: 9, then 6, then 18; and 9 by the bits of the parts. Assumes nothing.
-use mathlib.Core.Path.{◌≡◌, refl, sym, ap, ◌∙◌}
+use mathlib.Core.Path.{◌≡◌, refl, sym, ◌∙◌}
 use mathlib.Core.Logic.{◌⊎◌, inl, inr}
 use Prim.Native.Nat.{ℕ}
 use native.Mathlib.Omega.{arith}
@@ -13,12 +13,9 @@ use Rattle.floats.specs.ExponentField.{exponent_field}
 use Rattle.floats.proofs.ExponentField.{finite-field, field_not_finite}
 use Rattle.julian.specs.declared.JulianDate.{JulianDate}
 use Rattle.julian.specs.JulianDate.{julian}
-use Rattle.julian.specs.declared.day_number.DayNumber.{DayNumber}
 use Rattle.julian.specs.day_number.DayNumber.{accepted, day_of}
-use Rattle.julian.specs.day_number.Answer.{day_number_and_fraction}
 use Rattle.julian.proofs.day_number.Answer.{answered, refused}
 use Rattle.julian.specs.Finite.{finite_parts}
-use Rattle.since_launch.specs.declared.Place.{Place}
 use Rattle.since_launch.specs.Millis.{place_of, place_in, units_of, count_of, millis_from_to}
 use Rattle.since_launch.specs.laws.NearestMillis.{MillisDecided, within, before, past}
 use Rattle.since_launch.specs.laws.Refusals.{MillisInOrder, not_finite, no_day, counted, OneNotFinite}

@@ -1,6 +1,6 @@
 -- WHAT A RUN MEANS, for every run of every length: when the call is answered, each stamp's milliseconds and number, the count, and the stamps that are not
 -- finite. Assumes nothing.
-use Prim.Native.Nat.{ℕ, ◌+◌, ◌*◌, ◌/◌, ◌%◌, ◌<◌, ◌≤◌}
+use Prim.Native.Nat.{ℕ, ◌*◌, ◌/◌, ◌%◌, ◌<◌, ◌≤◌}
 use native.Mathlib.Omega.{arith}
 use mathlib.Core.Path.{◌≡◌, refl, sym, ap, subst, ◌∙◌}
 use mathlib.Core.Logic.{◌⊎◌, inl, inr}
@@ -27,8 +27,7 @@ use Rattle.since_launch.specs.Millis.{place_in, place_at, units_of, count_of, si
 use Rattle.since_launch.specs.Run.{stamp_millis, millis_number_byte, MillisCall, millis_call, millis_written, run_lengths_refusal, millis_by}
 use Rattle.since_launch.specs.Run.{millis_from, millis_of_run}
 use Rattle.since_launch.specs.laws.RunDone.{MillisDone, MillisSpareStays, millis_not_zero, RunLengthsDue}
-use Rattle.since_launch.proofs.Calls.{Fitting, fitting, none-refused}
-use Rattle.since_launch.proofs.Places.{finite-is, not_finite_is, from-launch}
+use Rattle.since_launch.proofs.Calls.{fitting, none-refused}
 use Rattle.since_launch.proofs.laws.Refusing.{numbers-given}
 use Rattle.since_launch.proofs.laws.RunBytes.{all-beyond, answered-at, refused-at, numbers-beyond, number-at, counted}
 

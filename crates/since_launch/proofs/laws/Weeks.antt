@@ -1,11 +1,11 @@
 -- (c) A DATE MADE OF A GPS WEEK AND MILLISECOND gives its own millisecond: two such dates are exactly the difference of their milliseconds apart. Assumes
 -- nothing.
-use mathlib.Core.Path.{◌≡◌, refl, sym, ap, ◌∙◌, subst}
+use mathlib.Core.Path.{◌≡◌, sym, ap, ◌∙◌, subst}
 use Prim.Native.Nat.{ℕ, ◌+◌, ◌*◌, ◌/◌, ◌%◌, ◌≤◌, ◌<◌}
 use native.Mathlib.Nat.{add-mul, mul_assoc}
 use native.Mathlib.Omega.{arith}
 use mathlib.Core.Bool.{true}
-use Rattle.refusals.specs.Outcome.{Outcome, answer, refusal, onward}
+use Rattle.refusals.specs.Outcome.{answer, onward}
 use Rattle.rounding.specs.Value.{L}
 use Rattle.rounding.proofs.Value.{val-finite-true}
 use Rattle.julian.specs.declared.JulianDate.{JulianDate}
@@ -16,7 +16,7 @@ use Rattle.julian.proofs.day_number.Units.{H, H-L}
 use Rattle.scales.specs.gps_weeks.WeekDate.{day_in, week_date}
 use Rattle.scales.proofs.gps_week_laws.RoundTrip as R
 use Rattle.since_launch.specs.declared.Place.{Place}
-use Rattle.since_launch.specs.Millis.{place_of, place_in, units_of, count_of, millis_from_to}
+use Rattle.since_launch.specs.Millis.{place_of, place_in, units_of, millis_from_to}
 use Rattle.since_launch.specs.laws.OwnMillis.{week_millis, Own}
 use Rattle.since_launch.proofs.laws.OnGrid.{by-places}
 use Rattle.since_launch.proofs.laws.Anywhere.{PlaceNear, place-near}

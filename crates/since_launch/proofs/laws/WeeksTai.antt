@@ -1,30 +1,27 @@
 -- (c) THE SAME THROUGH GPS TO TAI: a week's date is moved by 19 s to 10 ps, and gives its own millisecond still. Assumes nothing.
-use mathlib.Core.Path.{◌≡◌, refl, sym, ap, ◌∙◌, subst}
+use mathlib.Core.Path.{◌≡◌, sym, ap, ◌∙◌, subst}
 use mathlib.Core.Logic.{inl}
 use Prim.Native.Nat.{ℕ, ◌+◌, ◌*◌, ◌/◌, ◌%◌, ◌^◌, ◌≤◌, ◌<◌}
 use native.Mathlib.Nat.{add-mul, mul-le-mul_right}
 use native.Mathlib.Omega.{arith}
-use mathlib.Core.Bool.{Bool, true}
+use mathlib.Core.Bool.{true}
 use lib.Dec.{T}
-use lib.Ieee.{Float, binary64, add, fits, lt}
-use lib.Ieee.Fits.{round-fits, add-fits}
-use Rattle.refusals.specs.Outcome.{Outcome, answer, refusal, onward}
-use Rattle.floats.specs.Whole.{abs}
-use Rattle.rounding.specs.Value.{Val, L}
+use lib.Ieee.{binary64, add, fits}
+use lib.Ieee.Fits.{add-fits}
+use Rattle.refusals.specs.Outcome.{answer}
+use Rattle.rounding.specs.Value.{L}
 use Rattle.rounding.proofs.Value.{L-pos, val-finite-true, val-unique, abs-val}
 use Rattle.rounding.proofs.Signed.{dist, dist_le, dist_hi}
 use Rattle.rounding.proofs.Compare.{le_show, lt_val}
 use Rattle.rounding.proofs.Range.{power-val}
-use Rattle.rounding.specs.Picoseconds.{day_ps}
 use borrow.Author.Tests.{lt-ltb}
 use Rattle.julian.specs.declared.JulianDate.{JulianDate}
 use Rattle.julian.specs.JulianDate.{julian}
-use Rattle.julian.specs.Worth.{Worth, SmallParts}
-use Rattle.julian.specs.Finite.{finite_parts}
+use Rattle.julian.specs.Worth.{SmallParts}
 use Rattle.julian.specs.day_number.DayNumber.{day_of}
 use Rattle.julian.specs.day_number.Answer.{day_number_and_fraction}
 use Rattle.julian.specs.shifts.SmallerPart.{first_is_larger}
-use Rattle.julian.specs.shifts.Shifts.{plus, converted}
+use Rattle.julian.specs.shifts.Shifts.{plus}
 use Rattle.julian.proofs.shifts.Outcomes.{converted-is}
 use Rattle.julian.proofs.shifts.SmallerPart.{map_as, map_is}
 use Rattle.julian.proofs.day_number.Units.{E-L, H, H-L}
@@ -32,16 +29,16 @@ use Rattle.julian.proofs.day_number.JulianRange.{accepts}
 use Rattle.julian.proofs.day_number.Answer.{answered}
 use Rattle.scales.specs.Formulas.{gps_days}
 use Rattle.scales.specs.Conversions.{gps-tai, answer_of}
-use Rattle.scales.specs.laws.Ranges.{Practical, power}
-use Rattle.scales.specs.laws.Meaning.{Close, Means, tai_over_gps}
+use Rattle.scales.specs.laws.Ranges.{Practical}
+use Rattle.scales.specs.laws.Meaning.{Means, tai_over_gps}
 use Rattle.scales.specs.gps_weeks.WeekDate.{week_midnight, part_of_day, day_in, week_date}
-use Rattle.scales.proofs.laws.Meant.{Meant, worth-unique}
+use Rattle.scales.proofs.laws.Meant.{worth-unique}
 use Rattle.scales.proofs.laws.Recorders.{gps-means}
 use Rattle.scales.proofs.gps_week_laws.RoundTrip as R
 use Rattle.since_launch.specs.Millis.{place_of, millis_from_to}
 use Rattle.since_launch.specs.laws.OwnMillis.{week_millis, Own}
 use Rattle.since_launch.proofs.laws.Anywhere.{place-near}
-use Rattle.since_launch.proofs.laws.OwnCounts.{MillisNear, own-move}
+use Rattle.since_launch.proofs.laws.OwnCounts.{own-move}
 use Rattle.since_launch.proofs.laws.Weeks.{MadeOf, made_own, place-by, spread}
 
 module _ (n r : ℕ) (early : 2444245 ≤ n) (late : n ≤ 3144252) (short : r < 86400000) where

@@ -1,6 +1,6 @@
 -- The whole milliseconds of U - W units of 2 ^ -52 day, which are 84375 (U - W) / 2 ^ 42 ms. Written from the request: "to the nearest, halves up", and 18 for
 -- "a result that is not 0 to 2^40 - 1". Assumes nothing.
-use Rattle.std.specs.Prelude.{ℕ, ◌+◌, ◌-◌, ◌*◌, ◌^◌, ◌≤◌, ◌<◌}
+use Rattle.std.specs.Prelude.{ℕ, ◌+◌, ◌*◌, ◌^◌, ◌≤◌, ◌<◌}
 use Rattle.refusals.specs.Outcome.{Outcome, answer, refusal}
 
 -- r - 1 / 2 ≤ 84375 (U - W) / 2 ^ 42 < r + 1 / 2, all times 2 ^ 43

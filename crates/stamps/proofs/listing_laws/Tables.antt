@@ -6,7 +6,9 @@ use mathlib.Core.Path.{◌≡◌, refl, ap, ◌∙◌}
 use mathlib.Core.Logic.{◌⊎◌, inl, inr}
 use mathlib.Core.List.{List}
 use lib.ListN.{length}
-use Rattle.refusals.specs.Outcome.{Outcome, answer, refusal, onward}
+use Rattle.std.specs.Prelude.{Result, Ok, Err}
+use Rattle.refusals.specs.declared.Refusal.{Refusal}
+use Rattle.refusals.specs.Outcome.{Outcome, answer, refusal, onward, outcome}
 use Rattle.calendar.proofs.Years.{valid_of}
 use Rattle.julian.specs.declared.JulianDate.{JulianDate}
 use Rattle.julian.specs.declared.CalendarFields.{CalendarFields}
@@ -22,11 +24,9 @@ use Rattle.utc.proofs.laws.DayTexts.{text-refused-by, has-text-by}
 use Rattle.utc.proofs.laws.Numbers.{not_both, one_number, date-refusal}
 use Rattle.stamps.specs.declared.Reporting.{Reporting}
 use Rattle.stamps.specs.declared.Part.{Part}
-use Rattle.stamps.specs.declared.LinesAnswer.{LinesAnswer}
-use Rattle.stamps.specs.declared.LinesAnswer.TheVariants.{Lines, Refused}
 use Rattle.stamps.specs.Block.{block_of, stamp_at}
 use Rattle.stamps.specs.Listing.{text_at, stamp_line, one_if_refused, refused_in, header}
-use Rattle.stamps.specs.Parts.{line_of, lines_outcome, scratch_holds, part_of, part_text, PartPlaced, PartCall}
+use Rattle.stamps.specs.Parts.{line_of, scratch_holds, part_of, part_text, PartPlaced, PartCall}
 
 -- ---- refusals read no row: what one table refuses every other refuses, by the same number
 module _ (a b : List Row) where
@@ -85,15 +85,15 @@ unfolding stamp_line
 refused-lines-alike how a b s n i k e = rw (e, refused-alike a b s n i k e)
 
 -- ---- a call: what it does with a table that is taken, and with one that is refused
-module _ {how : Reporting} {table : Outcome (List Row)} {s before after : List ℕ} {line : ℕ} {r : LinesAnswer}
+module _ {how : Reporting} {table : Outcome (List Row)} {s before after : List ℕ} {line : ℕ} {r : Result Part Refusal}
     (c : PartCall how table s line before r after) where
-  pub part-of-taken : (rows : List Row) → table ≡ answer rows → (p : Part) × (r ≡ Lines p) × PartPlaced how rows s line before p after
-  unfolding lines_outcome scratch_holds onward
+  pub part-of-taken : (rows : List Row) → table ≡ answer rows → (p : Part) × (r ≡ Ok p) × PartPlaced how rows s line before p after
+  unfolding outcome scratch_holds onward
   part-of-taken rows e = go r (c.says ∙ ap (λ (o : Outcome (List Row)). onward o (λ rows. answer (part_of how rows s line (length before)))) e)
     where
-      go : (x : LinesAnswer) → lines_outcome x ≡ answer (part_of how rows s line (length before)) → (p : Part) × (x ≡ Lines p)
+      go : (x : Result Part Refusal) → outcome x ≡ answer (part_of how rows s line (length before)) → (p : Part) × (x ≡ Ok p)
           × PartPlaced how rows s line before p after
-      go (Lines p) q = (
+      go (Ok p) q = (
         p,
         refl,
         record {
@@ -102,21 +102,17 @@ module _ {how : Reporting} {table : Outcome (List Row)} {s before after : List �
               ∙ ap (λ (o : Outcome (List Row)). scratch_holds (onward o (λ rows. answer (part_text how rows s line (length before)))) before) e;
         },
       )
-      go (Refused k) q = let z : ◌≡◌ {A = ℕ} 0 1 = cc in absurd (omega arith)
+      go (Err k) q = let z : ◌≡◌ {A = ℕ} 0 1 = cc in absurd (omega arith)
 
-  pub part-of-refused : (k : ℕ) → table ≡ refusal k → (r ≡ Refused k) × (after ≡ before)
-  unfolding lines_outcome scratch_holds onward
+  pub part-of-refused : (k : ℕ) → table ≡ refusal k → (outcome r ≡ refusal k) × (after ≡ before)
+  unfolding scratch_holds onward
   part-of-refused k e = (
-    go r (c.says ∙ ap (λ (o : Outcome (List Row)). onward o (λ rows. answer (part_of how rows s line (length before)))) e),
+    c.says ∙ ap (λ (o : Outcome (List Row)). onward o (λ rows. answer (part_of how rows s line (length before)))) e,
     c.holds ∙ ap (λ (o : Outcome (List Row)). scratch_holds (onward o (λ rows. answer (part_text how rows s line (length before)))) before) e,
   )
-    where
-      go : (x : LinesAnswer) → lines_outcome x ≡ refusal k → x ≡ Refused k
-      go (Lines p) q = let z : ◌≡◌ {A = ℕ} 0 1 = cc in absurd (omega arith)
-      go (Refused j) q = let same : j ≡ k = cc in ap Refused same
 
 -- with no announced rows, whatever the places hold, every byte is that of the fixed table
 pub part-without-rows : (t : AnnouncedRows) → t.months_size ≡ 0 → t.seconds_size ≡ 0
-    → {how : Reporting} {s before after : List ℕ} {line : ℕ} {r : LinesAnswer}
-    → PartCall how (table_of t) s line before r after → (p : Part) × (r ≡ Lines p) × PartPlaced how fixed s line before p after
+    → {how : Reporting} {s before after : List ℕ} {line : ℕ} {r : Result Part Refusal}
+    → PartCall how (table_of t) s line before r after → (p : Part) × (r ≡ Ok p) × PartPlaced how fixed s line before p after
 part-without-rows t m z c = part-of-taken c fixed (table_none t m z)

@@ -1,7 +1,8 @@
 -- Which field a sentence names, and what the second listing prints. Written from document 02, item 13. Assumes nothing.
-use Rattle.std.specs.Prelude.{◌≡◌, cond, false, List, [], ◌++◌, ◌∷◌, ℕ, ◌<◌, ◌≤◌, ℤ, length, Float}
+use Rattle.std.specs.Prelude.{◌≡◌, cond, false, List, [], ◌++◌, ◌∷◌, ℕ, ◌<◌, ◌≤◌, ℤ, length, Float, Result}
 use Rattle.std.specs.Float.Ieee.Scale.{finite}
-use Rattle.refusals.specs.Outcome.{Outcome, answer, refusal}
+use Rattle.refusals.specs.declared.Refusal.{Refusal}
+use Rattle.refusals.specs.Outcome.{Outcome, answer, refusal, outcome}
 use Rattle.numerals.specs.little_endian.LittleEndian.{u32_at}
 use Rattle.calendar.specs.Refusals.{valid_date}
 use Rattle.julian.specs.declared.CalendarFields.{CalendarFields}
@@ -13,8 +14,6 @@ use Rattle.julian.specs.day_number.Answer.{day_number_and_fraction}
 use Rattle.leap_table.specs.rows.Table.{Row}
 use Rattle.leap_table.specs.offsets.Offset.{tai_utc_offset}
 use Rattle.utc.specs.UnixTime.{utc_new}
-use Rattle.utc.specs.declared.text.TextAnswer.{TextAnswer}
-use Rattle.utc.specs.text.Answer.{text_outcome}
 use Rattle.utc.specs.iso_texts.TextCall.{TextCall}
 use Rattle.reasons.specs.declared.Values.{Values}
 use Rattle.reasons.specs.declared.Values.TheVariants.{Block, Count, Date, Number, Parts, Time}
@@ -93,5 +92,5 @@ SameOnlyIf = (r s : Reason) → 1 ≤ r.number → r.number ≤ 28 → OfMachine
 
 -- a sentence that is longer than its buffer is 11
 abbrev pub TooLongIs11 : ℕ → Values → Type 0
-TooLongIs11 k v = (s before after : List ℕ) (r : TextAnswer) → sentence k v ≡ answer s → length before < length s
-    → TextCall (sentence k v) before r after → text_outcome r ≡ refusal 11
+TooLongIs11 k v = (s before after : List ℕ) (r : Result ℕ Refusal) → sentence k v ≡ answer s → length before < length s
+    → TextCall (sentence k v) before r after → outcome r ≡ refusal 11

@@ -7,7 +7,8 @@ use mathlib.Core.Bool.{Bool, true, false, cond, ◌&&◌}
 use borrow.Author.Tests.{ltb-true}
 use Rattle.ticks.specs.judging.Numbers.{all_small, all_rising, RisesTo}
 use Rattle.ticks.specs.judging.Refusing.{judged_by}
-use Rattle.ticks.proofs.judging.Every.{both, and_false, every_at}
+use Rattle.std.proofs.lemmas.Bool.{and_parts, and_right}
+use Rattle.ticks.proofs.judging.Every.{every_at}
 use Rattle.ticks.proofs.judging.Checks.{step, small_all, small-not}
 
 climb : (f : ℕ → ℕ) (k : ℕ) → RisesTo f k → (i n : ℕ) → i + n ≤ k → f i ≤ f (i + n)
@@ -43,10 +44,10 @@ module _ (n : ℕ) (tick milli : ℕ → ℕ) where
 
     pub last-milli-large : 0x100_0000_0000 ≤ milli (n - 1) → 23 ≡ judged_by n tick milli
     last-milli-large h = by_tests false (all_rising n tick && all_rising n milli)
-        (and_false (all_small n tick) (all_small n milli) (small-not n milli (n - 1) (omega arith) h)) refl
+        (and_right (all_small n tick) (all_small n milli) (small-not n milli (n - 1) (omega arith) h)) refl
 
     pub nothing-wrong : all_rising n tick && all_rising n milli ≡ true → tick (n - 1) < 0x100_0000_0000 → milli (n - 1) < 0x100_0000_0000
         → 0 ≡ judged_by n tick milli
     nothing-wrong e h k =
-        let r = both (all_rising n tick) (all_rising n milli) e in
+        let r = and_parts (all_rising n tick) (all_rising n milli) e in
         by_tests true true (rw (small-by-last n tick r.0 h) (small-by-last n milli r.1 k)) e

@@ -1,6 +1,7 @@
 -- The loops that judge the passes and the ticks: what each turn adds, where it stops, and what the end says. Assumes nothing.
 use Prim.Native.Nat.{ℕ, ◌+◌, ◌-◌, ◌<◌, ◌≤◌}
 use native.Mathlib.Omega.{arith}
+use native.Mathlib.Decide.{dec_lt}
 use mathlib.Core.Path.{◌≡◌, refl, sym, subst}
 use mathlib.Core.Bool.{Bool, true, false, ◌&&◌}
 use lib.Dec.{ltb, leb}
@@ -25,13 +26,6 @@ abbrev pub held : ℕ → ℕ → (ℕ → ℕ) → ℕ → Bool
 held first last f = λ i. leb first (f i) && leb (f i) last
 
 module _ (f : ℕ → ℕ) (n i r : ℕ) (e : r ≡ f i) where
-  pub small-more : holds_below i (below f) ≡ true → r < 0x100_0000_0000 → holds_below (i + 1) (below f) ≡ true
-  small-more p h = every_more (below f) i p (lt-ltb (f i) 0x100_0000_0000 (omega arith))
-
-  pub small-stops : i < n → 0x100_0000_0000 ≤ r → false ≡ all_small n f
-  unfolding all_small
-  small-stops k h = sym (every_stops (below f) n i k (le-ltb (f i) 0x100_0000_0000 (omega arith)))
-
   pub rising-more : (r' : ℕ) → r' ≡ f (i + 1) → holds_below i (step f) ≡ true → r < r' → holds_below (i + 1) (step f) ≡ true
   rising-more r' e' p h = every_more (step f) i p (lt-ltb (f i) (f (i + 1)) (omega arith))
 
@@ -52,10 +46,6 @@ module _ (f : ℕ → ℕ) (n i r : ℕ) (e : r ≡ f i) where
     inside-stops-high k l h = sym (every_stops (held first last f) n i k (rw (le-leb first (f i) (omega arith)) (lt-leb (f i) last (omega arith))))
 
 module _ (f : ℕ → ℕ) (n i : ℕ) where
-  pub small-ends : i ≤ n → n ≤ i → holds_below i (below f) ≡ true → true ≡ all_small n f
-  unfolding all_small
-  small-ends h k e = all-of-them (below f) n i h k e
-
   pub rising-ends : i ≤ n - 1 → n - 1 ≤ i → holds_below i (step f) ≡ true → true ≡ all_rising n f
   unfolding all_rising
   rising-ends h k e = all-of-them (step f) (n - 1) i h k e
@@ -63,6 +53,18 @@ module _ (f : ℕ → ℕ) (n i : ℕ) where
   pub inside-ends : (first last : ℕ) → i ≤ n → n ≤ i → holds_below i (held first last f) ≡ true → true ≡ inside first last n f
   unfolding inside
   inside-ends first last h k e = all-of-them (held first last f) n i h k e
+
+-- ---- numbers below 2^40 lie from 0 to 2^40 - 1
+from-zero : (x : ℕ) → leb 0 x && leb x 0xff_ffff_ffff ≡ ltb x 0x100_0000_0000
+from-zero x = go (dec_lt x 0x100_0000_0000)
+  where
+    go : Dec (x < 0x100_0000_0000) → leb 0 x && leb x 0xff_ffff_ffff ≡ ltb x 0x100_0000_0000
+    go (yes h) = rw (le-leb 0 x (omega arith), le-leb x 0xff_ffff_ffff (omega arith), lt-ltb x 0x100_0000_0000 h) refl
+    go (no h) = rw (le-leb 0 x (omega arith), lt-leb x 0xff_ffff_ffff (omega arith), le-ltb x 0x100_0000_0000 (omega arith)) refl
+
+pub small_inside : (n : ℕ) (f : ℕ → ℕ) → inside 0 0xff_ffff_ffff n f ≡ all_small n f
+unfolding inside all_small
+small_inside n f i = holds_below n (λ x. from-zero (f x) i)
 
 -- ---- each test of numbers, exactly: `..-all` where it is passed, `..-not` where one number fails it
 module _ (n : ℕ) (f : ℕ → ℕ) where
@@ -97,3 +99,17 @@ module _ (n : ℕ) (f : ℕ → ℕ) where
   pub inside-not-high : (first last i : ℕ) → i < n → first ≤ f i → last < f i → inside first last n f ≡ false
   unfolding inside
   inside-not-high first last i h l k = every_stops (held first last f) n i h (rw (le-leb first (f i) l) (lt-leb (f i) last k))
+
+-- ---- the same for numbers below 2^40: what each turn adds, where it stops, and what the end says
+module _ (f : ℕ → ℕ) (n i r : ℕ) (e : r ≡ f i) where
+  pub small-more : holds_below i (below f) ≡ true → r < 0x100_0000_0000 → holds_below (i + 1) (below f) ≡ true
+  small-more p h = every_more (below f) i p (lt-ltb (f i) 0x100_0000_0000 (omega arith))
+
+  pub small-stops : i < n → 0x100_0000_0000 ≤ r → false ≡ all_small n f
+  unfolding all_small
+  small-stops k h = sym (every_stops (below f) n i k (le-ltb (f i) 0x100_0000_0000 (omega arith)))
+
+module _ (f : ℕ → ℕ) (n i : ℕ) where
+  pub small-ends : i ≤ n → n ≤ i → holds_below i (below f) ≡ true → true ≡ all_small n f
+  unfolding all_small
+  small-ends h k e = all-of-them (below f) n i h k e

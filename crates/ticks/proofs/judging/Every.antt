@@ -3,25 +3,10 @@ use Prim.Native.Nat.{ℕ, zero, suc, ◌+◌, ◌<◌}
 use native.Mathlib.Omega.{arith}
 use native.Mathlib.Numerals.{add-one}
 use native.Mathlib.Decide.{dec_lt}
-use mathlib.Core.Path.{◌≡◌, refl, sym, subst}
-use mathlib.Core.Bool.{Bool, true, false, ◌&&◌, true≢false}
+use mathlib.Core.Path.{◌≡◌, refl, subst}
+use mathlib.Core.Bool.{Bool, true, false, ◌&&◌}
+use Rattle.std.proofs.lemmas.Bool.{and_parts, and_right}
 use Rattle.ticks.specs.judging.Numbers.{holds_below}
-
-and_first : (a b : Bool) → a && b ≡ true → a ≡ true
-and_first true b e = refl
-and_first false b e = e
-
-and_second : (a b : Bool) → a && b ≡ true → b ≡ true
-and_second true b e = e
-and_second false b e = absurd (true≢false (sym e))
-
-pub and_false : (a b : Bool) → b ≡ false → a && b ≡ false
-and_false true b e = e
-and_false false b e = refl
-
--- both tests are true
-pub both : (a b : Bool) → a && b ≡ true → (a ≡ true) × (b ≡ true)
-both a b e = (and_first a b e, and_second a b e)
 
 module _ (f : ℕ → Bool) where
   pub every_more : (n : ℕ) → holds_below n f ≡ true → f n ≡ true → holds_below (n + 1) f ≡ true
@@ -37,18 +22,18 @@ module _ (f : ℕ → Bool) where
       go hyp (yes k) = rw (hyp k e)
       go hyp (no k) =
           let m : i ≡ n = omega arith in
-          and_false (holds_below n f) (f n) (subst (λ (j : ℕ). f j ≡ false) m e)
+          and_right (holds_below n f) (f n) (subst (λ (j : ℕ). f j ≡ false) m e)
 
   pub every_at : (n : ℕ) → holds_below n f ≡ true → (i : ℕ) → i < n → f i ≡ true
   unfolding holds_below
   every_at zero e i h = absurd (omega arith)
-  every_at (suc n) e i h = go (every_at n (both (holds_below n f) (f n) e).0 i) (dec_lt i n)
+  every_at (suc n) e i h = go (every_at n (and_parts (holds_below n f) (f n) e).0 i) (dec_lt i n)
     where
       go : (i < n → f i ≡ true) → Dec (i < n) → f i ≡ true
       go hyp (yes k) = hyp k
       go hyp (no k) =
           let m : n ≡ i = omega arith in
-          subst (λ (j : ℕ). f j ≡ true) m (both (holds_below n f) (f n) e).1
+          subst (λ (j : ℕ). f j ≡ true) m (and_parts (holds_below n f) (f n) e).1
 
   pub every_all : (n : ℕ) → ((i : ℕ) → i < n → f i ≡ true) → holds_below n f ≡ true
   unfolding holds_below

@@ -6,14 +6,16 @@ use mathlib.Core.Bool.{Bool, true, false, cond, ◌&&◌}
 use mathlib.Core.List.{List}
 use lib.ListN.{length}
 use lib.Dec.{eqb, leb}
-use borrow.Author.Tests.{eqb-true, leb-true, eq-eqb, ne_eqb, le-leb, lt-leb}
+use borrow.Author.Tests.{eqb-true, leb-true, le-leb, lt-leb}
 use Rattle.ticks.specs.judging.Numbers.{all_small, all_rising, inside}
 use Rattle.ticks.specs.judging.Refusing.{number_at, numbers_in, whole_numbers, well_counted, usable, both_rising, all_inside, passes_refusal, refused_by}
 use Rattle.ticks.specs.judging.Refusing.{judged_by}
 use Rattle.ticks.specs.judging.GoodCalls.{GoodPasses, GoodCall}
-use Rattle.ticks.proofs.judging.Every.{both, every_at}
+use Rattle.std.proofs.lemmas.Bool.{and_parts}
+use Rattle.ticks.proofs.judging.Every.{every_at}
 use Rattle.ticks.proofs.judging.Checks.{held, small-each}
 use Rattle.ticks.proofs.judging.ByLast.{rises-of}
+use borrow.Author.Tests.{eq-eqb, ne_eqb}
 
 -- ---- passes that can be used
 pub record WellCounted (ps ms : List ℕ) : Type 0 where
@@ -27,35 +29,23 @@ pub record Usable (ps ms : List ℕ) : Type 0 where
   pub millis : all_small (numbers_in ps) (number_at ms) ≡ true
 
 module _ (ps ms : List ℕ) where
-  pub unequal : (numbers_in ps ≡ numbers_in ms → ⊥) → false ≡ well_counted ps ms
-  unfolding well_counted
-  unequal h = rw (ne_eqb (numbers_in ps) (numbers_in ms) h)
-
-  pub too_few : numbers_in ps ≡ numbers_in ms → numbers_in ps < 2 → false ≡ well_counted ps ms
-  unfolding well_counted
-  too_few e h = rw (eq-eqb (numbers_in ps) (numbers_in ms) e, lt-leb 2 (numbers_in ps) h)
-
-  pub by_most : numbers_in ps ≡ numbers_in ms → 2 ≤ numbers_in ps → leb (numbers_in ps) 2000 ≡ well_counted ps ms
-  unfolding well_counted
-  by_most e l = rw (eq-eqb (numbers_in ps) (numbers_in ms) e, le-leb 2 (numbers_in ps) l)
-
   pub counted_is : well_counted ps ms ≡ true → WellCounted ps ms
   unfolding well_counted
   counted_is e =
-      let y = both (eqb (numbers_in ps) (numbers_in ms)) _ e in
-      let z = both (leb 2 (numbers_in ps)) _ y.1 in
+      let y = and_parts (eqb (numbers_in ps) (numbers_in ms)) _ e in
+      let z = and_parts (leb 2 (numbers_in ps)) _ y.1 in
       record { equal = eqb-true (numbers_in ps) (numbers_in ms) y.0; two = leb-true 2 (numbers_in ps) z.0; most = leb-true (numbers_in ps) 2000 z.1 }
 
   pub usable-is : usable ps ms ≡ true → Usable ps ms
   unfolding usable
   usable-is e =
-      let x = both (well_counted ps ms) _ e in
-      let w = both (all_small (numbers_in ps) (number_at ps)) _ x.1 in
+      let x = and_parts (well_counted ps ms) _ e in
+      let w = and_parts (all_small (numbers_in ps) (number_at ps)) _ x.1 in
       record { counted = counted_is x.0; ticks = w.0; millis = w.1 }
 
   pub rising-are : both_rising ps ms ≡ true → (all_rising (numbers_in ps) (number_at ps) ≡ true) × (all_rising (numbers_in ps) (number_at ms) ≡ true)
   unfolding both_rising
-  rising-are e = both (all_rising (numbers_in ps) (number_at ps)) (all_rising (numbers_in ps) (number_at ms)) e
+  rising-are e = and_parts (all_rising (numbers_in ps) (number_at ps)) (all_rising (numbers_in ps) (number_at ms)) e
 
   -- k + 2 passes, known
   pub passes-good : usable ps ms ≡ true → both_rising ps ms ≡ true → (k : ℕ) → k ≡ numbers_in ps - 2 → GoodPasses ps ms k
@@ -93,16 +83,6 @@ module _ (ps ms : List ℕ) where
       go false b p q h = absurd (omega arith)
 
 -- ---- the ladder
-module _ (ps ms ts : List ℕ) where
-  pub broken_passes : (length ps % 8 ≡ 0 → ⊥) → false ≡ whole_numbers ps && (whole_numbers ms && whole_numbers ts)
-  broken_passes h = rw (ne_eqb (length ps % 8) 0 h)
-
-  pub broken_millis : length ps % 8 ≡ 0 → (length ms % 8 ≡ 0 → ⊥) → false ≡ whole_numbers ps && (whole_numbers ms && whole_numbers ts)
-  broken_millis e h = rw (eq-eqb (length ps % 8) 0 e, ne_eqb (length ms % 8) 0 h)
-
-  pub by-third : length ps % 8 ≡ 0 → length ms % 8 ≡ 0 → whole_numbers ts ≡ whole_numbers ps && (whole_numbers ms && whole_numbers ts)
-  by-third e f = rw (eq-eqb (length ps % 8) 0 e, eq-eqb (length ms % 8) 0 f)
-
 module _ (ps ms ts : List ℕ) (room : ℕ) where
   pub not_whole : whole_numbers ps && (whole_numbers ms && whole_numbers ts) ≡ false → 14 ≡ refused_by ps ms ts room
   unfolding refused_by
@@ -152,7 +132,7 @@ ladder_passed ps ms ts room = go (whole_numbers ps && (whole_numbers ms && whole
     go true true true true true p q r s t h =
         record {
           ticks-whole = eqb-true (length ts % 8) 0
-              (both (whole_numbers ms) (whole_numbers ts) (both (whole_numbers ps) (whole_numbers ms && whole_numbers ts) p).1).1;
+              (and_parts (whole_numbers ms) (whole_numbers ts) (and_parts (whole_numbers ps) (whole_numbers ms && whole_numbers ts) p).1).1;
           fits = leb-true (numbers_in ts) (room / 8) q;
           good = r;
           rise = s;
@@ -171,7 +151,7 @@ module _ (ps ms ts : List ℕ) (room : ℕ) (a : NothingRefused ps ms ts room) w
   ticks-at : (i : ℕ) → i < numbers_in ts → (number_at ps 0 ≤ number_at ts i) × (number_at ts i ≤ number_at ps (numbers_in ps - 1))
   unfolding all_inside inside
   ticks-at i h =
-      let x = both (leb (number_at ps 0) (number_at ts i)) (leb (number_at ts i) (number_at ps (numbers_in ps - 1)))
+      let x = and_parts (leb (number_at ps 0) (number_at ts i)) (leb (number_at ts i) (number_at ps (numbers_in ps - 1)))
       (every_at (held (number_at ps 0) (number_at ps (numbers_in ps - 1)) (number_at ts)) (numbers_in ts) a.within i h) in
       (leb-true (number_at ps 0) (number_at ts i) x.0, leb-true (number_at ts i) (number_at ps (numbers_in ps - 1)) x.1)
 
@@ -184,3 +164,27 @@ module _ (ps ms ts : List ℕ) (room : ℕ) (a : NothingRefused ps ms ts room) w
         low = λ i h. (ticks-at i h).0;
         high = λ i h. subst (λ (x : ℕ). number_at ts i ≤ number_at ps x) last (ticks-at i h).1;
       }
+
+-- ---- the counts of the passes, and the three lists that are whole numbers, each test by itself
+module _ (ps ms : List ℕ) where
+  pub unequal : (numbers_in ps ≡ numbers_in ms → ⊥) → false ≡ well_counted ps ms
+  unfolding well_counted
+  unequal h = rw (ne_eqb (numbers_in ps) (numbers_in ms) h)
+
+  pub too_few : numbers_in ps ≡ numbers_in ms → numbers_in ps < 2 → false ≡ well_counted ps ms
+  unfolding well_counted
+  too_few e h = rw (eq-eqb (numbers_in ps) (numbers_in ms) e, lt-leb 2 (numbers_in ps) h)
+
+  pub by_most : numbers_in ps ≡ numbers_in ms → 2 ≤ numbers_in ps → leb (numbers_in ps) 2000 ≡ well_counted ps ms
+  unfolding well_counted
+  by_most e l = rw (eq-eqb (numbers_in ps) (numbers_in ms) e, le-leb 2 (numbers_in ps) l)
+
+module _ (ps ms ts : List ℕ) where
+  pub broken_passes : (length ps % 8 ≡ 0 → ⊥) → false ≡ whole_numbers ps && (whole_numbers ms && whole_numbers ts)
+  broken_passes h = rw (ne_eqb (length ps % 8) 0 h)
+
+  pub broken_millis : length ps % 8 ≡ 0 → (length ms % 8 ≡ 0 → ⊥) → false ≡ whole_numbers ps && (whole_numbers ms && whole_numbers ts)
+  broken_millis e h = rw (eq-eqb (length ps % 8) 0 e, ne_eqb (length ms % 8) 0 h)
+
+  pub by-third : length ps % 8 ≡ 0 → length ms % 8 ≡ 0 → whole_numbers ts ≡ whole_numbers ps && (whole_numbers ms && whole_numbers ts)
+  by-third e f = rw (eq-eqb (length ps % 8) 0 e, eq-eqb (length ms % 8) 0 f)

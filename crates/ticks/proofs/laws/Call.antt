@@ -1,5 +1,5 @@
 -- THE CALL: what `place_ticks` means, from its contract alone. Assumes nothing.
-use Prim.Native.Nat.{ℕ, ◌+◌, ◌-◌, ◌*◌, ◌<◌}
+use Prim.Native.Nat.{ℕ, ◌*◌, ◌<◌}
 use native.Mathlib.Omega.{arith}
 use native.Mathlib.Decide.{dec_lt}
 use mathlib.Core.Path.{◌≡◌, refl, sym, ap, subst, ◌∙◌}
@@ -7,12 +7,12 @@ use mathlib.Core.List.{List, ◌++◌}
 use lib.ListN.{length, drop, length-append, length-drop}
 use lib.Seq.{drop_at}
 use borrow.Author.Tests.{eq-eqb, ne_eqb}
-use Rattle.refusals.specs.Outcome.{answer, refusal}
-use Rattle.ticks.specs.declared.TicksAnswer.{TicksAnswer}
-use Rattle.ticks.specs.declared.TicksAnswer.TheVariants.{Written, Refused}
+use Rattle.std.specs.Prelude.{Result}
+use Rattle.refusals.specs.declared.Refusal.{Refusal}
+use Rattle.refusals.specs.Outcome.{answer, refusal, outcome}
 use Rattle.ticks.specs.Passes.{millis_at}
 use Rattle.ticks.specs.judging.Refusing.{number_at, numbers_in, refused_by}
-use Rattle.ticks.specs.Ticks.{passes_of, bytes_of, placed_ticks, ticks_outcome, lent_after, TicksCall}
+use Rattle.ticks.specs.Ticks.{passes_of, bytes_of, placed_ticks, lent_after, TicksCall}
 use Rattle.ticks.proofs.judging.Ladder.{ladder_passed}
 use Rattle.ticks.proofs.Calls.{length-bytes}
 use Rattle.ticks.specs.laws.Sound.{Sound, Inside, JustBelow}
@@ -22,19 +22,18 @@ use Rattle.ticks.proofs.laws.Refusals.{passes-sound, ticks-inside}
 use Rattle.ticks.proofs.laws.Results.{result-at}
 use Rattle.ticks.proofs.laws.Exactly.{answered, exactly-when}
 
-module _ (ps ms ts before after : List ℕ) (r : TicksAnswer) (call : TicksCall (placed_ticks ps ms ts (length before)) before r after) where
+module _ (ps ms ts before after : List ℕ) (r : Result ℕ Refusal) (call : TicksCall (placed_ticks ps ms ts (length before)) before r after) where
   abbrev f : ℕ → ℕ
   f i = millis_at (passes_of ps ms) (number_at ts i)
 
-  unchanged : (n : ℕ) → r ≡ Refused n → after ≡ before
-  unfolding placed_ticks lent_after ticks_outcome
+  unchanged : (n : ℕ) → outcome r ≡ refusal n → after ≡ before
+  unfolding placed_ticks lent_after outcome
   unchanged n e = go (dec_lt 0 (refused_by ps ms ts (length before)))
     where
       go : Dec (0 < refused_by ps ms ts (length before)) → after ≡ before
       go (yes h) = call.holds ∙ rw (ne_eqb (refused_by ps ms ts (length before)) 0 (λ z. omega arith))
       go (no h) =
-          let w : Refused n ≡ Written (length ts) = sym e ∙ (answered ps ms ts before after r call).1 (omega arith) in
-          let q : refusal n ≡ answer (length ts) = ap ticks_outcome w in
+          let q : refusal n ≡ answer (length ts) = sym e ∙ ap outcome ((answered ps ms ts before after r call).1 (omega arith)) in
           let z : ◌≡◌ {A = ℕ} 0 1 = cc in
           absurd (omega arith)
 

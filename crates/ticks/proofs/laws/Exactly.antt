@@ -9,12 +9,12 @@ use mathlib.Core.List.{List}
 use lib.ListN.{length}
 use lib.Dec.{leb}
 use borrow.Author.Tests.{leb-true, eq-eqb, ne_eqb, le-leb}
-use Rattle.refusals.specs.Outcome.{Outcome, answer, refusal, onward}
-use Rattle.ticks.specs.declared.TicksAnswer.{TicksAnswer}
-use Rattle.ticks.specs.declared.TicksAnswer.TheVariants.{Written, Refused}
+use Rattle.std.specs.Prelude.{Result, Ok, Err}
+use Rattle.refusals.specs.declared.Refusal.{Refusal}
+use Rattle.refusals.specs.Outcome.{Outcome, answer, refusal, onward, outcome}
 use Rattle.ticks.specs.Passes.{millis_at}
 use Rattle.ticks.specs.judging.Refusing.{number_at, numbers_in, whole_numbers, usable, both_rising, all_inside, refused_by}
-use Rattle.ticks.specs.Ticks.{passes_of, bytes_of, placed_ticks, ticks_outcome, TicksCall}
+use Rattle.ticks.specs.Ticks.{passes_of, bytes_of, placed_ticks, TicksCall}
 use Rattle.ticks.proofs.judging.Ladder.{ladder_passed}
 use Rattle.ticks.proofs.Calls.{length-bytes}
 use Rattle.ticks.specs.laws.Reasons.{WholeLists, HasPlaces, UsablePasses, RisingPasses, TicksInside, ExactlyWhen}
@@ -40,43 +40,37 @@ apart = record {
   e0 = λ z. omega arith;
 }
 
--- ---- the call's number
-refused-out : (r : TicksAnswer) (n : ℕ) → ticks_outcome r ≡ refusal n → r ≡ Refused n
-unfolding ticks_outcome
-refused-out (Written m) n e = let z : ◌≡◌ {A = ℕ} 0 1 = cc in absurd (omega arith)
-refused-out (Refused m) n e = let q : m ≡ n = cc in ap Refused q
+-- ---- the answer that an outcome says
+pub written_out : (r : Result ℕ Refusal) (n : ℕ) → outcome r ≡ answer n → r ≡ Ok n
+unfolding outcome
+written_out (Ok m) n e = let q : m ≡ n = cc in ap Ok q
+written_out (Err m) n e = let z : ◌≡◌ {A = ℕ} 0 1 = cc in absurd (omega arith)
 
-written_out : (r : TicksAnswer) (n : ℕ) → ticks_outcome r ≡ answer n → r ≡ Written n
-unfolding ticks_outcome
-written_out (Written m) n e = let q : m ≡ n = cc in ap Written q
-written_out (Refused m) n e = let z : ◌≡◌ {A = ℕ} 0 1 = cc in absurd (omega arith)
-
-module _ (ps ms ts before after : List ℕ) (r : TicksAnswer) (call : TicksCall (placed_ticks ps ms ts (length before)) before r after) where
+module _ (ps ms ts before after : List ℕ) (r : Result ℕ Refusal) (call : TicksCall (placed_ticks ps ms ts (length before)) before r after) where
   abbrev bytes : List ℕ
   bytes = bytes_of (λ i. millis_at (passes_of ps ms) (number_at ts i)) (numbers_in ts)
 
   abbrev k : ℕ
   k = refused_by ps ms ts (length before)
 
-  is-refused : (k ≡ 0 → ⊥) → ticks_outcome r ≡ refusal k
+  is-refused : (k ≡ 0 → ⊥) → outcome r ≡ refusal k
   unfolding placed_ticks onward
   is-refused h = call.says ∙ rw (ne_eqb k 0 h)
 
-  is-written : k ≡ 0 → ticks_outcome r ≡ answer (length bytes)
+  is-written : k ≡ 0 → outcome r ≡ answer (length bytes)
   unfolding placed_ticks onward
   is-written h = call.says ∙ rw (eq-eqb k 0 h)
 
-  called : (n : ℕ) → (n ≡ 0 → ⊥) → (r ≡ Refused n) ↔ (k ≡ n)
-  unfolding ticks_outcome
+  called : (n : ℕ) → (n ≡ 0 → ⊥) → (outcome r ≡ refusal n) ↔ (k ≡ n)
   called n nz = (to (dec_lt 0 k), fro)
     where
-      to : Dec (0 < k) → r ≡ Refused n → k ≡ n
-      to (yes z) e = let w : ◌≡◌ {A = Outcome ℕ} (refusal k) (refusal n) = sym (is-refused (λ y. omega arith)) ∙ ap ticks_outcome e in cc
-      to (no z) e = let w : answer (length bytes) ≡ refusal n = sym (is-written (omega arith)) ∙ ap ticks_outcome e in let y : ◌≡◌ {A = ℕ} 0 1 =
+      to : Dec (0 < k) → outcome r ≡ refusal n → k ≡ n
+      to (yes z) e = let w : ◌≡◌ {A = Outcome ℕ} (refusal k) (refusal n) = sym (is-refused (λ y. omega arith)) ∙ e in cc
+      to (no z) e = let w : answer (length bytes) ≡ refusal n = sym (is-written (omega arith)) ∙ e in let y : ◌≡◌ {A = ℕ} 0 1 =
           cc in absurd (omega arith)
 
-      fro : k ≡ n → r ≡ Refused n
-      fro e = refused-out r n (is-refused (λ z. nz (sym e ∙ z)) ∙ ap refusal e)
+      fro : k ≡ n → outcome r ≡ refusal n
+      fro e = is-refused (λ z. nz (sym e ∙ z)) ∙ ap refusal e
 
   pub as_many : k ≡ 0 → length bytes ≡ length ts
   as_many z = length-bytes (λ i. millis_at (passes_of ps ms) (number_at ts i)) (numbers_in ts)
@@ -85,12 +79,12 @@ module _ (ps ms ts before after : List ℕ) (r : TicksAnswer) (call : TicksCall 
       eights : (m : ℕ) → m % 8 ≡ 0 → 8 * (m / 8) ≡ m
       eights m h = omega arith
 
-  pub answered : (r ≡ Written (length ts)) ↔ (k ≡ 0)
-  unfolding ticks_outcome
+  pub answered : (r ≡ Ok (length ts)) ↔ (k ≡ 0)
+  unfolding outcome
   answered = (to (dec_lt 0 k), λ z. written_out r (length ts) (is-written z ∙ ap answer (as_many z)))
     where
-      to : Dec (0 < k) → r ≡ Written (length ts) → k ≡ 0
-      to (yes z) e = let w : refusal k ≡ answer (length ts) = sym (is-refused (λ y. omega arith)) ∙ ap ticks_outcome e in let y : ◌≡◌ {A = ℕ} 0 1 =
+      to : Dec (0 < k) → r ≡ Ok (length ts) → k ≡ 0
+      to (yes z) e = let w : refusal k ≡ answer (length ts) = sym (is-refused (λ y. omega arith)) ∙ ap outcome e in let y : ◌≡◌ {A = ℕ} 0 1 =
           cc in absurd (omega arith)
       to (no z) e = omega arith
 

@@ -1,20 +1,20 @@
 -- EACH PASS, EACH READING AND EACH PLACE AT ITS OWN BYTES: of lists that are written number by number the call's answer is that of the lists, and the eight
 -- bytes from 8 i on read back as the millimetre of the i-th reading. Assumes nothing.
-use Prim.Native.Nat.{ℕ, ◌+◌, ◌*◌, ◌<◌}
+use Prim.Native.Nat.{ℕ, ◌*◌, ◌<◌}
 use native.Mathlib.Omega.{arith}
 use mathlib.Core.Path.{◌≡◌, sym, ap, subst, ◌∙◌}
-use mathlib.Core.Logic.{◌↔◌}
 use mathlib.Core.List.{List}
 use lib.ListN.{length, get_or, drop}
+use Rattle.std.specs.Prelude.{Result, Ok}
+use Rattle.refusals.specs.Outcome.{outcome}
+use Rattle.refusals.specs.declared.Refusal.{Refusal}
 use Rattle.numerals.specs.little_endian.LittleEndian.{u64_at, eight_bytes}
 use Rattle.numerals.specs.little_endian.Written.{all_bytes, Numbers64}
 use Rattle.numerals.proofs.little_endian.Numbers.{eight-each, number-back}
-use Rattle.ticks.specs.declared.places.PlacesAnswer.{PlacesAnswer}
-use Rattle.ticks.specs.declared.places.PlacesAnswer.TheVariants.{Written}
-use Rattle.ticks.specs.Passes.{Passes, millis_at, OnSomeLine}
+use Rattle.ticks.specs.Passes.{millis_at, OnSomeLine}
 use Rattle.ticks.specs.judging.Refusing.{number_at, numbers_in}
 use Rattle.ticks.specs.Ticks.{passes_of}
-use Rattle.ticks.specs.places.Places.{places_outcome, places_call, placed_run}
+use Rattle.ticks.specs.places.Places.{places_call, placed_run}
 use Rattle.ticks.specs.laws.Sound.{Sound, Inside}
 use Rattle.ticks.specs.laws.Reasons.{WholeLists, HasPlaces, UsablePasses}
 use Rattle.ticks.specs.laws.Writer.{listed_passes}
@@ -25,8 +25,8 @@ use Rattle.ticks.proofs.laws.Tests.{sound-by}
 use Rattle.ticks.proofs.laws.Written.{as_many, passes-are}
 use Rattle.ticks.proofs.laws.Readings.{readings_mean}
 
-module _ (ps ls ms ns before ns' after : List ℕ) (r : PlacesAnswer) (pass-bits : Numbers64 ps) (place-bits : Numbers64 ls) (milli-bits : Numbers64 ms)
-    (call : places_call (places_outcome r) after ns' ≡ placed_run (all_bytes eight_bytes ps) (all_bytes eight_bytes ls) (all_bytes eight_bytes ms) before ns)
+module _ (ps ls ms ns before ns' after : List ℕ) (r : Result ℕ Refusal) (pass-bits : Numbers64 ps) (place-bits : Numbers64 ls) (milli-bits : Numbers64 ms)
+    (call : places_call (outcome r) after ns' ≡ placed_run (all_bytes eight_bytes ps) (all_bytes eight_bytes ls) (all_bytes eight_bytes ms) before ns)
   where
     abbrev pb : List ℕ
     pb = all_bytes eight_bytes ps
@@ -44,7 +44,7 @@ module _ (ps ls ms ns before ns' after : List ℕ) (r : PlacesAnswer) (pass-bits
     the_passes = passes-are ps ls pass-bits place-bits
 
     -- ---- the answer
-    good : r ≡ Written (not_zeros ns') → ListedPlacing ps ls ms ns (length before)
+    good : r ≡ Ok (not_zeros ns') → ListedPlacing ps ls ms ns (length before)
     good e =
         let g = means.decided.is_answer.0 e in
         record {
@@ -54,7 +54,7 @@ module _ (ps ls ms ns before ns' after : List ℕ) (r : PlacesAnswer) (pass-bits
           sound = subst Sound the_passes (sound-by pb lb g.3 g.4);
         }
 
-    taken : ListedPlacing ps ls ms ns (length before) → r ≡ Written (not_zeros ns')
+    taken : ListedPlacing ps ls ms ns (length before) → r ≡ Ok (not_zeros ns')
     taken c =
         let s : Sound (passes_of pb lb) = subst Sound (sym the_passes) c.sound in
         let w : WholeLists pb lb mb =
@@ -72,12 +72,12 @@ module _ (ps ls ms ns before ns' after : List ℕ) (r : PlacesAnswer) (pass-bits
         means.decided.is_answer.1 (w, n, h, u, record { ticks_rise = s.ticks_rise; millis-rise = s.millis-rise })
 
     -- ---- each reading
-    module _ (n : ℕ) (e : r ≡ Written n) (i : ℕ) (h : i < length ms) where
+    module _ (n : ℕ) (e : r ≡ Ok n) (i : ℕ) (h : i < length ms) where
       right : ReadingsRight pb lb mb ns before ns' after
       right = (means.placed n e).1
 
       sound : Sound (passes_of pb lb)
-      sound = let g = means.decided.is_answer.0 (e ∙ ap Written (means.placed n e).0) in sound-by pb lb g.3 g.4
+      sound = let g = means.decided.is_answer.0 (e ∙ ap Ok (means.placed n e).0) in sound-by pb lb g.3 g.4
 
       there : i < numbers_in mb
       there = omega (arith, as_many ms)

@@ -1,5 +1,5 @@
 -- THE CALL: what `place_readings` means, from its contract alone. Assumes nothing.
-use Prim.Native.Nat.{ℕ, ◌+◌, ◌-◌, ◌*◌, ◌/◌, ◌≤◌, ◌<◌}
+use Prim.Native.Nat.{ℕ, ◌-◌, ◌*◌, ◌/◌, ◌≤◌, ◌<◌}
 use native.Mathlib.Omega.{arith}
 use native.Mathlib.Decide.{dec_lt}
 use mathlib.Core.Path.{◌≡◌, refl, sym, ap, subst, ◌∙◌}
@@ -10,27 +10,28 @@ use lib.Dec.{eqb, leb}
 use lib.ListN.{length, get_or, take, drop}
 use lib.Seq.{take_all}
 use borrow.Author.Tests.{eqb-true, eqb-false, leb-true, eq-eqb, ne_eqb, le-leb}
-use Rattle.refusals.specs.Outcome.{Outcome, answer, refusal}
-use Rattle.numerals.specs.little_endian.LittleEndian.{u64_at, eight_bytes}
+use Rattle.std.specs.Prelude.{Result, Ok}
+use Rattle.refusals.specs.declared.Refusal.{Refusal}
+use Rattle.refusals.specs.Outcome.{Outcome, answer, refusal, outcome}
+use Rattle.numerals.specs.little_endian.LittleEndian.{u64_at}
 use Rattle.numerals.proofs.little_endian.Parts.{eight_in_part}
 use Rattle.numerals.proofs.little_endian.RoundTrip.{read-written}
-use Rattle.ticks.specs.declared.places.PlacesAnswer.{PlacesAnswer}
-use Rattle.ticks.specs.declared.places.PlacesAnswer.TheVariants.{Written, Refused}
 use Rattle.ticks.specs.judging.Refusing.{number_at, numbers_in, whole_numbers, usable, both_rising, passes_refusal}
 use Rattle.ticks.specs.Passes.{Passes, millis_at}
 use Rattle.ticks.specs.Ticks.{passes_of}
 use Rattle.ticks.specs.places.Places.{within, placed_reading, number_of, with_places, with_reading_numbers, without_place, reading_at}
-use Rattle.ticks.specs.places.Places.{places_refusal, places_outcome, PlacesCall, places_call, readings_written, placed_run}
-use Rattle.ticks.proofs.judging.Every.{both}
+use Rattle.ticks.specs.places.Places.{places_refusal, PlacesCall, places_call, readings_written, placed_run}
+use Rattle.std.proofs.lemmas.Bool.{and_parts}
 use Rattle.ticks.proofs.places.Ladder.{Taken, taken}
 use Rattle.ticks.proofs.places.Puts.{is-kept, is-outside, is-placed, places-length, numbers-length}
 use Rattle.ticks.specs.laws.Sound.{Sound, Inside, JustBelow}
 use Rattle.ticks.specs.laws.Reasons.{WholeLists, HasPlaces, UsablePasses, RisingPasses}
-use Rattle.ticks.specs.laws.Readings.{not_zeros, NumberEach, PlacedExactlyWhen, ReadingNumber, IsPlaced, ReadingsRight, ReadingsMeaning}
+use Rattle.ticks.specs.laws.Readings.{not_zeros, NumberEach, ReadingNumber, IsPlaced, ReadingsRight, ReadingsMeaning}
 use Rattle.ticks.specs.laws.Slopes.{SlopeAtMost, NearExact, ReadingsNear}
 use Rattle.ticks.proofs.laws.Slopes.{near-exact, near-each-other}
 use Rattle.ticks.proofs.laws.Tests.{whole-test, usable-test, rising-test, sound-by}
 use Rattle.ticks.proofs.laws.Steps.{Apart, Steps, steps, through}
+use Rattle.ticks.proofs.laws.Exactly.{written_out}
 use Rattle.ticks.proofs.laws.Laws.{on_line, at_a_pass, never-earlier, just_below}
 use Rattle.ticks.proofs.laws.Blocks.{block, due, places_behind, places-at, number-at, counted}
 
@@ -40,7 +41,7 @@ unfolding within
 within-test p m = (to, fro)
   where
     to : leb (p.tick 0) m && leb m (p.tick (p.size - 1)) ≡ true → Inside p m
-    to e = let x = both (leb (p.tick 0) m) _ e in record { low = leb-true (p.tick 0) m x.0; high = leb-true m (p.tick (p.size - 1)) x.1 }
+    to e = let x = and_parts (leb (p.tick 0) m) _ e in record { low = leb-true (p.tick 0) m x.0; high = leb-true m (p.tick (p.size - 1)) x.1 }
 
     fro : Inside p m → leb (p.tick 0) m && leb m (p.tick (p.size - 1)) ≡ true
     fro i = rw (le-leb (p.tick 0) m i.low) (le-leb m (p.tick (p.size - 1)) i.high)
@@ -59,17 +60,7 @@ said p number m = go (eqb number 0) (within p m) refl refl
     go true false e w = lies_outside (eqb-true number 0 e) (λ i. true≢false (sym ((within-test p m).1 i) ∙ w)) (is-outside p number m (eqb-true number 0 e) w)
     go false b e w = keeps (eqb-false number 0 e) (is-kept p number m (eqb-false number 0 e))
 
--- ---- the call's number
-refused-out : (r : PlacesAnswer) (n : ℕ) → places_outcome r ≡ refusal n → r ≡ Refused n
-unfolding places_outcome
-refused-out (Written m) n e = let z : ◌≡◌ {A = ℕ} 0 1 = cc in absurd (omega arith)
-refused-out (Refused m) n e = let q : m ≡ n = cc in ap Refused q
-
-written_out : (r : PlacesAnswer) (n : ℕ) → places_outcome r ≡ answer n → r ≡ Written n
-unfolding places_outcome
-written_out (Written m) n e = let q : m ≡ n = cc in ap Written q
-written_out (Refused m) n e = let z : ◌≡◌ {A = ℕ} 0 1 = cc in absurd (omega arith)
-
+-- ---- the call
 apart : Apart 14 12 11 23 24
 apart = record {
   ab = λ z. omega arith;
@@ -89,7 +80,7 @@ apart = record {
   e0 = λ z. omega arith;
 }
 
-module _ (ps ls ms ns before ns' after : List ℕ) (r : PlacesAnswer) (call : places_call (places_outcome r) after ns' ≡ placed_run ps ls ms before ns) where
+module _ (ps ls ms ns before ns' after : List ℕ) (r : Result ℕ Refusal) (call : places_call (outcome r) after ns' ≡ placed_run ps ls ms before ns) where
   abbrev k : ℕ
   k = places_refusal ps ls ms (length ns) (length before)
 
@@ -99,47 +90,45 @@ module _ (ps ls ms ns before ns' after : List ℕ) (r : PlacesAnswer) (call : pl
   abbrev p : Passes
   p = passes_of ps ls
 
-  is-refused : (k ≡ 0 → ⊥) → places_call (places_outcome r) after ns' ≡ places_call (refusal k) before ns
+  is-refused : (k ≡ 0 → ⊥) → places_call (outcome r) after ns' ≡ places_call (refusal k) before ns
   unfolding placed_run
   is-refused h = call ∙ rw (ne_eqb k 0 h)
 
   is-written : k ≡ 0
-      → places_call (places_outcome r) after ns' ≡ places_call (answer (without_place f (numbers_in ms))) (with_places f (numbers_in ms) before)
+      → places_call (outcome r) after ns' ≡ places_call (answer (without_place f (numbers_in ms))) (with_places f (numbers_in ms) before)
       (with_reading_numbers f (numbers_in ms) ns)
   unfolding placed_run readings_written
   is-written h = call ∙ rw (eq-eqb k 0 h)
 
-  says : (o : Outcome ℕ) (out numbers : List ℕ) → places_call (places_outcome r) after ns' ≡ places_call o out numbers → places_outcome r ≡ o
+  says : (o : Outcome ℕ) (out numbers : List ℕ) → places_call (outcome r) after ns' ≡ places_call o out numbers → outcome r ≡ o
   says o out numbers e = ap (λ (c : PlacesCall). c.answer) e
 
-  called : (n : ℕ) → (n ≡ 0 → ⊥) → (r ≡ Refused n) ↔ (k ≡ n)
-  unfolding places_outcome
+  called : (n : ℕ) → (n ≡ 0 → ⊥) → (outcome r ≡ refusal n) ↔ (k ≡ n)
   called n nz = (to (dec_lt 0 k), fro)
     where
-      to : Dec (0 < k) → r ≡ Refused n → k ≡ n
-      to (yes z) e = let w : ◌≡◌ {A = Outcome ℕ} (refusal k) (refusal n) = sym (says _ _ _ (is-refused (λ y. omega arith))) ∙ ap places_outcome e in cc
-      to (no z) e = let w : answer (without_place f (numbers_in ms)) ≡ refusal n = sym (says _ _ _ (is-written (omega arith))) ∙ ap places_outcome e in
+      to : Dec (0 < k) → outcome r ≡ refusal n → k ≡ n
+      to (yes z) e = let w : ◌≡◌ {A = Outcome ℕ} (refusal k) (refusal n) = sym (says _ _ _ (is-refused (λ y. omega arith))) ∙ e in cc
+      to (no z) e = let w : answer (without_place f (numbers_in ms)) ≡ refusal n = sym (says _ _ _ (is-written (omega arith))) ∙ e in
           let y : ◌≡◌ {A = ℕ} 0 1 = cc in absurd (omega arith)
 
-      fro : k ≡ n → r ≡ Refused n
-      fro e = refused-out r n (says _ _ _ (is-refused (λ z. nz (sym e ∙ z))) ∙ ap refusal e)
+      fro : k ≡ n → outcome r ≡ refusal n
+      fro e = says _ _ _ (is-refused (λ z. nz (sym e ∙ z))) ∙ ap refusal e
 
-  answered-only : (n : ℕ) → r ≡ Written n → k ≡ 0
-  unfolding places_outcome
+  answered-only : (n : ℕ) → r ≡ Ok n → k ≡ 0
+  unfolding outcome
   answered-only n e = go (dec_lt 0 k)
     where
       go : Dec (0 < k) → k ≡ 0
-      go (yes z) = let w : refusal k ≡ answer n = sym (says _ _ _ (is-refused (λ y. omega arith))) ∙ ap places_outcome e in
+      go (yes z) = let w : refusal k ≡ answer n = sym (says _ _ _ (is-refused (λ y. omega arith))) ∙ ap outcome e in
           let y : ◌≡◌ {A = ℕ} 0 1 = cc in absurd (omega arith)
       go (no z) = omega arith
 
-  unchanged : (n : ℕ) → r ≡ Refused n → (ns' ≡ ns) × (after ≡ before)
-  unfolding places_outcome
+  unchanged : (n : ℕ) → outcome r ≡ refusal n → (ns' ≡ ns) × (after ≡ before)
   unchanged n e = go (dec_lt 0 k)
     where
       go : Dec (0 < k) → (ns' ≡ ns) × (after ≡ before)
       go (yes z) = let w = is-refused (λ y. omega arith) in (ap (λ (c : PlacesCall). c.numbers) w, ap (λ (c : PlacesCall). c.out) w)
-      go (no z) = let w : answer (without_place f (numbers_in ms)) ≡ refusal n = sym (says _ _ _ (is-written (omega arith))) ∙ ap places_outcome e in
+      go (no z) = let w : answer (without_place f (numbers_in ms)) ≡ refusal n = sym (says _ _ _ (is-written (omega arith))) ∙ e in
           let y : ◌≡◌ {A = ℕ} 0 1 = cc in absurd (omega arith)
 
   module _ (z : k ≡ 0) where
@@ -267,14 +256,14 @@ module _ (ps ls ms ns before ns' after : List ℕ) (r : PlacesAnswer) (call : pl
         placed = λ n e. let z = answered-only n e in let g = all-steps.at_0.0 z in (count n e z, right z g.3 g.4);
       }
     where
-      answered : k ≡ 0 → r ≡ Written (not_zeros ns')
+      answered : k ≡ 0 → r ≡ Ok (not_zeros ns')
       answered z = written_out r (not_zeros ns') (says _ _ _ (is-written z) ∙ ap answer (count-is z))
 
-      count : (n : ℕ) → r ≡ Written n → k ≡ 0 → n ≡ not_zeros ns'
-      count n e z = let w : Written n ≡ Written (not_zeros ns') = sym e ∙ answered z in cc
+      count : (n : ℕ) → r ≡ Ok n → k ≡ 0 → n ≡ not_zeros ns'
+      count n e z = let w : Ok n ≡ Ok (not_zeros ns') = sym e ∙ answered z in cc
 
   -- over both steps, where the passes are nowhere steeper than rise / run
-  pub readings_near : (n : ℕ) → r ≡ Written n → (rise run : ℕ) → SlopeAtMost p rise run → ReadingsNear ps ls ms ns' after rise run
+  pub readings_near : (n : ℕ) → r ≡ Ok n → (rise run : ℕ) → SlopeAtMost p rise run → ReadingsNear ps ls ms ns' after rise run
   readings_near n e rise run slope = record {
     each = λ i h a d b j ds x near. subst (NearExact p rise run a d b j) (sym (place_is z u v i h))
         (near-exact p (sound z u v) rise run slope (number_at ms i) (lies_in z u v i h) a d b j ds x near);

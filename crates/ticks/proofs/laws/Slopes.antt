@@ -7,10 +7,9 @@ use native.Mathlib.Nat.{mul-lt-mul_of_pos_right, mul-pos, le_of_mul-le-mul_right
 use native.Mathlib.Decide.{dec_lt}
 use mathlib.Core.Path.{◌≡◌, sym, ap, subst, ◌∙◌}
 use Rattle.ticks.specs.Passes.{Passes, millis_at}
-use Rattle.ticks.specs.judging.Numbers.{RisesTo}
 use Rattle.ticks.proofs.judging.ByLast.{rises-to}
-use Rattle.ticks.specs.laws.Sound.{Sound, Inside, ticks_between, line_rise, JustBelow}
-use Rattle.ticks.specs.laws.Slopes.{millis_rise, SlopeAtMost, TimeBetween, NearTime, line_divisor, line_dividend, NearExact}
+use Rattle.ticks.specs.laws.Sound.{Sound, Inside, ticks_between, JustBelow}
+use Rattle.ticks.specs.laws.Slopes.{millis_rise, SlopeAtMost, TimeBetween, NearTime, line_dividend, NearExact}
 use Rattle.ticks.proofs.laws.Laws.{just_below}
 
 -- ---- products

@@ -1,5 +1,5 @@
 -- The tests of ticks are the reasons, said of the numbers one by one. Assumes nothing.
-use Prim.Native.Nat.{ℕ, ◌-◌, ◌*◌, ◌/◌, ◌%◌, ◌<◌}
+use Prim.Native.Nat.{ℕ, ◌-◌, ◌%◌}
 use native.Mathlib.Omega.{arith}
 use mathlib.Core.Path.{◌≡◌}
 use mathlib.Core.Bool.{true, ◌&&◌}
@@ -11,7 +11,8 @@ use borrow.Author.Tests.{eqb-true, leb-true, eq-eqb, le-leb}
 use Rattle.ticks.specs.judging.Numbers.{all_rising, inside}
 use Rattle.ticks.specs.judging.Refusing.{number_at, numbers_in, whole_numbers, well_counted, usable, both_rising, all_inside}
 use Rattle.ticks.specs.Ticks.{passes_of}
-use Rattle.ticks.proofs.judging.Every.{both, every_at}
+use Rattle.std.proofs.lemmas.Bool.{and_parts}
+use Rattle.ticks.proofs.judging.Every.{every_at}
 use Rattle.ticks.proofs.judging.Checks.{held, small_all, small-each, rising-all, inside-all}
 use Rattle.ticks.proofs.judging.ByLast.{rises-of}
 use Rattle.ticks.proofs.judging.Ladder.{usable-is}
@@ -24,8 +25,8 @@ module _ (ps ms ts : List ℕ) where
     where
       to : whole_numbers ps && (whole_numbers ms && whole_numbers ts) ≡ true → WholeLists ps ms ts
       to e =
-          let x = both (whole_numbers ps) _ e in
-          let y = both (whole_numbers ms) (whole_numbers ts) x.1 in
+          let x = and_parts (whole_numbers ps) _ e in
+          let y = and_parts (whole_numbers ms) (whole_numbers ts) x.1 in
           record { passes = eqb-true (length ps % 8) 0 x.0; millis = eqb-true (length ms % 8) 0 y.0; ticks = eqb-true (length ts % 8) 0 y.1 }
 
       fro : WholeLists ps ms ts → whole_numbers ps && (whole_numbers ms && whole_numbers ts) ≡ true
@@ -62,7 +63,7 @@ module _ (ps ms ts : List ℕ) where
     where
       to : both_rising ps ms ≡ true → RisingPasses ps ms
       to e =
-          let r = both (all_rising (numbers_in ps) (number_at ps)) _ e in
+          let r = and_parts (all_rising (numbers_in ps) (number_at ps)) _ e in
           record {
             ticks_rise = λ i h. rises-of (numbers_in ps) (number_at ps) r.0 i (omega arith);
             millis-rise = λ i h. rises-of (numbers_in ps) (number_at ms) r.1 i (omega arith);
@@ -77,7 +78,7 @@ module _ (ps ms ts : List ℕ) where
     where
       to : all_inside ps ts ≡ true → TicksInside ps ms ts
       to e i h =
-          let x = both (leb (number_at ps 0) (number_at ts i)) _
+          let x = and_parts (leb (number_at ps 0) (number_at ts i)) _
           (every_at (held (number_at ps 0) (number_at ps (numbers_in ps - 1)) (number_at ts)) (numbers_in ts) e i h) in
           record { low = leb-true (number_at ps 0) (number_at ts i) x.0; high = leb-true (number_at ts i) (number_at ps (numbers_in ps - 1)) x.1 }
 

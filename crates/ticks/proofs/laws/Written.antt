@@ -6,19 +6,19 @@ use mathlib.Core.Path.{◌≡◌, refl, sym, ap, subst, ◌∙◌}
 use mathlib.Core.Logic.{◌↔◌}
 use mathlib.Core.List.{List, [], ◌∷◌}
 use lib.ListN.{length, get_or, drop}
+use Rattle.std.specs.Prelude.{Result, Ok}
+use Rattle.refusals.specs.declared.Refusal.{Refusal}
 use Rattle.refusals.specs.Outcome.{answer}
 use Rattle.numerals.specs.little_endian.LittleEndian.{four_at, u64_at, eight_bytes}
 use Rattle.numerals.specs.little_endian.Written.{all_bytes, Numbers64}
 use Rattle.numerals.proofs.little_endian.Numbers.{eight-each, number-back}
-use Rattle.ticks.specs.declared.TicksAnswer.{TicksAnswer}
-use Rattle.ticks.specs.declared.TicksAnswer.TheVariants.{Written}
 use Rattle.ticks.specs.Line.{line_at}
 use Rattle.ticks.specs.Passes.{Passes, last_not_after, millis_at, OnSomeLine}
 use Rattle.ticks.specs.judging.Numbers.{holds_below, all_small, all_rising, inside}
 use Rattle.ticks.specs.judging.Refusing.{number_at, numbers_in, well_counted, usable, both_rising, all_inside, refused_by}
 use Rattle.ticks.specs.Ticks.{passes_of, bytes_of, placed_ticks, TicksCall}
 use Rattle.ticks.specs.laws.Sound.{Sound, Inside}
-use Rattle.ticks.specs.laws.Reasons.{WholeLists, HasPlaces, UsablePasses, RisingPasses, TicksInside, TicksMeaning}
+use Rattle.ticks.specs.laws.Reasons.{WholeLists, HasPlaces, UsablePasses, TicksInside, TicksMeaning}
 use Rattle.ticks.specs.laws.Writer.{listed_passes, ListedGood, ListedTicks, count_up}
 use Rattle.ticks.proofs.laws.Laws.{is-on-line}
 use Rattle.ticks.proofs.laws.Tests.{sound-by}
@@ -32,7 +32,7 @@ pub passes-are : (ps ms : List ℕ) → Numbers64 ps → Numbers64 ms → passes
 passes-are ps ms a b j = record { size = as_many ps j; tick = λ (i : ℕ). number-back ps a i j; milli = λ (i : ℕ). number-back ms b i j }
 
 -- ---- THE CALL over lists of numbers
-module _ (ps ms ts before after : List ℕ) (r : TicksAnswer) (pass-bits : Numbers64 ps) (milli-bits : Numbers64 ms) (tick-bits : Numbers64 ts)
+module _ (ps ms ts before after : List ℕ) (r : Result ℕ Refusal) (pass-bits : Numbers64 ps) (milli-bits : Numbers64 ms) (tick-bits : Numbers64 ts)
     (call : TicksCall (placed_ticks (all_bytes eight_bytes ps) (all_bytes eight_bytes ms) (all_bytes eight_bytes ts) (length before)) before r after) where
   abbrev pb : List ℕ
   pb = all_bytes eight_bytes ps
@@ -49,16 +49,16 @@ module _ (ps ms ts before after : List ℕ) (r : TicksAnswer) (pass-bits : Numbe
   the_passes : passes_of pb mb ≡ listed_passes ps ms
   the_passes = passes-are ps ms pass-bits milli-bits
 
-  all-written : r ≡ Written (8 * length ts) → r ≡ Written (length tb)
-  all-written e = e ∙ ap Written (sym (eight-each ts))
+  all-written : r ≡ Ok (8 * length ts) → r ≡ Ok (length tb)
+  all-written e = e ∙ ap Ok (sym (eight-each ts))
 
-  sound-bytes : r ≡ Written (8 * length ts) → Sound (passes_of pb mb)
+  sound-bytes : r ≡ Ok (8 * length ts) → Sound (passes_of pb mb)
   sound-bytes e = let g = means.decided.is_answer.0 (all-written e) in sound-by pb mb g.2 g.3
 
-  inside-bytes : r ≡ Written (8 * length ts) → TicksInside pb mb tb
+  inside-bytes : r ≡ Ok (8 * length ts) → TicksInside pb mb tb
   inside-bytes e = (means.decided.is_answer.0 (all-written e)).4
 
-  good : r ≡ Written (8 * length ts) → ListedGood ps ms ts (length before)
+  good : r ≡ Ok (8 * length ts) → ListedGood ps ms ts (length before)
   good e =
       let g = means.decided.is_answer.0 (all-written e) in
       record {
@@ -69,7 +69,7 @@ module _ (ps ms ts before after : List ℕ) (r : TicksAnswer) (pass-bits : Numbe
             (subst (Inside (passes_of pb mb)) (number-back ts tick-bits i) (inside-bytes e i (omega (arith, as_many ts))));
       }
 
-  taken : ListedGood ps ms ts (length before) → r ≡ Written (8 * length ts)
+  taken : ListedGood ps ms ts (length before) → r ≡ Ok (8 * length ts)
   taken c =
       let s : Sound (passes_of pb mb) = subst Sound (sym the_passes) c.sound in
       let w : WholeLists pb mb tb =
@@ -85,9 +85,9 @@ module _ (ps ms ts before after : List ℕ) (r : TicksAnswer) (pass-bits : Numbe
       } in
       let i : TicksInside pb mb tb = λ i h. subst (Inside (passes_of pb mb)) (sym (number-back ts tick-bits i))
       (subst (λ (p : Passes). Inside p (get_or ts i 0)) (sym the_passes) (c.inside i (omega (arith, as_many ts)))) in
-      means.decided.is_answer.1 (w, h, u, record { ticks_rise = s.ticks_rise; millis-rise = s.millis-rise }, i) ∙ ap Written (eight-each ts)
+      means.decided.is_answer.1 (w, h, u, record { ticks_rise = s.ticks_rise; millis-rise = s.millis-rise }, i) ∙ ap Ok (eight-each ts)
 
-  result : r ≡ Written (8 * length ts) → (i : ℕ) → i < length ts → u64_at after (8 * i) ≡ millis_at (listed_passes ps ms) (get_or ts i 0)
+  result : r ≡ Ok (8 * length ts) → (i : ℕ) → i < length ts → u64_at after (8 * i) ≡ millis_at (listed_passes ps ms) (get_or ts i 0)
   result e i h =
       let k : i < numbers_in tb = omega (arith, as_many ts) in
       let o : OnSomeLine (passes_of pb mb) (number_at tb i) (millis_at (passes_of pb mb) (number_at tb i)) =
@@ -136,19 +136,19 @@ count-sound n two most = record {
     small i h = omega (arith, counted 0 n, count_at 0 n i (omega (arith, counted 0 n)))
 
 -- of n passes at the ticks and milliseconds 0 to n - 1, and no tick, the call is answered exactly for 2 to 2,000
-pub two-to-2000 : (n : ℕ) → n < 18446744073709551616 → (before after : List ℕ) (r : TicksAnswer)
+pub two-to-2000 : (n : ℕ) → n < 18446744073709551616 → (before after : List ℕ) (r : Result ℕ Refusal)
     → TicksCall (placed_ticks (all_bytes eight_bytes (count_up 0 n)) (all_bytes eight_bytes (count_up 0 n)) (all_bytes eight_bytes []) (length before)) before r
     after
-    → (r ≡ Written 0) ↔ ((2 ≤ n) × (n ≤ 2000))
+    → (r ≡ Ok 0) ↔ ((2 ≤ n) × (n ≤ 2000))
 two-to-2000 n few before after r call = (to, fro)
   where
     listed : ListedTicks (count_up 0 n) (count_up 0 n) [] before r after
     listed = ticks-of-lists (count_up 0 n) (count_up 0 n) [] before after r (count_bits n few) (count_bits n few) (λ i h. absurd (omega arith)) call
 
-    to : r ≡ Written 0 → (2 ≤ n) × (n ≤ 2000)
+    to : r ≡ Ok 0 → (2 ≤ n) × (n ≤ 2000)
     to e = let g = listed.answered.0 e in (omega (arith, g.sound.two, counted 0 n), omega (arith, g.sound.most, counted 0 n))
 
-    fro : (2 ≤ n) × (n ≤ 2000) → r ≡ Written 0
+    fro : (2 ≤ n) × (n ≤ 2000) → r ≡ Ok 0
     fro h = listed.answered.1 (record { places = omega arith; equal = refl; sound = count-sound n h.0 h.1; inside = λ i l. absurd (omega arith) })
 
 -- ---- the lowest byte first and each tick its own, worked: passes at the ticks 0 and 1000 and the milliseconds 5000 and 7000; the ticks 256 and 1, whose bytes

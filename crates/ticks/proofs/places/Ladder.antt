@@ -1,17 +1,20 @@
 -- The refusals of a run of readings in their order, what is known where nothing is refused, and the call as a whole. Assumes nothing.
-use Prim.Native.Nat.{ℕ, ◌-◌, ◌*◌, ◌/◌, ◌<◌, ◌≤◌}
+use Prim.Native.Nat.{ℕ, ◌-◌, ◌/◌, ◌<◌, ◌≤◌}
 use native.Mathlib.Omega.{arith}
-use mathlib.Core.Path.{◌≡◌, refl, sym, ◌∙◌}
+use mathlib.Core.Path.{◌≡◌, refl}
 use mathlib.Core.Bool.{Bool, true, false, cond, ◌&&◌}
 use mathlib.Core.List.{List}
 use lib.Dec.{eqb, leb}
 use lib.ListN.{length}
 use borrow.Author.Tests.{eqb-true, leb-true, eq-eqb, ne_eqb, le-leb, lt-leb}
-use Rattle.refusals.specs.Outcome.{answer, refusal}
-use Rattle.ticks.specs.declared.places.PlacesAnswer.TheVariants as Answer
+use Rattle.std.specs.Prelude.{Result, Ok}
+use Rattle.refusals.specs.declared.Refusal.{Refusal}
+use Rattle.refusals.specs.Refusal.{refusal_number}
+use Rattle.refusals.specs.Outcome.{answer, refusal, outcome}
 use Rattle.ticks.specs.judging.Refusing.{numbers_in, whole_numbers, passes_refusal}
-use Rattle.ticks.specs.places.Places.{without_place, reading_at, places_refusal, places_outcome, places_call, readings_written, placed_run}
+use Rattle.ticks.specs.places.Places.{without_place, reading_at, places_refusal, places_call, readings_written, placed_run}
 use Rattle.ticks.specs.places.Asked.{HasReadings, ReadingsPut}
+use Rattle.ticks.proofs.Refused.{not-zero}
 use Rattle.ticks.proofs.places.Puts.{at_most}
 use Rattle.ticks.proofs.judging.Ladder.{passes-right, usable-is, passes-good}
 
@@ -53,14 +56,16 @@ taken ps ls ms count room = go (whole_numbers ps && (whole_numbers ls && whole_n
     go false b c p q h = absurd (omega arith)
 
 -- ---- the call
-module _ (ps ls ms out ns : List ℕ) (number : ℕ) (en : number ≡ places_refusal ps ls ms (length ns) (length out)) where
-  pub run-refused : (number ≡ 0 → ⊥) → places_call (places_outcome (Answer.Refused number)) out ns ≡ placed_run ps ls ms out ns
-  unfolding placed_run places_outcome
-  run-refused h = rw (← en, ne_eqb number 0 h)
+module _ (ps ls ms out ns : List ℕ) where
+  pub run-refused : (r : Result ℕ Refusal) (k : Refusal) → outcome r ≡ refusal (refusal_number k) → refusal_number k ≡ places_refusal ps ls ms (length ns)
+      (length out)
+      → places_call (outcome r) out ns ≡ placed_run ps ls ms out ns
+  unfolding placed_run
+  run-refused r k i e = rw (i, ← e, ne_eqb (refusal_number k) 0 (not-zero k))
 
-  module _ (z : number ≡ 0) where
+  module _ (z : places_refusal ps ls ms (length ns) (length out) ≡ 0) where
     t : Taken ps ls ms (length ns) (length out)
-    t = taken ps ls ms (length ns) (length out) (sym en ∙ z)
+    t = taken ps ls ms (length ns) (length out) z
 
     pub passes-two : 2 ≤ numbers_in ps
     passes-two = (usable-is ps ls (passes-right ps ls t.passes).0).counted.two
@@ -74,9 +79,9 @@ module _ (ps ls ms out ns : List ℕ) (number : ℕ) (en : number ≡ places_ref
     }
 
     pub run-placed : (r : ℕ) (out' ns' : List ℕ) → ReadingsPut (reading_at ps ls ms ns) (numbers_in ms) out ns r out' ns'
-        → places_call (places_outcome (Answer.Written r)) out' ns' ≡ placed_run ps ls ms out ns
-    unfolding placed_run places_outcome readings_written
-    run-placed r out' ns' p = rw (← en, eq-eqb number 0 z, p.count, p.places, p.numbers)
+        → places_call (outcome (Ok r)) out' ns' ≡ placed_run ps ls ms out ns
+    unfolding placed_run outcome readings_written
+    run-placed r out' ns' p = rw (z, p.count, p.places, p.numbers)
 
 -- at most all readings have no place
 pub run-count : (ps ls ms out ns : List ℕ) (j : ℕ) → answer j ≡ (placed_run ps ls ms out ns).answer → j ≤ numbers_in ms

@@ -1,9 +1,9 @@
 -- Passes and readings as lists of numbers of 64 bits, and what a caller reads off the lent lists: apart from what reads and writes the bytes. From
 -- include/celestial_time.h, ct_place_readings: number i of a list is the eight bytes from 8 i on, the lowest first. Assumes nothing.
-use Rattle.std.specs.Prelude.{ℕ, ◌*◌, ◌≤◌, ◌<◌, ◌≡◌, ◌↔◌, List, length, get_or, take, drop}
+use Rattle.std.specs.Prelude.{ℕ, ◌*◌, ◌≤◌, ◌<◌, ◌≡◌, ◌↔◌, List, length, get_or, take, drop, Result, Ok}
+use Rattle.refusals.specs.declared.Refusal.{Refusal}
+use Rattle.refusals.specs.Outcome.{refusal, outcome}
 use Rattle.numerals.specs.little_endian.LittleEndian.{u64_at}
-use Rattle.ticks.specs.declared.places.PlacesAnswer.{PlacesAnswer}
-use Rattle.ticks.specs.declared.places.PlacesAnswer.TheVariants.{Written, Refused}
 use Rattle.ticks.specs.Passes.{millis_at}
 use Rattle.ticks.specs.laws.Sound.{Sound, Inside}
 use Rattle.ticks.specs.laws.Writer.{listed_passes}
@@ -27,8 +27,8 @@ pub record ListedReading (ps ls ms ns before ns' after : List ℕ) (i : ℕ) : T
 
 -- The call over these lists: answered exactly where nothing is refused, by how many numbers are not 0 after it; refused, both lent lists stay; and the bytes
 -- behind the places stay.
-pub record ListedReadings (ps ls ms ns before : List ℕ) (r : PlacesAnswer) (ns' after : List ℕ) : Type 0 where
-  pub answered : (r ≡ Written (not_zeros ns')) ↔ ListedPlacing ps ls ms ns (length before)
-  pub stays : (n : ℕ) → r ≡ Refused n → (ns' ≡ ns) × (after ≡ before)
-  pub each : (n : ℕ) → r ≡ Written n → (i : ℕ) → i < length ms → ListedReading ps ls ms ns before ns' after i
-  pub spare : (n : ℕ) → r ≡ Written n → drop (8 * length ms) after ≡ drop (8 * length ms) before
+pub record ListedReadings (ps ls ms ns before : List ℕ) (r : Result ℕ Refusal) (ns' after : List ℕ) : Type 0 where
+  pub answered : (r ≡ Ok (not_zeros ns')) ↔ ListedPlacing ps ls ms ns (length before)
+  pub stays : (n : ℕ) → outcome r ≡ refusal n → (ns' ≡ ns) × (after ≡ before)
+  pub each : (n : ℕ) → r ≡ Ok n → (i : ℕ) → i < length ms → ListedReading ps ls ms ns before ns' after i
+  pub spare : (n : ℕ) → r ≡ Ok n → drop (8 * length ms) after ≡ drop (8 * length ms) before

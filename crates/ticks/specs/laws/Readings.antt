@@ -3,9 +3,9 @@
 -- before and after the call. Written from the customer's words: "a run of milliseconds in, millimetres out, a number for each (25 outside the passes, as an
 -- answer of that reading and not of the call). By item 10's own definition of the line between two passes: exact at a pass, never backwards, less than 1 mm
 -- below the line", and from include/celestial_time.h, ct_place_readings. Assumes nothing.
-use Rattle.std.specs.Prelude.{ℕ, zero, suc, ◌+◌, ◌*◌, ◌≤◌, ◌<◌, ◌≡◌, ◌↔◌, List, [], ◌∷◌, length, get_or, take, drop}
-use Rattle.ticks.specs.declared.places.PlacesAnswer.{PlacesAnswer}
-use Rattle.ticks.specs.declared.places.PlacesAnswer.TheVariants.{Written, Refused}
+use Rattle.std.specs.Prelude.{ℕ, zero, suc, ◌+◌, ◌*◌, ◌≤◌, ◌<◌, ◌≡◌, ◌↔◌, List, [], ◌∷◌, length, get_or, take, drop, Result, Ok}
+use Rattle.refusals.specs.declared.Refusal.{Refusal}
+use Rattle.refusals.specs.Outcome.{refusal, outcome}
 use Rattle.ticks.specs.Passes.{millis_between}
 use Rattle.ticks.specs.judging.Refusing.{number_at, numbers_in}
 use Rattle.ticks.specs.Ticks.{passes_of}
@@ -23,13 +23,13 @@ abbrev pub NumberEach : List ℕ → List ℕ → Type 0
 NumberEach ms ns = numbers_in ms ≡ length ns
 
 -- r is each refusal exactly where its reason holds and none before it, and the answer, so many readings without a place, exactly where none holds
-pub record PlacedExactlyWhen (ps ls ms ns : List ℕ) (room without : ℕ) (r : PlacesAnswer) : Type 0 where
-  pub is_14 : (r ≡ Refused 14) ↔ (WholeLists ps ls ms → ⊥)
-  pub is_12 : (r ≡ Refused 12) ↔ (WholeLists ps ls ms × (NumberEach ms ns → ⊥))
-  pub is_11 : (r ≡ Refused 11) ↔ (WholeLists ps ls ms × NumberEach ms ns × (HasPlaces ms room → ⊥))
-  pub is_23 : (r ≡ Refused 23) ↔ (WholeLists ps ls ms × NumberEach ms ns × HasPlaces ms room × (UsablePasses ps ls → ⊥))
-  pub is_24 : (r ≡ Refused 24) ↔ (WholeLists ps ls ms × NumberEach ms ns × HasPlaces ms room × UsablePasses ps ls × (RisingPasses ps ls → ⊥))
-  pub is_answer : (r ≡ Written without) ↔ (WholeLists ps ls ms × NumberEach ms ns × HasPlaces ms room × UsablePasses ps ls × RisingPasses ps ls)
+pub record PlacedExactlyWhen (ps ls ms ns : List ℕ) (room without : ℕ) (r : Result ℕ Refusal) : Type 0 where
+  pub is_14 : (outcome r ≡ refusal 14) ↔ (WholeLists ps ls ms → ⊥)
+  pub is_12 : (outcome r ≡ refusal 12) ↔ (WholeLists ps ls ms × (NumberEach ms ns → ⊥))
+  pub is_11 : (outcome r ≡ refusal 11) ↔ (WholeLists ps ls ms × NumberEach ms ns × (HasPlaces ms room → ⊥))
+  pub is_23 : (outcome r ≡ refusal 23) ↔ (WholeLists ps ls ms × NumberEach ms ns × HasPlaces ms room × (UsablePasses ps ls → ⊥))
+  pub is_24 : (outcome r ≡ refusal 24) ↔ (WholeLists ps ls ms × NumberEach ms ns × HasPlaces ms room × UsablePasses ps ls × (RisingPasses ps ls → ⊥))
+  pub is_answer : (r ≡ Ok without) ↔ (WholeLists ps ls ms × NumberEach ms ns × HasPlaces ms room × UsablePasses ps ls × RisingPasses ps ls)
 
 -- Reading i: a number that it came with stays; of the others 25 is exactly for one outside the passes, and 0 exactly for one inside; without a place its eight
 -- bytes stay.
@@ -58,7 +58,7 @@ pub record ReadingsRight (ps ls ms ns before ns' after : List ℕ) : Type 0 wher
   pub near_line : (i : ℕ) → IsPlaced ms ns' i → JustBelow (passes_of ps ls) (number_at ms i) (number_at after i)
 
 -- the whole call: its answer, the count of the numbers that are not 0, and the lent lists before and after
-pub record ReadingsMeaning (ps ls ms ns before : List ℕ) (r : PlacesAnswer) (ns' after : List ℕ) : Type 0 where
+pub record ReadingsMeaning (ps ls ms ns before : List ℕ) (r : Result ℕ Refusal) (ns' after : List ℕ) : Type 0 where
   pub decided : PlacedExactlyWhen ps ls ms ns (length before) (not_zeros ns') r
-  pub refused : (n : ℕ) → r ≡ Refused n → (ns' ≡ ns) × (after ≡ before)
-  pub placed : (n : ℕ) → r ≡ Written n → (n ≡ not_zeros ns') × ReadingsRight ps ls ms ns before ns' after
+  pub refused : (n : ℕ) → outcome r ≡ refusal n → (ns' ≡ ns) × (after ≡ before)
+  pub placed : (n : ℕ) → r ≡ Ok n → (n ≡ not_zeros ns') × ReadingsRight ps ls ms ns before ns' after

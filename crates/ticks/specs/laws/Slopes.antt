@@ -2,9 +2,8 @@
 -- a stamp has been rounded to a whole millisecond and the millisecond is placed. Written from the customer's words ("exact at a pass, never backwards, less
 -- than 1 mm below the line") and docs/PROMISES.md, Places. Fractions are multiplied out: time a / d, a distance of e / d milliseconds and a slope of
 -- rise / run. Assumes nothing.
-use Rattle.std.specs.Prelude.{ℕ, ◌+◌, ◌-◌, ◌*◌, ◌≤◌, ◌<◌, ◌≡◌, List}
-use Rattle.ticks.specs.declared.places.PlacesAnswer.{PlacesAnswer}
-use Rattle.ticks.specs.declared.places.PlacesAnswer.TheVariants.{Written}
+use Rattle.std.specs.Prelude.{ℕ, ◌+◌, ◌-◌, ◌*◌, ◌≤◌, ◌<◌, ◌≡◌, List, Result, Ok}
+use Rattle.refusals.specs.declared.Refusal.{Refusal}
 use Rattle.ticks.specs.Passes.{Passes}
 use Rattle.ticks.specs.judging.Refusing.{number_at}
 use Rattle.ticks.specs.Ticks.{passes_of}
@@ -52,6 +51,6 @@ pub record ReadingsNear (ps ls ms ns' after : List ℕ) (rise run : ℕ) : Type 
       → number_at after i' * run + rise * number_at ms i < (number_at after i + 1) * run + rise * number_at ms i'
 
 -- that, of a call that is answered, by passes nowhere steeper than rise / run
-abbrev pub NearOverBoth : List ℕ → List ℕ → List ℕ → PlacesAnswer → List ℕ → List ℕ → Type 0
-NearOverBoth ps ls ms r ns' after = (n : ℕ) → r ≡ Written n → (rise run : ℕ) → SlopeAtMost (passes_of ps ls) rise run
+abbrev pub NearOverBoth : List ℕ → List ℕ → List ℕ → Result ℕ Refusal → List ℕ → List ℕ → Type 0
+NearOverBoth ps ls ms r ns' after = (n : ℕ) → r ≡ Ok n → (rise run : ℕ) → SlopeAtMost (passes_of ps ls) rise run
     → ReadingsNear ps ls ms ns' after rise run

@@ -1,9 +1,9 @@
 -- Passes and ticks as lists of numbers of 64 bits, and what a caller reads off the lent list: apart from what reads and writes the bytes. From document 02,
 -- item 10, and include/celestial_time.h, ct_place_ticks: number i of a list is the eight bytes from 8 i on, the lowest first. Assumes nothing.
-use Rattle.std.specs.Prelude.{ℕ, zero, suc, ◌*◌, ◌≤◌, ◌<◌, ◌≡◌, ◌↔◌, List, [], ◌∷◌, length, get_or, drop}
+use Rattle.std.specs.Prelude.{ℕ, zero, suc, ◌*◌, ◌≤◌, ◌<◌, ◌≡◌, ◌↔◌, List, [], ◌∷◌, length, get_or, drop, Result, Ok}
+use Rattle.refusals.specs.declared.Refusal.{Refusal}
+use Rattle.refusals.specs.Outcome.{refusal, outcome}
 use Rattle.numerals.specs.little_endian.LittleEndian.{u64_at}
-use Rattle.ticks.specs.declared.TicksAnswer.{TicksAnswer}
-use Rattle.ticks.specs.declared.TicksAnswer.TheVariants.{Written, Refused}
 use Rattle.ticks.specs.Passes.{Passes, millis_at}
 use Rattle.ticks.specs.laws.Sound.{Sound, Inside}
 
@@ -20,11 +20,11 @@ pub record ListedGood (ps ms ts : List ℕ) (room : ℕ) : Type 0 where
 
 -- The call over these lists: answered exactly where nothing is refused; refused, the lent list, which held `before`, stays; answered, the eight bytes from 8 i
 -- on read back as the millisecond of the i-th tick, for every i, and the bytes behind them stay.
-pub record ListedTicks (ps ms ts before : List ℕ) (r : TicksAnswer) (after : List ℕ) : Type 0 where
-  pub answered : (r ≡ Written (8 * length ts)) ↔ ListedGood ps ms ts (length before)
-  pub stays : (n : ℕ) → r ≡ Refused n → after ≡ before
-  pub each : r ≡ Written (8 * length ts) → (i : ℕ) → i < length ts → u64_at after (8 * i) ≡ millis_at (listed_passes ps ms) (get_or ts i 0)
-  pub spare : r ≡ Written (8 * length ts) → drop (8 * length ts) after ≡ drop (8 * length ts) before
+pub record ListedTicks (ps ms ts before : List ℕ) (r : Result ℕ Refusal) (after : List ℕ) : Type 0 where
+  pub answered : (r ≡ Ok (8 * length ts)) ↔ ListedGood ps ms ts (length before)
+  pub stays : (n : ℕ) → outcome r ≡ refusal n → after ≡ before
+  pub each : r ≡ Ok (8 * length ts) → (i : ℕ) → i < length ts → u64_at after (8 * i) ≡ millis_at (listed_passes ps ms) (get_or ts i 0)
+  pub spare : r ≡ Ok (8 * length ts) → drop (8 * length ts) after ≡ drop (8 * length ts) before
 
 -- a, a + 1, .. a + n - 1
 unfoldable pub count_up : ℕ → ℕ → List ℕ

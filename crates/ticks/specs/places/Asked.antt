@@ -1,17 +1,14 @@
 -- What the functions below the call ask and ensure. Assumes nothing.
 use Rattle.std.specs.Prelude.{ℕ, ◌+◌, ◌*◌, ◌≤◌, ◌≡◌, List, length}
 use Rattle.refusals.specs.Outcome.{Outcome}
-use Rattle.ticks.specs.judging.Refusing.{number_at}
 use Rattle.ticks.specs.judging.GoodCalls.{GoodPasses}
 use Rattle.ticks.specs.Passes.{Passes}
 use Rattle.ticks.specs.places.Places.{placed_reading, number_of, with_place, with_places, with_reading_numbers, without_place}
 
--- k + 2 passes from `first` to `last`, a last neighbour, and eight bytes for reading i
-pub record HasReading (ps ls : List ℕ) (k j first last i : ℕ) (out : List ℕ) : Type 0 where
+-- k + 2 passes, a last neighbour, and eight bytes for reading i
+pub record HasReading (ps ls : List ℕ) (k j i : ℕ) (out : List ℕ) : Type 0 where
   pub passes : GoodPasses ps ls k
   pub near : j ≤ k
-  pub from : first ≡ number_at ps 0
-  pub to : last ≡ number_at ps (k + 1)
   pub place : 8 * i + 8 ≤ length out
 
 -- reading i at millisecond m is placed: r is its number, and j the neighbour to go on from

@@ -7,8 +7,6 @@ use Rattle.std.specs.Prelude.{ℕ, zero, suc, ◌+◌, ◌-◌, ◌*◌, ◌/◌
 use Rattle.std.proofs.lemmas.List.Edits.{sets}
 use Rattle.refusals.specs.Outcome.{Outcome, answer, refusal}
 use Rattle.numerals.specs.little_endian.LittleEndian.{eight_bytes}
-use Rattle.ticks.specs.declared.places.PlacesAnswer.{PlacesAnswer}
-use Rattle.ticks.specs.declared.places.PlacesAnswer.TheVariants as Answer
 use Rattle.ticks.specs.judging.Refusing.{number_at, numbers_in, whole_numbers, passes_refusal}
 use Rattle.ticks.specs.Passes.{Passes, millis_at}
 use Rattle.ticks.specs.Ticks.{passes_of}
@@ -63,10 +61,6 @@ places_refusal ps ls ms count room =
     11)
     12)
     14
-
-unfoldable pub places_outcome : PlacesAnswer → Outcome ℕ
-places_outcome (Answer.Written n) = answer n
-places_outcome (Answer.Refused k) = refusal k
 
 -- the answer, and what is left in the two lists that are written
 pub record PlacesCall : Type 0 where

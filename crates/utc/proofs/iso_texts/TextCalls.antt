@@ -4,7 +4,9 @@ use Prim.Native.Nat.{ℕ}
 use mathlib.Core.List.{List}
 use lib.IntN.{pos}
 use lib.Ieee.{Float}
-use Rattle.refusals.specs.Outcome.{Outcome, answer, refusal, onward}
+use Rattle.std.specs.Prelude.{Result}
+use Rattle.refusals.specs.declared.Refusal.{Refusal}
+use Rattle.refusals.specs.Outcome.{Outcome, answer, refusal, onward, outcome}
 use Rattle.calendar.specs.declared.CalendarDate.{CalendarDate}
 use Rattle.calendar.specs.Refusals.{next_of}
 use Rattle.julian.specs.declared.JulianDate.{JulianDate}
@@ -14,22 +16,20 @@ use Rattle.leap_table.specs.rows.Table.{Row}
 use Rattle.leap_table.specs.offsets.Leap.{leap_at_end_of_day}
 use Rattle.time_of_day.specs.declared.TimeOfDay.{TimeOfDay}
 use Rattle.time_of_day.specs.TimeShown.{shown_by}
-use Rattle.utc.specs.declared.text.TextAnswer.{TextAnswer}
-use Rattle.utc.specs.declared.text.TextAnswer.TheVariants.{Refused}
-use Rattle.utc.specs.text.Answer.{text_outcome, TextPut}
+use Rattle.utc.specs.text.Answer.{TextPut}
 use Rattle.utc.specs.iso_texts.TextForm.{TextForm}
 use Rattle.utc.specs.iso_texts.IsoText.{midnight, next_midnight_text_by, shown_text_by, day_text_by, day_text, iso_text_by, iso_text, standard_form}
 use Rattle.utc.specs.iso_texts.TextCall.{written, buffer_holds, TextCall}
 
-pub call-refused : (o : Outcome (List ℕ)) (n : ℕ) (l : List ℕ) → o ≡ refusal n → TextCall o l (Refused n) l
-unfolding written buffer_holds text_outcome onward
-call-refused o n l e = subst (λ (x : Outcome (List ℕ)). TextCall x l (Refused n) l) (sym e) (record { says = refl; holds = refl })
+pub call-refused : (o : Outcome (List ℕ)) (k : ℕ) (l : List ℕ) (r : Result ℕ Refusal) → outcome r ≡ refusal k → o ≡ refusal k → TextCall o l r l
+unfolding written buffer_holds onward
+call-refused o k l r p e = subst (λ (x : Outcome (List ℕ)). TextCall x l r l) (sym e) (record { says = p; holds = refl })
 
-pub call-put : (o : Outcome (List ℕ)) (t l out : List ℕ) (r : TextAnswer) → o ≡ answer t → TextPut t l r out → TextCall o l r out
+pub call-put : (o : Outcome (List ℕ)) (t l out : List ℕ) (r : Result ℕ Refusal) → o ≡ answer t → TextPut t l r out → TextCall o l r out
 unfolding written buffer_holds onward
 call-put o t l out r e p = subst (λ (x : Outcome (List ℕ)). TextCall x l r out) (sym e) (record { says = p.says; holds = p.holds })
 
-pub call-as : (o x : Outcome (List ℕ)) (l out : List ℕ) (r : TextAnswer) → o ≡ x → TextCall x l r out → TextCall o l r out
+pub call-as : (o x : Outcome (List ℕ)) (l out : List ℕ) (r : Result ℕ Refusal) → o ≡ x → TextCall x l r out → TextCall o l r out
 call-as o x l out r e p = subst (λ (x : Outcome (List ℕ)). TextCall x l r out) (sym e) p
 
 -- ---- the next date's midnight, by a way to write a date and a time

@@ -19,7 +19,8 @@ use Rattle.time_of_day.specs.TimeShown.{shown_by}
 use Rattle.utc.specs.iso_texts.TextForm.{TextForm}
 use Rattle.utc.specs.iso_texts.IsoText.{shown_text_by, day_text_by}
 use Rattle.utc.specs.iso_texts.ByRule.{rule_on, text_by_rule}
-use Rattle.utc.specs.iso_texts.TextDay.{TextDay, day_with_leap, text_day}
+use Rattle.utc.specs.declared.iso_texts.TextDay.{TextDay}
+use Rattle.utc.specs.iso_texts.TextDay.{day_with_leap, text_day}
 
 module _ (textForm : TextForm) (rows : List Row) (jd : JulianDate) where
   -- the text and the rule of a day

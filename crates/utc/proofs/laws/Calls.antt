@@ -8,7 +8,8 @@ use lib.Dec.{ltb}
 use lib.IntN.{ℤ}
 use lib.Ieee.{Float, lt, of_bits}
 use borrow.Author.Tests.{ltb-false, ltb-true}
-use Rattle.refusals.specs.Outcome.{Outcome, answer, onward}
+use Rattle.std.specs.Prelude.{Err}
+use Rattle.refusals.specs.Outcome.{Outcome, answer, onward, outcome}
 use Rattle.refusals.proofs.Onward.{came, went}
 use Rattle.calendar.specs.declared.CalendarDate.{CalendarDate}
 use Rattle.julian.specs.declared.CalendarFields.{CalendarFields}
@@ -20,12 +21,9 @@ use Rattle.leap_table.specs.rows.Table.{Row}
 use Rattle.leap_table.specs.offsets.Rule.{forget, rule_on, with_rule}
 use Rattle.time_of_day.specs.declared.TimeOfDay.{TimeOfDay}
 use Rattle.time_of_day.specs.ExactTime.{GoodTime, minus_one_f}
-use Rattle.utc.specs.declared.text.TextAnswer.TheVariants.{Refused}
-use Rattle.utc.specs.declared.iso_texts.TextByRule.TheVariants as Ruled
-use Rattle.utc.specs.text.Answer.{text_outcome}
 use Rattle.utc.specs.iso_texts.TextForm.{TextForm}
 use Rattle.utc.specs.iso_texts.IsoText.{day_text_by}
-use Rattle.utc.specs.iso_texts.ByRule.{text_by_rule, text_by_rule_outcome}
+use Rattle.utc.specs.iso_texts.ByRule.{text_by_rule}
 use Rattle.utc.specs.laws.Calls.{CallsDecided, ExpandedLike01, HalvesAway, RefusedTextStays, ShortDay, TextsPassOn, TextsRefuse}
 use Rattle.utc.proofs.text.ExpandedLaws.{expanded-1-before, expanded-12000, expanded-rest, expanded-same}
 use Rattle.utc.proofs.iso_texts.TextRules.{rule-call-forgets, text-forgets}
@@ -51,8 +49,8 @@ calls_decided t j x y m d n before after = record {
 }
 
 pub refused-text-stays : (before after : List ℕ) → RefusedTextStays before after
-unfolding text_outcome text_by_rule_outcome forget onward
-refused-text-stays before after o n c = nothing_written (forget o) before after n (rule-call-forgets o before after (Ruled.Refused n) (Refused n) refl c)
+unfolding outcome forget onward
+refused-text-stays before after o k c = nothing_written (forget o) before after k (rule-call-forgets o before after (Err k) (Err k) refl c)
 
 pub halves_away : HalvesAway
 halves_away f l = refl

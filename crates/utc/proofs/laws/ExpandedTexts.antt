@@ -9,6 +9,9 @@ use lib.IntN.{ℤ, pos, negsuc}
 use lib.ListN.{length}
 use lib.Ieee.{Float, binary64, fits}
 use lib.Ieee.Scale.{finite}
+use Rattle.std.specs.Prelude.{Ok, Err}
+use Rattle.refusals.specs.declared.Refusal.{Refusal}
+use Rattle.refusals.specs.Refusal.{refusal_number}
 use Rattle.refusals.specs.Outcome.{Outcome, answer, refusal, onward}
 use Rattle.floats.specs.Whole.{away}
 use Rattle.calendar.specs.declared.CalendarDate.{CalendarDate}
@@ -25,7 +28,6 @@ use Rattle.time_of_day.specs.declared.TimeShown.TheVariants.{At, NextMidnight}
 use Rattle.time_of_day.specs.TimeShown.{count_by, shown_by}
 use Rattle.time_of_day.proofs.Rounded.{away-nearest}
 use Rattle.utc.specs.text.Ascii.{ascii_bytes}
-use Rattle.utc.specs.declared.text.TextAnswer.TheVariants.{Written, Refused}
 use Rattle.utc.specs.text.Text.{utc_text}
 use Rattle.utc.specs.text.Expanded.{expanded_year, expanded_text}
 use Rattle.utc.proofs.text.ExpandedLaws as Text
@@ -63,12 +65,13 @@ TwoLengths n = (n ≡ 23) ⊎ (n ≡ 27)
 pub expanded-text-length : (rows : List Row) (jd : JulianDate) (t : List ℕ) → iso_text_expanded rows jd ≡ answer t → (length t ≡ 23) ⊎ (length t ≡ 27)
 expanded-text-length = every_text expanded_form (λ t. TwoLengths (length t)) Text.expanded-length
 
-pub expanded-call-length : (rows : List Row) (jd : JulianDate) (l out : List ℕ) (n : ℕ) → TextCall (iso_text_expanded rows jd) l (Written n) out → (n ≡ 23)
+pub expanded-call-length : (rows : List Row) (jd : JulianDate) (l out : List ℕ) (n : ℕ) → TextCall (iso_text_expanded rows jd) l (Ok n) out → (n ≡ 23)
     ⊎ (n ≡ 27)
 expanded-call-length rows jd = every_call expanded_form (λ t. TwoLengths (length t)) Text.expanded-length rows jd TwoLengths (λ t h. h)
 
-pub expanded-numbers : (rows : List Row) (jd : JulianDate) (l out : List ℕ) (k : ℕ) → TextCall (iso_text_expanded rows jd) l (Refused k) out → (k ≡ 6)
-    ⊎ ((k ≡ 1) ⊎ (k ≡ 11))
+pub expanded-numbers : (rows : List Row) (jd : JulianDate) (l out : List ℕ) (k : Refusal) → TextCall (iso_text_expanded rows jd) l (Err k) out →
+    (refusal_number k ≡ 6)
+    ⊎ ((refusal_number k ≡ 1) ⊎ (refusal_number k ≡ 11))
 expanded-numbers = call-numbers-by expanded_form
 
 pub expanded-not-finite : (rows : List Row) (jd : JulianDate) → finite jd.jd1 && finite jd.jd2 ≡ false → iso_text_expanded rows jd ≡ refusal 6

@@ -10,6 +10,9 @@ use lib.IntN.{ℤ}
 use lib.ListN.{length}
 use lib.Ieee.{Float, binary64, fits}
 use lib.Ieee.Scale.{finite}
+use Rattle.std.specs.Prelude.{Ok, Err}
+use Rattle.refusals.specs.declared.Refusal.{Refusal}
+use Rattle.refusals.specs.Refusal.{refusal_number}
 use Rattle.refusals.specs.Outcome.{answer, refusal}
 use Rattle.julian.specs.day_number.ExactDay.{OnGrid, grid_sum, GridSumInRange, fraction_of}
 use Rattle.julian.proofs.day_number.ExactDay.{fraction-exact}
@@ -23,7 +26,6 @@ use Rattle.time_of_day.specs.HalfEven.{even_count}
 use Rattle.time_of_day.specs.EvenPromise.{even_parts, even_most}
 use Rattle.time_of_day.specs.ExactTime.{Leap, DayLength, TimeWithin}
 use Rattle.time_of_day.proofs.EvenExact.{even-exact}
-use Rattle.utc.specs.declared.text.TextAnswer.TheVariants.{Written, Refused}
 use Rattle.utc.proofs.text.ReadBack as Read
 use Rattle.utc.specs.iso_texts.IsoText.{iso_text, standard_form}
 use Rattle.utc.specs.iso_texts.TextCall.{TextCall}
@@ -60,12 +62,13 @@ even-for-every-buffer t rows p = text-for-every-buffer-by rows (table-leaps t ro
 pub even-text-length : (rows : List Row) (jd : JulianDate) (t : List ℕ) → iso_text_half_even rows jd ≡ answer t → (23 ≤ length t) × (length t ≤ 26)
 even-text-length = every_text half_even_form (λ t. Length01 (length t)) Read.written-length
 
-pub even-call-length : (rows : List Row) (jd : JulianDate) (l out : List ℕ) (n : ℕ) → TextCall (iso_text_half_even rows jd) l (Written n) out → (23 ≤ n) ×
+pub even-call-length : (rows : List Row) (jd : JulianDate) (l out : List ℕ) (n : ℕ) → TextCall (iso_text_half_even rows jd) l (Ok n) out → (23 ≤ n) ×
     (n ≤ 26)
 even-call-length rows jd = every_call half_even_form (λ t. Length01 (length t)) Read.written-length rows jd Length01 (λ t h. h)
 
-pub even-numbers : (rows : List Row) (jd : JulianDate) (l out : List ℕ) (k : ℕ) → TextCall (iso_text_half_even rows jd) l (Refused k) out → (k ≡ 6)
-    ⊎ ((k ≡ 1) ⊎ (k ≡ 11))
+pub even-numbers : (rows : List Row) (jd : JulianDate) (l out : List ℕ) (k : Refusal) → TextCall (iso_text_half_even rows jd) l (Err k) out →
+    (refusal_number k ≡ 6)
+    ⊎ ((refusal_number k ≡ 1) ⊎ (refusal_number k ≡ 11))
 even-numbers = call-numbers-by half_even_form
 
 pub even-not-finite : (rows : List Row) (jd : JulianDate) → finite jd.jd1 && finite jd.jd2 ≡ false → iso_text_half_even rows jd ≡ refusal 6

@@ -5,6 +5,7 @@ use mathlib.Core.Logic.{◌⊎◌, inl, inr}
 use mathlib.Core.List.{List}
 use Prim.Native.Nat.{ℕ, ◌≤◌}
 use lib.ListN.{length}
+use Rattle.std.specs.Prelude.{Ok}
 use Rattle.refusals.specs.Outcome.{Outcome, answer, refusal}
 use Rattle.calendar.specs.declared.CalendarDate.{CalendarDate}
 use Rattle.calendar.specs.Calendar.{next}
@@ -17,7 +18,6 @@ use Rattle.time_of_day.specs.declared.TimeOfDay.{TimeOfDay}
 use Rattle.time_of_day.specs.declared.TimeShown.{TimeShown}
 use Rattle.time_of_day.specs.declared.TimeShown.TheVariants.{At, NextMidnight}
 use Rattle.time_of_day.specs.TimeShown.{shown_by}
-use Rattle.utc.specs.declared.text.TextAnswer.TheVariants.{Written}
 use Rattle.utc.proofs.text.ReadBack as Read
 use Rattle.utc.specs.iso_texts.TextForm.{TextForm}
 use Rattle.utc.specs.iso_texts.IsoText.{midnight, iso_text_by, iso_text, standard_form}
@@ -54,7 +54,7 @@ module _ (textForm : TextForm) (P : List ℕ → Type 0) (each : (d : CalendarDa
               (fields-given-by textForm rows jd c p ∙ text-refused-by rows c.date textForm c.fraction 1 v))
 
   -- and what holds of its length holds of what a call says that it wrote
-  pub every_call : (Q : ℕ → Type 0) → ((t : List ℕ) → P t → Q (length t)) → (l out : List ℕ) (n : ℕ) → TextCall (iso_text_by textForm rows jd) l (Written n) out
+  pub every_call : (Q : ℕ → Type 0) → ((t : List ℕ) → P t → Q (length t)) → (l out : List ℕ) (n : ℕ) → TextCall (iso_text_by textForm rows jd) l (Ok n) out
       → Q n
   every_call Q f l out n c =
       let (t, p, q, s) = text-put (iso_text_by textForm rows jd) l out n c in
@@ -67,5 +67,5 @@ Length01 n = (23 ≤ n) × (n ≤ 26)
 pub text-length : (rows : List Row) (jd : JulianDate) (t : List ℕ) → iso_text rows jd ≡ answer t → (23 ≤ length t) × (length t ≤ 26)
 text-length = every_text standard_form (λ t. Length01 (length t)) Read.written-length
 
-pub call_length : (rows : List Row) (jd : JulianDate) (l out : List ℕ) (n : ℕ) → TextCall (iso_text rows jd) l (Written n) out → (23 ≤ n) × (n ≤ 26)
+pub call_length : (rows : List Row) (jd : JulianDate) (l out : List ℕ) (n : ℕ) → TextCall (iso_text rows jd) l (Ok n) out → (23 ≤ n) × (n ≤ 26)
 call_length rows jd = every_call standard_form (λ t. Length01 (length t)) Read.written-length rows jd Length01 (λ t h. h)

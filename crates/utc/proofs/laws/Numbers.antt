@@ -10,7 +10,10 @@ use lib.Dec.{T, leb}
 use lib.ListN.{length}
 use lib.Ieee.{Float}
 use lib.Ieee.Scale.{finite}
-use Rattle.refusals.specs.Outcome.{Outcome, answer, refusal, onward}
+use Rattle.std.specs.Prelude.{Err}
+use Rattle.refusals.specs.declared.Refusal.{Refusal}
+use Rattle.refusals.specs.Refusal.{refusal_number}
+use Rattle.refusals.specs.Outcome.{Outcome, answer, refusal, onward, outcome}
 use Rattle.calendar.specs.declared.CalendarDate.{CalendarDate}
 use Rattle.calendar.proofs.Years.{valid_of, gregorian_refusal}
 use Rattle.julian.specs.day_number.DayNumber.{accepted}
@@ -21,8 +24,7 @@ use Rattle.julian.specs.declared.CalendarFields.{CalendarFields}
 use Rattle.julian.specs.Calendar.{julian_to_calendar}
 use Rattle.julian.proofs.laws.CalendarDays.{only-six}
 use Rattle.leap_table.specs.rows.Table.{Row}
-use Rattle.utc.specs.declared.text.TextAnswer.TheVariants.{Refused}
-use Rattle.utc.specs.text.Answer.{text_outcome, text_written}
+use Rattle.utc.specs.text.Answer.{text_written}
 use Rattle.utc.specs.iso_texts.TextForm.{TextForm}
 use Rattle.utc.specs.iso_texts.IsoText.{iso_text_by, iso_text, standard_form}
 use Rattle.utc.specs.iso_texts.TextCall.{written, TextCall}
@@ -56,22 +58,25 @@ text-numbers-by textForm rows jd k e = go (julian_to_calendar jd.jd1 jd.jd2) ref
             (fields-given-by textForm rows jd c p ∙ text-refused-by rows c.date textForm c.fraction 1 v))
 
 -- and of a call
-pub call-numbers-by : (textForm : TextForm) (rows : List Row) (jd : JulianDate) (l out : List ℕ) (k : ℕ)
-    → TextCall (iso_text_by textForm rows jd) l (Refused k) out → (k ≡ 6) ⊎ ((k ≡ 1) ⊎ (k ≡ 11))
-unfolding text_outcome written text_written onward
+pub call-numbers-by : (textForm : TextForm) (rows : List Row) (jd : JulianDate) (l out : List ℕ) (k : Refusal)
+    → TextCall (iso_text_by textForm rows jd) l (Err k) out → (refusal_number k ≡ 6) ⊎ ((refusal_number k ≡ 1) ⊎ (refusal_number k ≡ 11))
+unfolding outcome written text_written onward
 call-numbers-by textForm rows jd l out k c = go (iso_text_by textForm rows jd) refl c.says
   where
-    longer : (t : List ℕ) (b : Bool) → refusal k ≡ cond b (answer (length t)) (refusal 11) → k ≡ 11
-    longer t true e = absurd (not_both (refusal k) _ k e refl)
+    longer : (t : List ℕ) (b : Bool) → refusal (refusal_number k) ≡ cond b (answer (length t)) (refusal 11) → refusal_number k ≡ 11
+    longer t true e = absurd (not_both (refusal (refusal_number k)) _ (refusal_number k) e refl)
     longer t false e = cc
 
-    first : (k ≡ 6) ⊎ (k ≡ 1) → (k ≡ 6) ⊎ ((k ≡ 1) ⊎ (k ≡ 11))
+    first : (refusal_number k ≡ 6) ⊎ (refusal_number k ≡ 1) → (refusal_number k ≡ 6) ⊎ ((refusal_number k ≡ 1) ⊎ (refusal_number k ≡ 11))
     first (inl p) = inl p
     first (inr p) = inr (inl p)
 
-    go : (o : Outcome (List ℕ)) → iso_text_by textForm rows jd ≡ o → refusal k ≡ onward o (λ t. text_written t (length l)) → (k ≡ 6) ⊎ ((k ≡ 1) ⊎ (k ≡ 11))
+    go : (o : Outcome (List ℕ)) → iso_text_by textForm rows jd ≡ o → refusal (refusal_number k) ≡ onward o (λ t. text_written t (length l))
+        → (refusal_number k ≡ 6) ⊎ ((refusal_number k ≡ 1) ⊎ (refusal_number k ≡ 11))
     go (answer t) p e = inr (inr (longer t (leb (length t) (length l)) e))
-    go (refusal n) p e = let q : n ≡ k = cc in first (text-numbers-by textForm rows jd k (subst (λ (j : ℕ). iso_text_by textForm rows jd ≡ refusal j) q p))
+    go (refusal n) p e =
+        let q : n ≡ refusal_number k = cc in
+        first (text-numbers-by textForm rows jd (refusal_number k) (subst (λ (j : ℕ). iso_text_by textForm rows jd ≡ refusal j) q p))
 
 -- ---- DEMAND 1: a part that is not finite is refused with 6
 pub not_finite_by : (textForm : TextForm) (rows : List Row) (jd : JulianDate) → finite jd.jd1 && finite jd.jd2 ≡ false
@@ -110,7 +115,8 @@ refused-alike textForm other rows jd k e = go (julian_to_calendar jd.jd1 jd.jd2)
 
 -- ---- of document 01's
 
-pub call-numbers : (rows : List Row) (jd : JulianDate) (l out : List ℕ) (k : ℕ) → TextCall (iso_text rows jd) l (Refused k) out → (k ≡ 6) ⊎ ((k ≡ 1) ⊎ (k ≡ 11))
+pub call-numbers : (rows : List Row) (jd : JulianDate) (l out : List ℕ) (k : Refusal) → TextCall (iso_text rows jd) l (Err k) out
+    → (refusal_number k ≡ 6) ⊎ ((refusal_number k ≡ 1) ⊎ (refusal_number k ≡ 11))
 call-numbers = call-numbers-by standard_form
 
 pub not_finite : (rows : List Row) (jd : JulianDate) → finite jd.jd1 && finite jd.jd2 ≡ false → iso_text rows jd ≡ refusal 6

@@ -8,7 +8,9 @@ use lib.IntN.{ℤ}
 use lib.ListN.{length, drop}
 use lib.Ieee.{Float}
 use borrow.Author.Tests.{leb-true, leb-false}
-use Rattle.refusals.specs.Outcome.{answer, refusal}
+use Rattle.std.specs.Prelude.{Result}
+use Rattle.refusals.specs.declared.Refusal.{Refusal}
+use Rattle.refusals.specs.Outcome.{answer, refusal, outcome}
 use Rattle.julian.specs.day_number.ExactDay.{GridSumInRange}
 use Rattle.julian.specs.declared.JulianDate.{JulianDate}
 use Rattle.leap_table.specs.declared.rows.AnnouncedRows.{AnnouncedRows}
@@ -16,8 +18,6 @@ use Rattle.leap_table.specs.rows.Table.{Row, fixed}
 use Rattle.leap_table.specs.rows.Announced.{table_of}
 use Rattle.leap_table.specs.offsets.Leap.{leap_at_end_of_day}
 use Rattle.time_of_day.specs.ExactTime.{Leap}
-use Rattle.utc.specs.declared.text.TextAnswer.{TextAnswer}
-use Rattle.utc.specs.text.Answer.{text_outcome}
 use Rattle.utc.specs.iso_texts.TextForm.{TextForm}
 use Rattle.utc.specs.iso_texts.IsoText.{iso_text_by, standard_form}
 use Rattle.utc.specs.iso_texts.TextCall.{TextCall}
@@ -35,11 +35,11 @@ use Rattle.utc.proofs.laws.Alike.{alike, exactly, buffer}
 case : {A : Type 0} (b c : Bool) (x y : A) → b ≡ c → cond b x y ≡ cond c x y
 case b c x y e = ap (λ (d : Bool). cond d x y) e
 
-put : (t l out : List ℕ) (r : TextAnswer) → text_outcome r ≡ cond (leb (length t) (length l)) (answer (length t)) (refusal 11)
+put : (t l out : List ℕ) (r : Result ℕ Refusal) → outcome r ≡ cond (leb (length t) (length l)) (answer (length t)) (refusal 11)
     → out ≡ cond (leb (length t) (length l)) (t ++ drop (length t) l) l → Put t l r out
 put t l out r = go (leb (length t) (length l)) refl
   where
-    go : (b : Bool) → leb (length t) (length l) ≡ b → text_outcome r ≡ cond b (answer (length t)) (refusal 11) → out ≡ cond b (t ++ drop (length t) l) l
+    go : (b : Bool) → leb (length t) (length l) ≡ b → outcome r ≡ cond b (answer (length t)) (refusal 11) → out ≡ cond b (t ++ drop (length t) l) l
         → Put t l r out
     go true p e q = fits_in (leb-true (length t) (length l) p) e q
     go false p e q = too_long (leb-false (length t) (length l) p) e q
@@ -50,7 +50,7 @@ module _ (rows : List Row) (cases : (y m d : ℤ) (x : Float) → leap_at_end_of
   demand = sum-demand rows cases textForm p good sum range
 
   -- a call for a division is one for the sum
-  as_sum : (jd : JulianDate) → Division sum jd → (l : List ℕ) (r : TextAnswer) (out : List ℕ) → TextCall (iso_text_by textForm rows jd) l r out
+  as_sum : (jd : JulianDate) → Division sum jd → (l : List ℕ) (r : Result ℕ Refusal) (out : List ℕ) → TextCall (iso_text_by textForm rows jd) l r out
       → TextCall (sum_text textForm rows sum) l r out
   as_sum jd d l r out c = call-as _ _ l out r (sym (of_sum textForm rows sum range jd d)) c
 

@@ -7,7 +7,9 @@ use native.Mathlib.Omega.{arith}
 use lib.Dec.{leb}
 use lib.ListN.{length}
 use borrow.Author.Tests.{leb-true, leb-false}
-use Rattle.refusals.specs.Outcome.{Outcome, answer, refusal, onward}
+use Rattle.std.specs.Prelude.{Result}
+use Rattle.refusals.specs.declared.Refusal.{Refusal}
+use Rattle.refusals.specs.Outcome.{Outcome, answer, refusal, onward, outcome}
 use Rattle.refusals.proofs.Onward.{went, stopped}
 use Rattle.calendar.specs.declared.CalendarDate.{CalendarDate}
 use Rattle.calendar.proofs.Years.{valid_of, gregorian_in_range}
@@ -21,12 +23,11 @@ use Rattle.leap_table.specs.rows.Table.{Row}
 use Rattle.leap_table.specs.rows.Announced.{rows_of, table_of}
 use Rattle.leap_table.specs.offsets.Rule.{rule_on, with_rule}
 use Rattle.utc.specs.text.Answer.{text_written}
-use Rattle.utc.specs.declared.iso_texts.TextByRule.{TextByRule}
 use Rattle.utc.specs.iso_texts.TextForm.{TextForm}
 use Rattle.utc.specs.iso_texts.IsoText.{standard_form, day_text_by, iso_text_by}
 use Rattle.utc.specs.iso_texts.Expanded.{expanded_form}
 use Rattle.utc.specs.iso_texts.HalfEven.{half_even_form}
-use Rattle.utc.specs.iso_texts.ByRule.{text_by_rule, text_by_rule_outcome, written_by_rule, TextRuleCall}
+use Rattle.utc.specs.iso_texts.ByRule.{text_by_rule, written_by_rule, TextRuleCall}
 use Rattle.utc.proofs.laws.DayTexts.{text-refused-by, has-text-by}
 use Rattle.utc.proofs.iso_texts.TextCalls.{fields-given-by}
 use Rattle.utc.specs.laws.Ladder.{done, refuse, Decided}
@@ -102,20 +103,20 @@ module _ (t : AnnouncedRows) where
               subst (λ o. Decided o (refuse 11 TooLong done)) (sym (with-text text q p))
               (by-room text (rule_on rows D) (fields-given-by textForm rows jd F p ∙ q)))
 
-    pub text-call-decided : (l out : List ℕ) (r : TextByRule) → TextRuleCall (by_table (λ rows. text_by_rule textForm rows jd)) l r out
-        → Decided (text_by_rule_outcome r) (text_call_ladder textForm t jd (length l))
+    pub text-call-decided : (l out : List ℕ) (r : Result (ℕ × Rule) Refusal) → TextRuleCall (by_table (λ rows. text_by_rule textForm rows jd)) l r out
+        → Decided (outcome r) (text_call_ladder textForm t jd (length l))
     text-call-decided l out r c = subst (λ o. Decided o (text_call_ladder textForm t jd (length l))) (sym c.says) (written-decided (length l))
 
   -- ---- its three calls: `to_iso8601`, `to_iso8601_half_even` and `to_iso8601_expanded`
-  module _ (jd : JulianDate) (l out : List ℕ) (r : TextByRule) where
+  module _ (jd : JulianDate) (l out : List ℕ) (r : Result (ℕ × Rule) Refusal) where
     pub iso_decided : TextRuleCall (by_table (λ rows. text_by_rule standard_form rows jd)) l r out
-        → Decided (text_by_rule_outcome r) (text_call_ladder standard_form t jd (length l))
+        → Decided (outcome r) (text_call_ladder standard_form t jd (length l))
     iso_decided = text-call-decided standard_form jd l out r
 
     pub half-even-decided : TextRuleCall (by_table (λ rows. text_by_rule half_even_form rows jd)) l r out
-        → Decided (text_by_rule_outcome r) (text_call_ladder half_even_form t jd (length l))
+        → Decided (outcome r) (text_call_ladder half_even_form t jd (length l))
     half-even-decided = text-call-decided half_even_form jd l out r
 
     pub expanded-decided : TextRuleCall (by_table (λ rows. text_by_rule expanded_form rows jd)) l r out
-        → Decided (text_by_rule_outcome r) (text_call_ladder expanded_form t jd (length l))
+        → Decided (outcome r) (text_call_ladder expanded_form t jd (length l))
     expanded-decided = text-call-decided expanded_form jd l out r

@@ -49,7 +49,8 @@ use Rattle.utc.specs.text.Expanded.{expanded_year, expanded_text}
 use Rattle.utc.specs.text.Answer.{buffer_after}
 use Rattle.utc.specs.iso_texts.IsoText.{shown_text_by, day_text_by, iso_text_by}
 use Rattle.utc.specs.iso_texts.TextCall.{buffer_holds}
-use Rattle.utc.specs.iso_texts.TextDay.{TextDay, day_with_leap}
+use Rattle.utc.specs.declared.iso_texts.TextDay.{TextDay}
+use Rattle.utc.specs.iso_texts.TextDay.{day_with_leap}
 use Rattle.utc.specs.text.Layout.{basic_year}
 use Rattle.utc.specs.iso_texts.Named.{form_named}
 use Rattle.utc.specs.run_texts.RunTexts.{length_byte, refusal_byte}

@@ -1,5 +1,5 @@
 -- The texts of a run put one after the other. Assumes nothing.
-use Prim.Native.Nat.{ℕ, zero, suc, ◌+◌, ◌*◌, ◌%◌, ◌<◌, ◌≤◌}
+use Prim.Native.Nat.{ℕ, zero, suc, ◌+◌, ◌*◌, ◌%◌, ◌≤◌}
 use native.Mathlib.Omega.{arith}
 use native.Mathlib.Numerals.{add-one}
 use mathlib.Core.Path.{◌≡◌, refl, sym, ap, subst, ◌∙◌}
@@ -10,25 +10,27 @@ use lib.ListN.{length, set, length-set, take, drop, length-drop, take-append-dro
 use lib.Seq.{sets, sets-eq, length-sets, length-take-le, drop-append-le, drop-drop}
 use borrow.Rule.Slice.PartMut.{mid_of, post_of, put_mid}
 use borrow.Author.Tests.{le-leb}
-use Rattle.refusals.specs.Outcome.{Outcome, answer, refusal, onward}
+use Rattle.std.specs.Prelude.{Result, Ok, Err}
+use Rattle.refusals.specs.Refusal.{refusal_number}
+use Rattle.refusals.specs.declared.Refusal.{Refusal}
+use Rattle.refusals.specs.Outcome.{Outcome, answer, refusal, onward, outcome}
 use Rattle.julian.specs.declared.JulianDate.{JulianDate}
 use Rattle.julian.specs.stamp_lists.Stamps.{stamp_of}
 use Rattle.leap_table.specs.declared.offsets.Rule.{Rule}
 use Rattle.leap_table.specs.rows.Table.{Row}
 use Rattle.leap_table.specs.offsets.Rule.{with_rule, forget}
 use Rattle.utc.specs.text.Answer.{text_written, buffer_after}
-use Rattle.utc.specs.declared.iso_texts.TextByRule.{TextByRule}
-use Rattle.utc.specs.declared.iso_texts.TextByRule.TheVariants.{Written, Refused}
 use Rattle.utc.specs.declared.iso_texts.NamedForm.{NamedForm}
 use Rattle.utc.specs.iso_texts.IsoText.{iso_text_by}
 use Rattle.utc.specs.iso_texts.TextCall.{buffer_holds}
-use Rattle.utc.specs.iso_texts.ByRule.{text_by_rule, text_by_rule_outcome, written_by_rule, TextRuleCall}
+use Rattle.utc.specs.iso_texts.ByRule.{text_by_rule, written_by_rule, TextRuleCall}
 use Rattle.utc.specs.iso_texts.Named.{form_named}
 use Rattle.utc.specs.declared.run_texts.Beside.{Beside}
 use Rattle.utc.specs.run_texts.RunTexts.{stamp_text, length_byte, refusal_byte, with_text, with_texts, with_bytes, texts_refused}
 use Rattle.utc.specs.run_texts.Asked.{TextBeside, TextPlaced, TextsPlaced}
 use Rattle.utc.proofs.iso_texts.TextRules.{text-forgets}
 use Rattle.utc.proofs.laws.NamedTexts.{named-text-few}
+use Prim.Native.Nat.{◌<◌}
 
 -- ---- lengths
 pub text-kept : (o : Outcome (List ℕ)) (i : ℕ) (l : List ℕ) → length (with_text o i l) ≡ length l
@@ -77,30 +79,30 @@ pub part_room : (l : List ℕ) (at k : ℕ) → k ≡ 27 → at + 27 ≤ length 
 part_room l at k ek h = subst (λ (x : ℕ). 27 ≤ length (mid_of at x l)) (sym ek) (omega (arith, length-take-le 27 (drop at l) (omega (arith, length-drop at l))))
 
 -- ---- one stamp: what stands beside its text, by what the text call answers
-unfoldable pub beside_of : TextByRule → Beside
-beside_of (Written n rule) = record { length = n % 256; number = 0 }
-beside_of (Refused k) = record { length = 0; number = k % 256 }
+unfoldable pub beside_of : Result (ℕ × Rule) Refusal → Beside
+beside_of (Ok (n, rule)) = record { length = n % 256; number = 0 }
+beside_of (Err k) = record { length = 0; number = refusal_number k % 256 }
 
-beside-refused : (r : TextByRule) (k : ℕ) → text_by_rule_outcome r ≡ refusal k → beside_of r ≡ record { length = 0; number = k % 256 }
-unfolding beside_of text_by_rule_outcome
-beside-refused (Written n rule) k e = let z : ◌≡◌ {A = ℕ} 0 1 = cc e in let w : ⊥ = omega arith in absurd w
-beside-refused (Refused j) k e = let z : j ≡ k = cc e in ap (λ (x : ℕ). beside_of (Refused x)) z
+beside-refused : (r : Result (ℕ × Rule) Refusal) (k : ℕ) → outcome r ≡ refusal k → beside_of r ≡ record { length = 0; number = k % 256 }
+unfolding beside_of outcome
+beside-refused (Ok (n, rule)) k e = let z : ◌≡◌ {A = ℕ} 0 1 = cc e in let w : ⊥ = omega arith in absurd w
+beside-refused (Err j) k e = let z : refusal_number j ≡ k = cc e in ap (λ (x : ℕ). record { length = 0; number = x % 256 }) z
 
 -- the bytes that are said to be written
 abbrev written_count : Outcome (ℕ × Rule) → ℕ
 written_count (answer p) = p.0
 written_count (refusal k) = 0
 
-beside-written : (r : TextByRule) (n : ℕ) (rule : Rule) → n ≤ 27 → text_by_rule_outcome r ≡ answer (n, rule) → beside_of r ≡ record { length = n; number = 0 }
-unfolding beside_of text_by_rule_outcome
-beside-written (Refused j) n rule h e = let z : ◌≡◌ {A = ℕ} 0 1 = cc e in let w : ⊥ = omega arith in absurd w
-beside-written (Written m rule') n rule h e =
+beside-written : (r : Result (ℕ × Rule) Refusal) (n : ℕ) (rule : Rule) → n ≤ 27 → outcome r ≡ answer (n, rule) → beside_of r ≡ record { length = n; number = 0 }
+unfolding beside_of outcome
+beside-written (Err j) n rule h e = let z : ◌≡◌ {A = ℕ} 0 1 = cc e in let w : ⊥ = omega arith in absurd w
+beside-written (Ok (m, rule')) n rule h e =
     let z : m ≡ n = ap written_count e in
     let small : m % 256 ≡ n = omega arith in
     ap (λ (x : ℕ). record { length = x; number = 0 }) small
 
 -- the call writes into a buffer of 27 bytes or more; o is the text with the rule of its day
-pub text-beside : (l : List ℕ) → 27 ≤ length l → (o : Outcome (List ℕ × Rule)) (r : TextByRule) (out : List ℕ)
+pub text-beside : (l : List ℕ) → 27 ≤ length l → (o : Outcome (List ℕ × Rule)) (r : Result (ℕ × Rule) Refusal) (out : List ℕ)
     → ((t : List ℕ) → forget o ≡ answer t → length t ≤ 27) → TextRuleCall o l r out → TextBeside (forget o) l (beside_of r) out
 unfolding written_by_rule with_rule text_written forget onward length_byte refusal_byte
 text-beside l h (refusal k) r out few p =
@@ -109,7 +111,7 @@ text-beside l h (refusal k) r out few p =
 text-beside l h (answer u) r out few p =
     let most : length u.0 ≤ 27 = few u.0 refl in
     let room : length u.0 ≤ length l = omega arith in
-    let says : text_by_rule_outcome r ≡ answer (length u.0, u.1) = p.says ∙ rw (le-leb (length u.0) (length l) room) in
+    let says : outcome r ≡ answer (length u.0, u.1) = p.says ∙ rw (le-leb (length u.0) (length l) room) in
     let e = beside-written r (length u.0) u.1 most says in
     record { length = ap (λ (b : Beside). b.length) e; number = ap (λ (b : Beside). b.number) e; holds = p.holds }
 
@@ -132,53 +134,33 @@ unfolding texts_refused
 at_most f zero = omega arith
 at_most f (suc n) = omega (arith, at_most f n, one_at_most (eqb (refusal_byte (f n)) 0))
 
--- i stamps of n are put
-pub record Putting (f : ℕ → Outcome (List ℕ)) (n : ℕ) (texts₀ lengths₀ numbers₀ texts lengths numbers : List ℕ) (refused i : ℕ) : Type 0 where
-  pub high : i ≤ n
-  pub put : TextsPlaced f i texts₀ lengths₀ numbers₀ refused texts lengths numbers
-
-module _ (f : ℕ → Outcome (List ℕ)) (n : ℕ) (texts₀ lengths₀ numbers₀ : List ℕ) where
-  pub putting_starts : Putting f n texts₀ lengths₀ numbers₀ texts₀ lengths₀ numbers₀ 0 0
+-- i stamps are put
+module _ {f : ℕ → Outcome (List ℕ)} {texts₀ lengths₀ numbers₀ : List ℕ} where
+  pub putting_starts : TextsPlaced f 0 texts₀ lengths₀ numbers₀ 0 texts₀ lengths₀ numbers₀
   unfolding with_texts with_bytes texts_refused
-  putting_starts = record { high = omega arith; put = record { count = refl; first = refl; second = refl; third = refl } }
+  putting_starts = record { count = refl; first = refl; second = refl; third = refl }
 
-  module _ (texts lengths numbers : List ℕ) (refused i : ℕ) (p : Putting f n texts₀ lengths₀ numbers₀ texts lengths numbers refused i) where
-    pub len1 : length texts ≡ length texts₀
-    len1 = ap length p.put.first ∙ texts-kept f i texts₀
-
-    pub len2 : length lengths ≡ length lengths₀
-    len2 = ap length p.put.second ∙ bytes-kept length_byte f i lengths₀
-
-    pub len3 : length numbers ≡ length numbers₀
-    len3 = ap length p.put.third ∙ bytes-kept refusal_byte f i numbers₀
-
+  module _ {texts lengths numbers : List ℕ} {refused i : ℕ} (p : TextsPlaced f i texts₀ lengths₀ numbers₀ refused texts lengths numbers) where
     pub few : refused ≤ i
-    few = omega (arith, p.put.count, at_most f i)
+    few = omega (arith, p.count, at_most f i)
 
-    pub putting_goes : (texts' : List ℕ) (r : Beside) (one : ℕ) → i < n → TextPlaced (f i) i texts r texts' → one ≡ cond (eqb r.number 0) 0 1
-        → Putting f n texts₀ lengths₀ numbers₀ texts' (set lengths i r.length) (set numbers i r.number) (refused + one) (i + 1)
+    pub putting_goes : {texts' : List ℕ} {r : Beside} → TextPlaced (f i) i texts r texts' → (refused' : ℕ) → refused' ≡ refused + cond (eqb r.number 0) 0 1
+        → TextsPlaced f (i + 1) texts₀ lengths₀ numbers₀ refused' texts' (set lengths i r.length) (set numbers i r.number)
     unfolding with_texts with_bytes texts_refused
-    putting_goes texts' r one h s e =
-        subst (λ (j : ℕ). Putting f n texts₀ lengths₀ numbers₀ texts' (set lengths i r.length) (set numbers i r.number) (refused + one) j)
+    putting_goes {texts'} {r} s refused' e =
+        subst (λ (j : ℕ). TextsPlaced f j texts₀ lengths₀ numbers₀ refused' texts' (set lengths i r.length) (set numbers i r.number))
         (sym (add-one i))
         (record {
-          high = omega arith;
-          put = record {
-            count = (λ k. p.put.count k + (e ∙ ap (λ (x : ℕ). cond (eqb x 0) 0 1) s.number) k);
-            first = s.text ∙ ap (with_text (f i) i) p.put.first;
-            second = (λ k. set (p.put.second k) i (s.length k));
-            third = (λ k. set (p.put.third k) i (s.number k));
-          };
+          count = e ∙ (λ k. p.count k + cond (eqb (s.number k) 0) 0 1);
+          first = s.text ∙ ap (with_text (f i) i) p.first;
+          second = (λ k. set (p.second k) i (s.length k));
+          third = (λ k. set (p.third k) i (s.number k));
         })
 
-    pub putting_ends : n ≤ i → TextsPlaced f n texts₀ lengths₀ numbers₀ refused texts lengths numbers
-    putting_ends h =
-        let e : i ≡ n = omega (arith, p.high) in
-        subst (λ (j : ℕ). TextsPlaced f j texts₀ lengths₀ numbers₀ refused texts lengths numbers) e p.put
-
 -- ---- a date by the text call of its form
-pub date-beside : (textForm : NamedForm) (rows : List Row) (d : JulianDate) (l : List ℕ) (r : TextByRule) (out : List ℕ) (b : Beside) → 27 ≤ length l
-    → b ≡ beside_of r → TextRuleCall (text_by_rule (form_named textForm) rows d) l r out → TextBeside (iso_text_by (form_named textForm) rows d) l b out
+pub date-beside : (textForm : NamedForm) (rows : List Row) (d : JulianDate) (l : List ℕ) (r : Result (ℕ × Rule) Refusal) (out : List ℕ) (b : Beside)
+    → 27 ≤ length l → b ≡ beside_of r → TextRuleCall (text_by_rule (form_named textForm) rows d) l r out
+    → TextBeside (iso_text_by (form_named textForm) rows d) l b out
 date-beside textForm rows d l r out b h e p =
     let f = text-forgets (form_named textForm) rows d in
     subst (λ (x : Beside). TextBeside (iso_text_by (form_named textForm) rows d) l x out) (sym e)
@@ -203,3 +185,31 @@ stamp-placed-again textForm rows js ks l l' i k d b out ek ed h e p =
     subst (λ (x : List ℕ). TextPlaced (stamp_text (form_named textForm) rows js ks i) i l b (put_mid (27 * i) k x out)) (sym e)
     (stamp-placed textForm rows js ks l i k d b out ek ed h
     (subst (λ (x : List ℕ). TextBeside (iso_text_by (form_named textForm) rows d) (mid_of (27 * i) k x) b out) e p))
+
+-- ---- i stamps of n are put: the three lists keep their lengths, and where no stamp is left all are put
+pub record Putting (f : ℕ → Outcome (List ℕ)) (n : ℕ) (texts₀ lengths₀ numbers₀ texts lengths numbers : List ℕ) (refused i : ℕ) : Type 0 where
+  pub high : i ≤ n
+  pub put : TextsPlaced f i texts₀ lengths₀ numbers₀ refused texts lengths numbers
+
+module _ (f : ℕ → Outcome (List ℕ)) (n : ℕ) (texts₀ lengths₀ numbers₀ : List ℕ) where
+  pub none_put : Putting f n texts₀ lengths₀ numbers₀ texts₀ lengths₀ numbers₀ 0 0
+  none_put = record { high = omega arith; put = putting_starts }
+
+  module _ (texts lengths numbers : List ℕ) (refused i : ℕ) (p : Putting f n texts₀ lengths₀ numbers₀ texts lengths numbers refused i) where
+    pub len1 : length texts ≡ length texts₀
+    len1 = ap length p.put.first ∙ texts-kept f i texts₀
+
+    pub len2 : length lengths ≡ length lengths₀
+    len2 = ap length p.put.second ∙ bytes-kept length_byte f i lengths₀
+
+    pub len3 : length numbers ≡ length numbers₀
+    len3 = ap length p.put.third ∙ bytes-kept refusal_byte f i numbers₀
+
+    pub one_more_put : (texts' : List ℕ) (r : Beside) (one : ℕ) → i < n → TextPlaced (f i) i texts r texts' → one ≡ cond (eqb r.number 0) 0 1
+        → Putting f n texts₀ lengths₀ numbers₀ texts' (set lengths i r.length) (set numbers i r.number) (refused + one) (i + 1)
+    one_more_put texts' r one h s e = record { high = omega arith; put = putting_goes p.put s (refused + one) (ap (λ (x : ℕ). refused + x) e) }
+
+    pub putting_ends : n ≤ i → TextsPlaced f n texts₀ lengths₀ numbers₀ refused texts lengths numbers
+    putting_ends h =
+        let e : i ≡ n = omega (arith, p.high) in
+        subst (λ (j : ℕ). TextsPlaced f j texts₀ lengths₀ numbers₀ refused texts lengths numbers) e p.put

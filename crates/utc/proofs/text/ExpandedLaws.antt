@@ -16,16 +16,16 @@ use borrow.Author.Tests.{le-leb, ltb-true, ltb-false, lt-ltb}
 use mir.Syntax.{w32}
 use mir.Val.{SFits, to_z, of_z}
 use mir.Facts.{to_z-of_z}
-use Rattle.refusals.specs.Outcome.{answer}
+use Rattle.std.specs.Prelude.{Result, Ok}
+use Rattle.refusals.specs.declared.Refusal.{Refusal}
+use Rattle.refusals.specs.Outcome.{answer, outcome}
 use Rattle.calendar.specs.declared.CalendarDate.{CalendarDate}
 use Rattle.time_of_day.specs.declared.TimeOfDay.{TimeOfDay}
 use Rattle.utc.specs.text.Ascii.{ascii_bytes}
-use Rattle.utc.specs.declared.text.TextAnswer.{TextAnswer}
-use Rattle.utc.specs.declared.text.TextAnswer.TheVariants.{Written}
 use Rattle.utc.specs.text.Text.{three, four, seven, after_year, year_text, utc_text}
 use Rattle.utc.specs.text.Expanded.{expanded_year, expanded_text}
 use Rattle.utc.specs.text.Layout.{basic_year, third, fourth, wide}
-use Rattle.utc.specs.text.Answer.{text_outcome, text_written, buffer_after, TextPut}
+use Rattle.utc.specs.text.Answer.{text_written, buffer_after, TextPut}
 use Rattle.utc.specs.text.ReadBack.{number, signed_number, ReadsAs, Writable}
 use Rattle.utc.specs.text.ExpandedForm.{ExpandedYear, basic, plus, minus, ExpandedForm}
 use Rattle.utc.proofs.text.ReadBack.{four_is, seven_is, no_sign, with_sign, front_of, year-and-rest}
@@ -46,8 +46,8 @@ seven-source y d u all c2 c3 e2 e3 e = e ∙ (λ i. wide (e2 i) (e3 i) y ++ afte
 
 -- after the copy of t into all of the buffer but its first place, and a sign there
 pub sign-done : (t l ys : List ℕ) (s n : ℕ) → length t < length l → n ≡ length t → ys ≡ take (length t) t ++ drop (length t) (take (length l - 1) (drop 1 l))
-    → TextPut (s ∷ t) l (Written (1 + n)) (set (take 1 l ++ (ys ++ drop (length l - 1) (drop 1 l))) 0 s)
-unfolding text_outcome text_written buffer_after
+    → TextPut (s ∷ t) l (Ok (1 + n)) (set (take 1 l ++ (ys ++ drop (length l - 1) (drop 1 l))) 0 s)
+unfolding outcome text_written buffer_after
 sign-done t [] ys s n h en ey = let z : ⊥ = omega arith in absurd z
 sign-done t (x ∷ m) ys s n h en ey =
     let fits : length (s ∷ t) ≤ length (x ∷ m) = omega arith in
@@ -65,14 +65,14 @@ sign-done t (x ∷ m) ys s n h en ey =
 pub signed-put : (neg : Bool) (y : ℕ) (d : CalendarDate) (u : TimeOfDay) (l all ys : List ℕ) (s n : ℕ) → s ≡ cond neg 45 43 → all ≡ seven y ++ after_year d u
     → 27 ≤ length l → n ≡ length all
     → ys ≡ take (length all) all ++ drop (length all) (take (length l - 1) (drop 1 l))
-    → TextPut ((cond neg 45 43 ∷ seven y) ++ after_year d u) l (Written (1 + n)) (set (take 1 l ++ (ys ++ drop (length l - 1) (drop 1 l))) 0 s)
+    → TextPut ((cond neg 45 43 ∷ seven y) ++ after_year d u) l (Ok (1 + n)) (set (take 1 l ++ (ys ++ drop (length l - 1) (drop 1 l))) 0 s)
 signed-put neg y d u l all ys s n es ea h en ey =
     let many : length all ≡ 26 = ap length ea in
-    subst (λ (t : List ℕ). TextPut t l (Written (1 + n)) (set (take 1 l ++ (ys ++ drop (length l - 1) (drop 1 l))) 0 s)) (λ i. es i ∷ ea i)
+    subst (λ (t : List ℕ). TextPut t l (Ok (1 + n)) (set (take 1 l ++ (ys ++ drop (length l - 1) (drop 1 l))) 0 s)) (λ i. es i ∷ ea i)
     (sign-done all l ys s n (omega arith) en ey)
 
 -- by a date and a time
-pub of_expanded : (d : CalendarDate) (u : TimeOfDay) (neg b : Bool) (n : ℕ) (l out : List ℕ) (r : TextAnswer) → SFits w32 d.year
+pub of_expanded : (d : CalendarDate) (u : TimeOfDay) (neg b : Bool) (n : ℕ) (l out : List ℕ) (r : Result ℕ Refusal) → SFits w32 d.year
     → neg ≡ not (non_neg (to_z w32 (of_z w32 d.year)))
     → n ≡ nat_abs (to_z w32 (of_z w32 d.year)) → basic_year neg n ≡ b → TextPut (cond b (four n) (cond neg 45 43 ∷ seven n) ++ after_year d u) l r out
     → TextPut (expanded_text d u) l r out

@@ -13,13 +13,15 @@ use borrow.Author.Tests.{le-leb, lt-leb}
 use mir.Syntax.{w32}
 use mir.Val.{SFits, to_z, of_z}
 use mir.Facts.{to_z-of_z}
-use Rattle.refusals.specs.Outcome.{answer}
+use Rattle.std.specs.Prelude.{Result, Ok, Err}
+use Rattle.refusals.specs.Refusal.{refusal_number}
+use Rattle.refusals.specs.declared.Refusal.{Refusal}
+use Rattle.refusals.specs.declared.Refusal.TheVariants.{NoRoom}
+use Rattle.refusals.specs.Outcome.{answer, outcome}
 use Rattle.calendar.specs.declared.CalendarDate.{CalendarDate}
 use Rattle.time_of_day.specs.declared.TimeOfDay.{TimeOfDay}
-use Rattle.utc.specs.declared.text.TextAnswer.{TextAnswer}
-use Rattle.utc.specs.declared.text.TextAnswer.TheVariants.{Written, Refused}
 use Rattle.utc.specs.text.Text.{last, three, four, five, six, seven, after_year, year_text, utc_text}
-use Rattle.utc.specs.text.Answer.{text_outcome, text_written, buffer_after, TextPut}
+use Rattle.utc.specs.text.Answer.{text_written, buffer_after, TextPut}
 use Rattle.utc.specs.text.Layout.{signed, basic_year, third, fourth, skipped, wide}
 
 -- ---- the year
@@ -68,21 +70,21 @@ module _ (y : ℕ) (d : CalendarDate) (u : TimeOfDay) where
   basic-source all c2 c3 e3 e = ap (λ (x : List ℕ). take 23 (drop 3 x)) (e ∙ ap (λ (c : ℕ). wide c2 c y ++ after_year d u) e3)
 
 -- ---- a text put, or refused
-pub short : (t l : List ℕ) → length l < length t → TextPut t l (Refused 11) l
-unfolding text_outcome text_written buffer_after
+pub short : (t l : List ℕ) → length l < length t → TextPut t l (Err NoRoom) l
+unfolding outcome text_written buffer_after refusal_number
 short t l h = record { says = simp (lt-leb _ _ h); holds = simp (lt-leb _ _ h) }
 
 -- after the copy of src, which is the text
 pub put-done : (src t l out : List ℕ) (r : ℕ) → src ≡ t → r ≡ length src → out ≡ take (length src) src ++ drop (length src) l → length t ≤ length l
-    → TextPut t l (Written r) out
-unfolding text_outcome text_written buffer_after
+    → TextPut t l (Ok r) out
+unfolding outcome text_written buffer_after
 put-done src t l out r e er eo h = record {
   says = ap answer (er ∙ ap length e) ∙ simp (le-leb _ _ h);
   holds = eo ∙ ap (λ (x : List ℕ). x ++ drop (length src) l) (take-length src) ∙ ap (λ (x : List ℕ). x ++ drop (length x) l) e ∙ simp (le-leb _ _ h);
 }
 
 -- by a date and a time
-pub of_date : (d : CalendarDate) (u : TimeOfDay) (neg : Bool) (n : ℕ) (y l out : List ℕ) (r : TextAnswer) → SFits w32 d.year
+pub of_date : (d : CalendarDate) (u : TimeOfDay) (neg : Bool) (n : ℕ) (y l out : List ℕ) (r : Result ℕ Refusal) → SFits w32 d.year
     → neg ≡ not (non_neg (to_z w32 (of_z w32 d.year)))
     → n ≡ nat_abs (to_z w32 (of_z w32 d.year)) → y ≡ signed neg n → TextPut (y ++ after_year d u) l r out → TextPut (utc_text d u) l r out
 unfolding utc_text

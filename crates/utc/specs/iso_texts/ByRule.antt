@@ -1,7 +1,8 @@
 -- The text of a UTC date with the rule of the day, in each form. Written from document 02, item 5: the text calls pass on the rule of the calendar's date at
 -- 0h, which is the date before any carry: a text that shows the next midnight passes on the rule of the day that ends there. Assumes nothing.
-use Rattle.std.specs.Prelude.{ℕ, ◌≡◌, List, length}
-use Rattle.refusals.specs.Outcome.{Outcome, answer, refusal, onward}
+use Rattle.std.specs.Prelude.{ℕ, ◌≡◌, List, length, Result}
+use Rattle.refusals.specs.declared.Refusal.{Refusal}
+use Rattle.refusals.specs.Outcome.{Outcome, onward, outcome}
 use Rattle.julian.specs.declared.JulianDate.{JulianDate}
 use Rattle.julian.specs.Calendar.{julian_to_calendar}
 use Rattle.leap_table.specs.declared.offsets.Rule.{Rule}
@@ -9,8 +10,6 @@ use Rattle.leap_table.specs.rows.Table.{Row}
 use Rattle.leap_table.specs.offsets.Rule.{with_rule, forget}
 unfoldable pub use Rattle.leap_table.specs.offsets.Rule.{rule_on}
 use Rattle.utc.specs.text.Answer.{text_written}
-use Rattle.utc.specs.declared.iso_texts.TextByRule.{TextByRule}
-use Rattle.utc.specs.declared.iso_texts.TextByRule.TheVariants as Ruled
 use Rattle.utc.specs.iso_texts.TextForm.{TextForm}
 use Rattle.utc.specs.iso_texts.IsoText.{standard_form, day_text_by}
 use Rattle.utc.specs.iso_texts.Expanded.{expanded_form}
@@ -32,16 +31,11 @@ half_even_by_rule rows jd = text_by_rule half_even_form rows jd
 abbrev pub expanded_by_rule : List Row → JulianDate → Outcome (List ℕ × Rule)
 expanded_by_rule rows jd = text_by_rule expanded_form rows jd
 
--- ---- a call that writes it
-unfoldable pub text_by_rule_outcome : TextByRule → Outcome (ℕ × Rule)
-text_by_rule_outcome (Ruled.Written n rule) = answer (n, rule)
-text_by_rule_outcome (Ruled.Refused number) = refusal number
-
 -- into a buffer of n bytes: 11 only where there is a text
 unfoldable pub written_by_rule : Outcome (List ℕ × Rule) → ℕ → Outcome (ℕ × Rule)
 written_by_rule text n = onward text (λ t. with_rule (text_written t.0 n) t.1)
 
 -- r answers the text and the rule, and the buffer, which held `before`, holds `after`
-pub record TextRuleCall (text : Outcome (List ℕ × Rule)) (before : List ℕ) (r : TextByRule) (after : List ℕ) : Type 0 where
-  pub says : text_by_rule_outcome r ≡ written_by_rule text (length before)
+pub record TextRuleCall (text : Outcome (List ℕ × Rule)) (before : List ℕ) (r : Result (ℕ × Rule) Refusal) (after : List ℕ) : Type 0 where
+  pub says : outcome r ≡ written_by_rule text (length before)
   pub holds : after ≡ buffer_holds (forget text) before

@@ -1,22 +1,14 @@
 -- The calendar's day of a UTC date with what a text is written by: the fraction of the day, its leap and its rule. This project's own; no contract of a public
 -- function cites it. Assumes nothing.
 use Rattle.std.specs.Prelude.{List, pos, Float}
-use Rattle.refusals.specs.Outcome.{Outcome, answer, refusal, onward}
+use Rattle.refusals.specs.Outcome.{Outcome, answer, onward}
 use Rattle.calendar.specs.declared.CalendarDate.{CalendarDate}
 use Rattle.julian.specs.declared.JulianDate.{JulianDate}
 use Rattle.julian.specs.Calendar.{julian_to_calendar}
-use Rattle.leap_table.specs.declared.offsets.Rule.{Rule}
 use Rattle.leap_table.specs.rows.Table.{Row}
 use Rattle.leap_table.specs.offsets.Leap.{leap_at_end_of_day}
-use Rattle.utc.specs.declared.iso_texts.DayAnswer.{DayAnswer}
-use Rattle.utc.specs.declared.iso_texts.DayAnswer.TheVariants.{Day, Refused}
+use Rattle.utc.specs.declared.iso_texts.TextDay.{TextDay}
 use Rattle.utc.specs.iso_texts.ByRule.{rule_on}
-
-pub record TextDay : Type 0 where
-  pub date : CalendarDate
-  pub fraction : Float
-  pub leap : Float
-  pub rule : Rule
 
 unfoldable pub day_with_leap : List Row → CalendarDate → Float → Outcome TextDay
 day_with_leap rows d f = onward (leap_at_end_of_day rows d.year (pos d.month) (pos d.day))
@@ -24,7 +16,3 @@ day_with_leap rows d f = onward (leap_at_end_of_day rows d.year (pos d.month) (p
 
 unfoldable pub text_day : List Row → JulianDate → Outcome TextDay
 text_day rows jd = onward (julian_to_calendar jd.jd1 jd.jd2) (λ c. day_with_leap rows c.date c.fraction)
-
-unfoldable pub text_day_outcome : DayAnswer → Outcome TextDay
-text_day_outcome (Day d f l r) = answer (record { date = d; fraction = f; leap = l; rule = r })
-text_day_outcome (Refused k) = refusal k

@@ -1,9 +1,10 @@
 -- What the mission and document 02, items 4 to 6 and 8, ask of the texts and of the calls on UTC, call by call. Assumes nothing.
-use Rattle.std.specs.Prelude.{◌≡◌, ◌&&◌, false, true, List, ◌++◌, ◌⊎◌, ℕ, ◌*◌, ◌+◌, ◌<◌, ◌≤◌, ℤ, negsuc, pos, length, Float}
+use Rattle.std.specs.Prelude.{◌≡◌, ◌&&◌, false, true, List, ◌++◌, ◌⊎◌, ℕ, ◌*◌, ◌+◌, ◌<◌, ◌≤◌, ℤ, negsuc, pos, length, Float, Result, Err}
 use Rattle.std.specs.Float.Ieee.{le, lt}
 use Rattle.std.specs.Int.{w64}
 use Rattle.std.proofs.Common.{SFits}
-use Rattle.refusals.specs.Outcome.{Outcome, answer, onward, refusal}
+use Rattle.refusals.specs.declared.Refusal.{Refusal}
+use Rattle.refusals.specs.Outcome.{Outcome, answer, onward, refusal, outcome}
 use Rattle.floats.specs.Whole.{away, nought}
 use Rattle.constants.specs.Constants.{decimal}
 use Rattle.calendar.specs.declared.CalendarDate.{CalendarDate}
@@ -22,8 +23,6 @@ use Rattle.leap_table.specs.rows.Announced.{table_of}
 use Rattle.leap_table.specs.offsets.Leap.{leap_at_end_of_day}
 use Rattle.leap_table.specs.offsets.Rule.{offset_by_rule, rule_on}
 use Rattle.leap_table.specs.offsets.Told.{WithRule}
-use Rattle.utc.specs.declared.iso_texts.TextByRule.{TextByRule}
-use Rattle.utc.specs.declared.iso_texts.TextByRule.TheVariants.{Refused}
 use Rattle.utc.specs.FromCalendar.{utc_from_calendar}
 use Rattle.utc.specs.UnixTime.{utc_new}
 use Rattle.utc.specs.text.Ascii.{ascii_bytes}
@@ -33,7 +32,7 @@ use Rattle.utc.specs.iso_texts.TextForm.{TextForm}
 use Rattle.utc.specs.iso_texts.IsoText.{iso_text, iso_text_by, standard_form}
 use Rattle.utc.specs.iso_texts.HalfEven.{half_even_form, iso_text_half_even}
 use Rattle.utc.specs.iso_texts.Expanded.{expanded_form, iso_text_expanded}
-use Rattle.utc.specs.iso_texts.ByRule.{TextRuleCall, text_by_rule, text_by_rule_outcome}
+use Rattle.utc.specs.iso_texts.ByRule.{TextRuleCall, text_by_rule}
 use Rattle.utc.specs.laws.Beside.{Beside}
 use Rattle.utc.specs.laws.Ladder.{Decided}
 use Rattle.utc.specs.laws.Ladders.{from_calendar_ladder, leap_ladder, new_ladder, offset_ladder, text_call_ladder}
@@ -52,8 +51,8 @@ TextsRefuse rows j = finite_parts j ≡ false → EachText rows (λ text. text j
 -- each call refuses exactly by its order of tests, and else answers: the texts, into a buffer that held `before`; the look-up of an offset and of a leap, UTC
 -- from calendar fields and from Unix time
 pub record CallsDecided (t : AnnouncedRows) (j : JulianDate) (x : Float) (y m d : ℤ) (n : ℕ) (before after : List ℕ) : Type 0 where
-  pub texts : (form : TextForm) (r : TextByRule) → TextRuleCall (onward (table_of t) (λ l. text_by_rule form l j)) before r after
-      → Decided (text_by_rule_outcome r) (text_call_ladder form t j (length before))
+  pub texts : (form : TextForm) (r : Result (ℕ × Rule) Refusal) → TextRuleCall (onward (table_of t) (λ l. text_by_rule form l j)) before r after
+      → Decided (outcome r) (text_call_ladder form t j (length before))
   pub offset : Decided (onward (table_of t) (λ l. offset_by_rule l y m d x)) (offset_ladder t y m d x)
   pub leap : Decided (onward (table_of t) (λ l. leap_at_end_of_day l y m d)) (leap_ladder t y m d)
   pub from_fields : (m d hour minute : ℕ)
@@ -62,7 +61,7 @@ pub record CallsDecided (t : AnnouncedRows) (j : JulianDate) (x : Float) (y m d 
 
 -- a refused text call changes no byte of its buffer
 abbrev pub RefusedTextStays : List ℕ → List ℕ → Type 0
-RefusedTextStays before after = (o : Outcome (List ℕ × Rule)) (n : ℕ) → TextRuleCall o before (Refused n) after → after ≡ before
+RefusedTextStays before after = (o : Outcome (List ℕ × Rule)) (k : Refusal) → TextRuleCall o before (Err k) after → after ≡ before
 
 -- one text or one refusal for all divisions of a date on the grid and every buffer, right to 0.501 ms, or 0.5 ms to even
 abbrev pub OneTextEach : List Row → Type 0

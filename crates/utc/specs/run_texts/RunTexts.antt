@@ -6,8 +6,6 @@ use Rattle.std.proofs.lemmas.List.Edits.{sets}
 use Rattle.refusals.specs.Outcome.{Outcome, answer, refusal}
 use Rattle.julian.specs.stamp_lists.Stamps.{stamp_of}
 use Rattle.leap_table.specs.rows.Table.{Row}
-use Rattle.utc.specs.declared.run_texts.RunTextsAnswer.{RunTextsAnswer}
-use Rattle.utc.specs.declared.run_texts.RunTextsAnswer.TheVariants as Answer
 use Rattle.utc.specs.iso_texts.TextForm.{TextForm}
 use Rattle.utc.specs.iso_texts.IsoText.{iso_text_by}
 
@@ -49,10 +47,6 @@ texts_refused f zero = 0
 texts_refused f (suc k) = texts_refused f k + cond (eqb (refusal_byte (f k)) 0) 0 1
 
 -- ---- the call
-
-unfoldable pub texts_outcome : RunTextsAnswer → Outcome ℕ
-texts_outcome (Answer.Written n) = answer n
-texts_outcome (Answer.Refused k) = refusal k
 
 -- the answer, and what is left in the slices that are written
 pub record TextsCall : Type 0 where

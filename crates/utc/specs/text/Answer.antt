@@ -1,14 +1,8 @@
 -- The answer of a call that writes a text into a lent buffer, and what the buffer holds. Written from document 01, "UTC text" and "Refusals by number".
 -- Assumes nothing.
-use Rattle.std.specs.Prelude.{ℕ, ◌≡◌, List, ◌++◌, cond, length, drop, leb}
-use Rattle.refusals.specs.Outcome.{Outcome, answer, refusal}
-use Rattle.utc.specs.declared.text.TextAnswer.{TextAnswer}
-use Rattle.utc.specs.declared.text.TextAnswer.TheVariants.{Written, Refused}
-
--- the outcome that each case of the enum is: the number of bytes written, or a refusal
-unfoldable pub text_outcome : TextAnswer → Outcome ℕ
-text_outcome (Written n) = answer n
-text_outcome (Refused k) = refusal k
+use Rattle.std.specs.Prelude.{ℕ, ◌≡◌, List, ◌++◌, cond, length, drop, leb, Result}
+use Rattle.refusals.specs.declared.Refusal.{Refusal}
+use Rattle.refusals.specs.Outcome.{Outcome, answer, refusal, outcome}
 
 -- the outcome of asking for the text t in a buffer of n bytes: its length, or 11 exactly where the text is longer than the buffer
 unfoldable pub text_written : List ℕ → ℕ → Outcome ℕ
@@ -19,6 +13,6 @@ unfoldable pub buffer_after : List ℕ → List ℕ → List ℕ
 buffer_after t l = cond (leb (length t) (length l)) (t ++ drop (length t) l) l
 
 -- r answers the text t, and the buffer, which held `before`, holds `after`
-pub record TextPut (t before : List ℕ) (r : TextAnswer) (after : List ℕ) : Type 0 where
-  pub says : text_outcome r ≡ text_written t (length before)
+pub record TextPut (t before : List ℕ) (r : Result ℕ Refusal) (after : List ℕ) : Type 0 where
+  pub says : outcome r ≡ text_written t (length before)
   pub holds : after ≡ buffer_after t before

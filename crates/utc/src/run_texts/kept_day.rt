@@ -2,17 +2,18 @@
 // jd2 is from 0.0 to below 1.0, where the text shows a time of the day itself; every other stamp goes to the single call. The time of day is counted as there.
 ghost use Rattle.std.specs.Prelude.{◌≡◌, ◌++◌, ◌<◌, ◌≤◌, length};
 ghost use Rattle.time_of_day.specs.TimeShown.{time_of};
-ghost use Rattle.leap_table.specs.rows.Announced.{rows_in};
-ghost use Rattle.utc.specs.iso_texts.Named.{form_named};
+ghost use Rattle.leap_table.specs.rows.Announced.{rows_of};
 ghost use Rattle.utc.specs.run_texts.Kept as K;
 
 use crate::iso_texts::NamedForm;
 use crate::text::year;
 use calendar::CalendarDate;
 use julian::JulianDate;
+use leap_table::rows::AnnouncedRows;
 
 // The day whose midnight is the Julian date `midnight`, the first part of the stamp before: `end` is the milliseconds at which the next day begins, and 0 where
 // no stamp is served; `leap` is the leap that counts, and `date` is YYYY-MM-DDT.
+// kept: `looked_up` and `end`, and no enum: `RightKept` and `KeptOf` (specs/run_texts/Kept), by which the contracts here go, speak of the fields.
 #[derive(Clone, Copy)]
 pub(crate) struct KeptDay {
     pub midnight: f64,
@@ -64,6 +65,7 @@ fn date_bytes(year: u32, month: u32, day: u32) -> [u8; 11]
 }
 
 // What is kept of a day of the years 0 to 9999.
+#[tactic(auto, unfolding(crate::specs::run_texts::Kept::KeptOf))]
 fn kept_of(midnight: f64, date: CalendarDate, leap: f64) -> KeptDay
     ensures { K.KeptOf midnight date leap result }
 {
@@ -85,19 +87,20 @@ fn kept_of(midnight: f64, date: CalendarDate, leap: f64) -> KeptDay
 }
 
 // The day of a midnight, looked up.
-fn look_up<'a>(midnight: f64, size: usize, months: &'a [i32; 16], seconds: &'a [i32; 16]) -> KeptDay
-    ensures { K.RightKept (rows_in size months.now seconds.now) result }
+// kept: beside by_day of runs: what is kept and the last midnight differ, and one body would take the look-up as a closure with its contract.
+// kept: `match`, since both arms give a value: a day that is refused is kept too, as one that serves no stamp.
+#[tactic(auto, unfolding(crate::specs::run_texts::Kept::RightKept))]
+fn look_up(midnight: f64, table: &AnnouncedRows) -> KeptDay
+    ensures { K.RightKept (rows_of table.now) result }
 {
     let w = floats::nearest_whole(midnight);
     if midnight - w.value == -0.5 {
         if midnight >= 1.0 {
             if midnight <= LAST_MIDNIGHT {
                 let date = calendar::gregorian_date(w.number);
-                return match crate::iso_texts::with_leap(date, 0.0, size, months, seconds) {
-                    crate::iso_texts::DayAnswer::Refused(_) => serves_none(midnight),
-                    crate::iso_texts::DayAnswer::Day(_, _, leap, _) => kept_of(
-                        midnight, date, leap,
-                    ),
+                return match crate::iso_texts::with_leap(date, 0.0, table) {
+                    Err(_) => serves_none(midnight),
+                    Ok(day) => kept_of(midnight, date, day.leap),
                 };
             }
         }
@@ -106,21 +109,16 @@ fn look_up<'a>(midnight: f64, size: usize, months: &'a [i32; 16], seconds: &'a [
 }
 
 // The day that is kept for a stamp whose first part is jd1: it stays where it has this midnight, and is looked up where the stamp before had it too.
-pub(crate) fn next_day<'a>(
-    jd1: f64,
-    kept: KeptDay,
-    size: usize,
-    months: &'a [i32; 16],
-    seconds: &'a [i32; 16],
-) -> KeptDay
-    requires { K.RightKept (rows_in size months.now seconds.now) kept }
-    ensures { K.RightKept (rows_in size months.now seconds.now) result }
+#[tactic(auto, unfolding(crate::specs::run_texts::Kept::RightKept))]
+pub(crate) fn next_day(jd1: f64, kept: KeptDay, table: &AnnouncedRows) -> KeptDay
+    requires { K.RightKept (rows_of table.now) kept }
+    ensures { K.RightKept (rows_of table.now) result }
 {
     if jd1 == kept.midnight {
         if kept.looked_up {
             return kept;
         }
-        return look_up(jd1, size, months, seconds);
+        return look_up(jd1, table);
     }
     let date = kept.date;
     KeptDay {
@@ -133,6 +131,7 @@ pub(crate) fn next_day<'a>(
 }
 
 // The text of a time of a day that is kept.
+// kept: the minute and the rest as in `shown::time_of`, since the law `time-written` (run_texts/KeptDays) speaks of these two.
 fn day_bytes(d: [u8; 11], millis: u32) -> [u8; 23]
     requires { millis < 86401000 }
     ensures { result ≡ K.eleven d ++ K.time_characters (time_of millis) }
@@ -170,23 +169,13 @@ fn day_bytes(d: [u8; 11], millis: u32) -> [u8; 23]
     ]
 }
 
-// The milliseconds of a fraction of a day with the leap that counts, by the form of text.
-fn count_of(textForm: NamedForm, fraction: f64, leap: f64) -> u64
-    ensures { result ≡ (form_named textForm).count fraction leap }
-{
-    match textForm {
-        NamedForm::Standard => crate::shown::millis_shown(fraction, leap),
-        NamedForm::HalfEven => crate::shown::even_count(fraction, leap),
-        NamedForm::Expanded => crate::shown::millis_shown(fraction, leap),
-    }
-}
-
 // Puts the text of a fraction of the day that is kept, where that is a time of the day itself; else nothing is written.
+#[tactic(auto, unfolding(crate::specs::run_texts::Kept::PutsTime))]
 fn put_time(textForm: NamedForm, fraction: f64, kept: KeptDay, out: &mut [u8]) -> bool
     requires { 27 ≤ length out.old }
     ensures { K.PutsTime textForm fraction kept out.old result out.new }
 {
-    let count = count_of(textForm, fraction, kept.leap);
+    let count = crate::shown::count_of(textForm, fraction, kept.leap);
     if count < kept.end {
         if count < 86401000 {
             let date = kept.date;
@@ -199,6 +188,7 @@ fn put_time(textForm: NamedForm, fraction: f64, kept: KeptDay, out: &mut [u8]) -
 }
 
 // Puts the text of a stamp that the day serves; else nothing is written.
+#[tactic(auto, unfolding(crate::specs::run_texts::Kept::PutsByDay))]
 pub(crate) fn put_kept(textForm: NamedForm, jd: JulianDate, kept: KeptDay, out: &mut [u8]) -> bool
     requires { 27 ≤ length out.old }
     ensures { K.PutsByDay textForm jd kept out.old result out.new }

@@ -1,10 +1,7 @@
 // The time of day that text shows with halves of a millisecond to the even one, decided on whole numbers where the fraction and the day allow it.
 ghost use Rattle.std.specs.Prelude.{◌≡◌, ◌*◌, ◌≤◌, ◌<◌, false};
-ghost use Rattle.time_of_day.specs.TimeShown.{shown_by};
 ghost use Rattle.time_of_day.specs.HalfEven.{nearest_even, even, grid_units, worth as worth·of, day_is_whole, twice, of_halves, float_count, in_whole};
 ghost use Rattle.time_of_day.specs.HalfEven.{even_count};
-
-use time_of_day::TimeShown;
 
 const TWO_52: f64 = 4503599627370496.0;
 
@@ -14,14 +11,8 @@ const UNITS: u64 = 4503599627370496;
 // A product is made in halves of 26 bits.
 const HALF_BITS: u64 = 67108864;
 
-// The units in a fraction.
-fn grid_units(fraction: f64) -> u64
-    ensures { result ≡ grid_units fraction }
-{
-    time_of_day::from_zero(floats::saturating_i64(fraction * TWO_52))
-}
-
 // Whether a float is worth a whole number below 2^52.
+#[tactic(auto, unfolding(time_of_day::specs::HalfEven::worth))]
 fn worth(n: u64, x: f64) -> bool
     ensures { result ≡ worth·of n x }
 {
@@ -31,6 +22,7 @@ fn worth(n: u64, x: f64) -> bool
     false
 }
 
+#[tactic(auto, unfolding(time_of_day::specs::HalfEven::day_is_whole))]
 fn whole_seconds(leap: f64) -> bool
     ensures { result ≡ day_is_whole leap }
 {
@@ -41,6 +33,7 @@ fn whole_seconds(leap: f64) -> bool
 }
 
 // The nearest whole number, and of two the even one.
+#[tactic(auto, using(crate::proofs::Found::halves))]
 fn nearest_even(whole: u64, rest: u64) -> u64
     requires { whole ≤ 86401000 }
     ensures { result ≡ nearest_even whole rest 4503599627370496 }
@@ -65,6 +58,7 @@ fn even_millis(units: u64, day: u64) -> u64
 }
 
 // Twice the float that document 01's call rounds.
+#[tactic(auto, unfolding(time_of_day::specs::HalfEven::twice))]
 fn twice_millis(fraction: f64, leap: f64) -> f64
     ensures { result ≡ twice fraction leap }
 {
@@ -72,6 +66,7 @@ fn twice_millis(fraction: f64, leap: f64) -> f64
 }
 
 // The nearest millisecond of so many halves, which may not be all.
+#[tactic(auto, using(crate::proofs::Found::halves))]
 fn of_halves(halves: u64, all: bool) -> u64
     ensures { result ≡ of_halves halves all }
 {
@@ -104,23 +99,10 @@ fn in_whole(units: u64, fraction: f64, leap: f64) -> bool
 pub(crate) fn even_count(fraction: f64, leap: f64) -> u64
     ensures { result ≡ even_count fraction leap }
 {
-    let units = grid_units(fraction);
+    let units = time_of_day::grid_units(fraction);
     if in_whole(units, fraction, leap) {
         even_millis(units, super::day_end(leap))
     } else {
         float_count(fraction, leap)
-    }
-}
-
-// The time of day that the text shows, a half millisecond to the even one.
-pub(crate) fn time_shown_half_even(fraction: f64, leap: f64) -> TimeShown
-    ensures { result ≡ shown_by even_count fraction leap }
-{
-    let day_leap = super::whole_leap(leap);
-    let count = even_count(fraction, day_leap);
-    if count < super::day_end(day_leap) {
-        TimeShown::At(super::time_of(count as u32))
-    } else {
-        TimeShown::NextMidnight
     }
 }

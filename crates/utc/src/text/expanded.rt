@@ -4,8 +4,9 @@ ghost use Rattle.utc.specs.text.Text.{seven, after_year};
 ghost use Rattle.utc.specs.text.Expanded.{expanded_text};
 ghost use Rattle.utc.specs.text.Answer.{TextPut};
 
-use crate::text::{TextAnswer, year};
+use crate::text::year;
 use calendar::CalendarDate;
+use refusals::Refusal;
 use time_of_day::TimeOfDay;
 
 fn sign(negative: bool) -> u8
@@ -21,23 +22,28 @@ fn put_signed(
     date: CalendarDate,
     time: TimeOfDay,
     out: &mut [u8],
-) -> TextAnswer
+) -> Result<usize, Refusal>
     ensures { TextPut ((cond negative 45 43 ∷ seven size) ++ after_year date time) out.old result out.new }
 {
     let third = year::third(false, size);
     let fourth = year::fourth(false, size);
     let all = crate::text::wide_bytes(third, fourth, size, date, time);
     if out.len() < 27 {
-        return TextAnswer::Refused(refusals::NO_ROOM);
+        return Err(Refusal::NoRoom);
     }
     let first = sign(negative);
     let n = numerals::place::copy(&all, &mut out[1..]);
     out[0] = first;
-    TextAnswer::Written(1 + n)
+    Ok(1 + n)
 }
 
 // The text at the buffer's start, 23 or 27 bytes; where it does not fit, 11 and nothing is written.
-pub fn put_text_expanded(date: CalendarDate, time: TimeOfDay, out: &mut [u8]) -> TextAnswer
+// kept: no plainer, beside `put_text`: both are public calls, and differ in how a year that four digits do not hold is put, which is a call already.
+pub fn put_text_expanded(
+    date: CalendarDate,
+    time: TimeOfDay,
+    out: &mut [u8],
+) -> Result<usize, Refusal>
     ensures { TextPut (expanded_text date time) out.old result out.new }
 {
     let negative = year::negative(date.year);

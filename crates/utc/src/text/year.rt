@@ -13,14 +13,11 @@ pub(crate) fn negative(year: i32) -> bool
 pub(crate) fn size(year: i32) -> u32
     ensures { result ≡ nat_abs year }
 {
-    if year < 0 {
-        (0 - (year as i64)) as u32
-    } else {
-        year as u32
-    }
+    year.unsigned_abs()
 }
 
 // Whether four digits and no sign are the whole year.
+#[tactic(auto, unfolding(crate::specs::text::Layout::basic_year))]
 pub(crate) fn is_basic(negative: bool, size: u32) -> bool
     ensures { result ≡ basic_year negative size }
 {
@@ -28,6 +25,7 @@ pub(crate) fn is_basic(negative: bool, size: u32) -> bool
 }
 
 // The third of seven places: a sign's, where there is one.
+#[tactic(auto, unfolding(crate::specs::text::Layout::third))]
 pub(crate) fn third(negative: bool, size: u32) -> u8
     ensures { result ≡ third·of negative size }
 {
@@ -39,6 +37,7 @@ pub(crate) fn third(negative: bool, size: u32) -> u8
 }
 
 // The fourth: a sign's place where three digits hold the year.
+#[tactic(auto, unfolding(crate::specs::text::Layout::fourth))]
 pub(crate) fn fourth(negative: bool, size: u32) -> u8
     ensures { result ≡ fourth·of negative size }
 {
@@ -52,6 +51,7 @@ pub(crate) fn fourth(negative: bool, size: u32) -> u8
 }
 
 // How many of the seven places are left out in front.
+#[tactic(auto, unfolding(crate::specs::text::Layout::skipped))]
 pub(crate) fn skipped(negative: bool, size: u32) -> usize
     ensures { (result ≡ skipped·of negative size) × (result ≤ 3) }
 {

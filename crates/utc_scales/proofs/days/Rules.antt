@@ -54,9 +54,6 @@ module _ {A : Type 0} (o : Outcome A) (q : Outcome Rule) where
   unfolding forget
   refused-forgets k p = stopped _ (sym (not_passed k p)) ∙ sym p
 
-pub with_passed : {A : Type 0} (o o' : Outcome A) (q : Outcome Rule) (r : Rule) → o ≡ o' → q ≡ answer r → with_rule o r ≡ pass_on o' q
-with_passed {A} o o' q r p e = ap (λ (x : Outcome A). with_rule x r) p ∙ passed_all o' q r e
-
 -- ---- the rule of a day
 module _ (rows : List Row) (x y : Float) where
   pub rule-of-day : (d : DayNumber) → day_number_and_fraction x y ≡ answer d → rule_of_date rows x y ≡ answer (rule_on rows (gregorian_date d.day))
@@ -92,3 +89,7 @@ module _ (rows : List Row) (x y : Float) where
       × (rule_of_date rows x y ≡ answer s)
   unfolding offset_of_date_by_rule
   offset-answered a s e = taken-apart (offset_of_date rows x y) (rule_of_date rows x y) a s e
+
+-- ---- the same of an answer that is equal to the one that passes its rule on
+pub with_passed : {A : Type 0} (o o' : Outcome A) (q : Outcome Rule) (r : Rule) → o ≡ o' → q ≡ answer r → with_rule o r ≡ pass_on o' q
+with_passed {A} o o' q r p e = ap (λ (x : Outcome A). with_rule x r) p ∙ passed_all o' q r e

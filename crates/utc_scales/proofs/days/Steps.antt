@@ -1,6 +1,5 @@
 -- The larger part of a date, and TAI-UTC of the day of a pair of parts. Assumes nothing.
 use mathlib.Core.Path.{◌≡◌, ap, ◌∙◌}
-use mathlib.Core.Bool.{Bool}
 use mathlib.Core.List.{List}
 use Prim.Native.Nat.{ℕ}
 use lib.Ieee.{Float}
@@ -14,14 +13,10 @@ use Rattle.julian.specs.Calendar.{julian_to_calendar}
 use Rattle.julian.proofs.laws.CalendarDays.{fields-of}
 use Rattle.leap_table.specs.rows.Table.{Row}
 use Rattle.utc_scales.specs.declared.days.Parts.{Parts}
-use Rattle.utc_scales.specs.days.LargerPart.{first_is_kept, kept_as, kept_parts, placed, change_smaller}
+use Rattle.utc_scales.specs.days.LargerPart.{kept_parts, placed, change_smaller}
 use Rattle.utc_scales.specs.days.Dates.{offset_of_date, offset_at0h}
 
 -- ---- the larger part
-pub parts_are : (d : JulianDate) (b : Bool) → b ≡ first_is_kept d → kept_as d b ≡ kept_parts d
-unfolding kept_parts
-parts_are d b e = ap (kept_as d) e
-
 pub changes : (f : Float → Float → Outcome Float) (d : JulianDate) (p : Parts) (o : Outcome Float) → p ≡ kept_parts d → o ≡ f p.larger p.smaller
     → onward o (placed p) ≡ change_smaller f d
 unfolding change_smaller

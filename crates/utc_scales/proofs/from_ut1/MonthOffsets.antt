@@ -19,8 +19,9 @@ use Rattle.calendar.specs.Refusals.{valid_date}
 use Rattle.calendar.specs.Gregorian.{gregorian_date}
 use Rattle.calendar.proofs.Years.{valid_of, gregorian_in_range, gregorian_refusal}
 use Rattle.calendar.proofs.Mjd.{mjd-given}
+use Rattle.leap_table.specs.declared.rows.AnnouncedRows.{AnnouncedRows}
 use Rattle.leap_table.specs.rows.Table.{month_number}
-use Rattle.leap_table.specs.rows.Announced.{rows_in}
+use Rattle.leap_table.specs.rows.Announced.{rows_of}
 use Rattle.leap_table.specs.offsets.Offset.{offset_at}
 use Rattle.leap_table.proofs.offsets.ByParts.{seconds-reached}
 use Rattle.leap_table.proofs.offsets.Offsets.{in_day_zero, offset-given, offset-came}
@@ -61,20 +62,20 @@ late (pos y) m p h = omega (arith, leb-true 1972 y p)
 late (negsuc y) m p h = let z : ◌≡◌ {A = ℕ} 0 1 = cc in absurd (omega arith)
 
 -- ---- the offset of the day of number a is that of its month
-module _ (size : ℕ) (m s : List ℤ) where
-  same-offset : (n : ℕ) → 23664 ≤ n → (x y : Float) → offset_at (rows_in size m s) n x nought ≡ offset_at (rows_in size m s) n y nought
-  same-offset n h x y = sym (seconds-reached size m s n _ h refl _ refl x nought) ∙ seconds-reached size m s n _ h refl _ refl y nought
+module _ (t : AnnouncedRows) where
+  same-offset : (n : ℕ) → 23664 ≤ n → (x y : Float) → offset_at (rows_of t) n x nought ≡ offset_at (rows_of t) n y nought
+  same-offset n h x y = sym (seconds-reached t n _ h refl _ refl x nought) ∙ seconds-reached t n _ h refl _ refl y nought
 
   pub month-right : (a : ℤ) (k : KnownMonth) → k.year ≡ (gregorian_date a).year → k.month ≡ (gregorian_date a).month
-      → offset_at0h (rows_in size m s) (gregorian_date a) ≡ answer k.seconds → RightMonth (rows_in size m s) k
+      → offset_at0h (rows_of t) (gregorian_date a) ≡ answer k.seconds → RightMonth (rows_of t) k
   unfolding RightMonth offset_at0h
   month-right a k ey em e n fy fm l =
-      let t = gregorian_date n in
+      let b = gregorian_date n in
       let u = gregorian_date a in
-      let lt : le_z (pos 1972) t.year ≡ true = ap (le_z (pos 1972)) fy ∙ l in
-      let same : month_number t.year t.month ≡ month_number u.year u.month = (λ i. month_number ((fy ∙ ey) i) ((fm ∙ em) i)) in
-      let (z, p, q) = offset-came (rows_in size m s) u.year (pos u.month) (pos u.day) nought k.seconds e in
-      offset-given (rows_in size m s) t.year (pos t.month) (pos t.day) nought in_day_zero _
-      (mjd-given t.year (pos t.month) (pos t.day) (valid_late n lt))
-      ∙ ap answer (same-offset (month_number t.year t.month) (late t.year t.month lt (gregorian_in_range n).month-low) _ (of_int binary64 z)
-      ∙ ap (λ (w : ℕ). offset_at (rows_in size m s) w (of_int binary64 z) nought) same ∙ sym q)
+      let lt : le_z (pos 1972) b.year ≡ true = ap (le_z (pos 1972)) fy ∙ l in
+      let same : month_number b.year b.month ≡ month_number u.year u.month = (λ i. month_number ((fy ∙ ey) i) ((fm ∙ em) i)) in
+      let (z, p, q) = offset-came (rows_of t) u.year (pos u.month) (pos u.day) nought k.seconds e in
+      offset-given (rows_of t) b.year (pos b.month) (pos b.day) nought in_day_zero _
+      (mjd-given b.year (pos b.month) (pos b.day) (valid_late n lt))
+      ∙ ap answer (same-offset (month_number b.year b.month) (late b.year b.month lt (gregorian_in_range n).month-low) _ (of_int binary64 z)
+      ∙ ap (λ (w : ℕ). offset_at (rows_of t) w (of_int binary64 z) nought) same ∙ sym q)

@@ -10,7 +10,7 @@
 use Rattle.std.specs.Prelude.{ℕ, zero, suc, ◌+◌, cond, List, pos, negsuc, Float}
 use Rattle.std.specs.Float.{binary64}
 use Rattle.std.specs.Float.Ieee.{of_int, add, sub, mul, div, lt, le}
-use Rattle.refusals.specs.Outcome.{Outcome, answer, refusal, onward}
+use Rattle.refusals.specs.Outcome.{Outcome, answer, onward}
 use Rattle.floats.specs.Whole.{abs, nought, half, one}
 use Rattle.constants.specs.Constants.{seconds_per_day}
 use Rattle.julian.specs.declared.JulianDate.{JulianDate}
@@ -53,10 +53,10 @@ near_step big small dut1 delta z = after_step (time_past_leap big small z (befor
 pub data Scanned : Type 0 where
   noStep step : Float → Scanned
 
-unfoldable pub scan_outcome : DayScan → Outcome Scanned
-scan_outcome (Day.NoStep k) = answer (noStep k.seconds)
-scan_outcome (Day.Step x) = answer (step x)
-scan_outcome (Day.Refused number) = refusal number
+-- what the code calls it
+unfoldable pub scanned : DayScan → Scanned
+scanned (Day.NoStep k) = noStep k.seconds
+scanned (Day.Step x) = step x
 
 -- the day i days later, where the day before has TAI-UTC `before`
 unfoldable pub scan_day : List Row → Float → Float → Float → Float → Float → Outcome Scanned

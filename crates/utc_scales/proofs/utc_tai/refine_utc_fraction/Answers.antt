@@ -1,32 +1,46 @@
 -- `utc_scales::utc_tai::refine_utc_fraction` meets its contract. Assumes nothing.
-use mathlib.Core.Path.{sym, ap, ◌∙◌}
-use lib.Ieee.{Float}
-use Rattle.refusals.specs.Outcome.{Outcome, onward}
-use Rattle.julian.specs.DayFraction.{fraction_outcome}
-use Rattle.leap_table.specs.rows.Announced.{rows_in}
-use Rattle.utc_scales.specs.Known.{RightKnown, part_outcome}
-use Rattle.utc_scales.specs.UtcTai.{refined}
-use Rattle.utc_scales.proofs.Steps.{three-rounds}
+use mathlib.Core.Path.{◌∙◌}
+use Rattle.refusals.specs.Outcome.{outcome}
+use Rattle.refusals.proofs.Handed.{stops_seen, seen_goes}
+use Rattle.leap_table.specs.rows.Announced.{rows_of}
+use Rattle.utc_scales.specs.Known.{RightKnown, RightPart}
+use Rattle.utc_scales.specs.UtcTai.{rounds, refine_utc_fraction}
 use Rattle.utc_scales.proofs.utc_tai.refine_utc_fraction.Goals as goal
 
-pub refined-one-requires : goal.refined-one-requires
+pub refined-requires : goal.refined-requires
 unfolding RightKnown
-refined-one-requires c = tt
+refined-requires c = tt
 
-pub returns-in-Refused : goal.returns-in-Refused
-unfolding part_outcome fraction_outcome
-returns-in-Refused c =
-    let rows = rows_in c.args.size c.args.months.now c.args.seconds.now in
-    let f = refined rows c.args.big c.args.small in
-    let two = c.refined_again-two.ensures.0 ∙ ap (λ (o : Outcome Float). onward o f) c.refined-one.ensures.0 in
-    sym (ap part_outcome c.in-Refused.is) ∙ c.refined_again.ensures.0 ∙ ap (λ (o : Outcome Float). onward o f) two
-    ∙ three-rounds rows c.args.big c.args.small
+pub refined-requires-2 : goal.refined-requires-2
+unfolding RightKnown RightPart
+refined-requires-2 c = c.in_ok-one.ensures.1
 
-pub returns-in-Part : goal.returns-in-Part
-unfolding part_outcome fraction_outcome
-returns-in-Part c =
-    let rows = rows_in c.args.size c.args.months.now c.args.seconds.now in
-    let f = refined rows c.args.big c.args.small in
-    let two = c.refined_again-two.ensures.0 ∙ ap (λ (o : Outcome Float). onward o f) c.refined-one.ensures.0 in
-    sym (ap part_outcome c.in-Part.is) ∙ c.refined_again.ensures.0 ∙ ap (λ (o : Outcome Float). onward o f) two
-    ∙ three-rounds rows c.args.big c.args.small
+pub refined-requires-3 : goal.refined-requires-3
+unfolding RightKnown RightPart
+refined-requires-3 c = c.in_ok-two.ensures.1
+
+pub returns-in_err-one : goal.returns-in_err-one
+unfolding refine_utc_fraction rounds
+returns-in_err-one c =
+    let go = rounds (rows_of c.args.table.now) c.args.big c.args.small in
+    stops_seen _ _ _ _ (go 2) c.from_residual.ensures.1 c.in_err-one.ensures.0
+
+pub returns-in_err-two : goal.returns-in_err-two
+unfolding refine_utc_fraction rounds
+returns-in_err-two c =
+    let go = rounds (rows_of c.args.table.now) c.args.big c.args.small in
+    stops_seen _ _ _ _ (go 1) c.from_residual-in_err-two.ensures.1 c.in_err-two.ensures.0 ∙ seen_goes _ _ _ (go 2) c.in_ok-one.ensures.0
+
+pub returns-in_err-three : goal.returns-in_err-three
+unfolding refine_utc_fraction rounds
+returns-in_err-three c =
+    let go = rounds (rows_of c.args.table.now) c.args.big c.args.small in
+    stops_seen _ _ _ _ (go 0) c.from_residual-in_err-three.ensures.1 c.in_err-three.ensures.0
+    ∙ seen_goes _ _ _ (go 1) c.in_ok-two.ensures.0
+    ∙ seen_goes _ _ _ (go 2) c.in_ok-one.ensures.0
+
+pub returns : goal.returns
+unfolding outcome refine_utc_fraction rounds
+returns c =
+    let go = rounds (rows_of c.args.table.now) c.args.big c.args.small in
+    seen_goes _ _ _ (go 0) c.in_ok-three.ensures.0 ∙ seen_goes _ _ _ (go 1) c.in_ok-two.ensures.0 ∙ seen_goes _ _ _ (go 2) c.in_ok-one.ensures.0

@@ -5,14 +5,15 @@ use lib.IntN.{pos}
 use lib.Signed.{le_z}
 use mir.Syntax.{w32}
 use mir.Facts.{to_z-of_z}
+use Rattle.refusals.specs.Outcome.{seen}
 use Rattle.calendar.specs.declared.CalendarDate.{CalendarDate}
 use Rattle.calendar.specs.Gregorian.{gregorian_date}
 use Rattle.utc_scales.proofs.from_ut1.MonthOffsets.{same_bits}
-use Rattle.utc_scales.specs.from_ut1.KnownMonths.{month_outcome, RightMonth, RightMonths}
+use Rattle.utc_scales.specs.from_ut1.KnownMonths.{RightMonth, RightMonths}
 use Rattle.utc_scales.proofs.from_ut1.months.month_with.Goals as goal
 
 pub returns-then-t-ge1972 : goal.returns-then-t-ge1972
-unfolding month_outcome RightMonths RightMonth
+unfolding seen RightMonths RightMonth
 returns-then-t-ge1972 c =
     let t = c.gregorian_date-t.ensures ∙ ap gregorian_date (to_z-of_z c.ranges.day) in
     let y = same_bits c.gregorian_date-t.result.year c.args.known.year (search rules) (search rules) c.if-t-known-2.true in

@@ -1,0 +1,12 @@
+-- `capi::gps_week_calls::ct_gps_from_week` meets its contract. Assumes nothing.
+use mathlib.Core.Path.{◌∙◌}
+use Rattle.std.proofs.Common.{rules}
+use Rattle.capi.proofs.scale_calls.Mapped.{mapped}
+use Rattle.c_answers.specs.Fields.{julian_bytes}
+use Rattle.c_answers.proofs.Deliveries.{same_outcome}
+use Rattle.capi.proofs.gps_week_calls.ct_gps_from_week.Goals as goal
+
+pub returns : goal.returns
+returns c =
+    same_outcome julian_bytes c.put_date.type_inv (mapped (λ s. s.0) _ _ c.map.ensures.cases (λ x y p. search rules) ∙ c.from_week.ensures)
+    c.put_date.ensures

@@ -1,0 +1,2 @@
+-- The lemma that the calls of the scales cite.
+pub mod Mapped

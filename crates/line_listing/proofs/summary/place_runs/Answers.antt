@@ -1,0 +1,11 @@
+-- `summary::place_runs` meets its contract. Assumes nothing.
+use Rattle.std.proofs.Common.{arith}
+use Rattle.line_listing.proofs.head.Pieces.{and_then, at_most}
+use Rattle.line_listing.proofs.summary.place_runs.Goals as goal
+
+pub returns : goal.returns
+returns c =
+    let p0 = c.place_run-a.ensures in
+    let p1 = c.place_run-b.ensures in
+    let p2 = c.place_run.ensures in at_most (omega (arith, c.requires.1))
+    (and_then (and_then p0 p1 (omega (arith, c.requires.1))) p2 (omega (arith, c.requires.1)))

@@ -1,0 +1,11 @@
+-- `summary::place_seconds` meets its contract. Assumes nothing.
+use Rattle.std.proofs.Common.{arith}
+use Rattle.line_listing.specs.summary.Summary as S
+use Rattle.line_listing.proofs.head.Pieces.{and_then, at_most}
+use Rattle.line_listing.proofs.summary.place_seconds.Goals as goal
+
+pub returns : goal.returns
+unfolding S.seconds_told
+returns c =
+    let p0 = c.place_count-a.ensures in
+    let p1 = c.place_count.ensures in at_most (omega (arith, c.requires)) (and_then p0 p1 (omega (arith, c.requires)))

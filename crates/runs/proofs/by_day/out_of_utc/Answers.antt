@@ -1,0 +1,13 @@
+-- `runs::by_day::out_of_utc` meets its contract: the second step where the first answers. Assumes nothing.
+use Rattle.std.proofs.Common.{◌∙◌}
+use Rattle.leap_table.specs.rows.Announced.{rows_of}
+use Rattle.refusals.proofs.Handed.{stops, goes}
+use Rattle.runs.proofs.by_day.out_of_utc.Goals as goal
+
+pub returns-in_err-tai : goal.returns-in_err-tai
+returns-in_err-tai c = stops _ _ _ _ c.from_residual.ensures.1 c.in_err-tai.ensures
+
+pub returns : goal.returns
+returns c =
+    let a = c.args in
+    c.out_of_tai_by_formula.ensures (rows_of a.table.now) ∙ goes _ _ _ c.in_ok-tai.ensures

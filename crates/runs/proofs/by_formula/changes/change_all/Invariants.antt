@@ -1,0 +1,8 @@
+-- The stamps before place i are put. Assumes nothing.
+use Rattle.runs.specs.by_formula.Asked.{kind_number, change_of, changed_stamp}
+use Rattle.runs.proofs.by_formula.Puts.{Putting}
+use Rattle.runs.proofs.by_formula.changes.change_all.Given as goal
+
+abbrev pub invariant-loop-i : goal.invariant-loop-i
+invariant-loop-i l =
+    Putting (changed_stamp (change_of (kind_number l.kind) l.days) l.jd1s l.jd2s) l.n l.fn.out1 l.fn.out2 l.fn.numbers l.out1 l.out2 l.numbers l.refused l.i

@@ -1,0 +1,17 @@
+-- `utc::new` meets its contract: the table is tested, and its rows are read. Assumes nothing.
+use Rattle.std.proofs.Common.{◌∙◌, to_z-of_z}
+use Rattle.leap_table.specs.rows.Announced.{rows_of}
+use Rattle.leap_table.proofs.rows.TablesTaken.{call_refused, call_taken}
+use Rattle.refusals.proofs.Handed.{seen_handed_on}
+use Rattle.utc.specs.UnixTime.{utc_new}
+use Rattle.utc.proofs.new.Goals as goal
+
+pub returns-in_err-judge_table : goal.returns-in_err-judge_table
+returns-in_err-judge_table c =
+    seen_handed_on _ _ _ c.from_residual.ensures.1 ∙ call_refused c.args.table c.judge_table.result c.judge_table.ensures _ _ c.in_err-judge_table.was
+
+pub returns : goal.returns
+returns c =
+    c.new_by_rows.ensures
+    ∙ (λ i. utc_new (rows_of c.args.table) (to_z-of_z c.ranges.seconds i) c.args.nanos)
+    ∙ call_taken c.args.table c.judge_table.result c.judge_table.ensures _ _ c.in_ok-judge_table.was
