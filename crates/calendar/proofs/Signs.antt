@@ -2,18 +2,29 @@
 -- Assumes nothing.
 use mathlib.Core.Path.{◌≡◌, refl, ap, sym, subst, ◌∙◌}
 use mathlib.Core.Bool.{Bool, true, false, cond, true≢false}
-use Prim.Native.Nat.{ℕ, zero, suc, ◌+◌, ◌-◌, ◌%◌, ◌^◌, ◌≤◌, ◌<◌}
+use Prim.Native.Nat.{ℕ, zero, suc, ◌+◌, ◌-◌, ◌/◌, ◌%◌, ◌^◌, ◌≤◌, ◌<◌}
 use native.Mathlib.Omega.{arith}
-use native.Mathlib.Nat.{mod-le, le_refl}
+use native.Mathlib.Nat.{mod-le, le_refl, div-le_self}
 use lib.Dec.{T, eqb, ltb}
 use lib.IntN.{ℤ, pos, negsuc, nat_abs, neg_ℤ, sub_ℕ, ◌+ℤ◌}
-use lib.Signed.{mag, rem_z, lt_z, non_neg}
+use lib.Signed.{mag, quot_z, rem_z, lt_z, non_neg}
 use mir.Syntax.{Width, w32, w64}
 use mir.Val.{SFits, Fits, to_z, of_z}
 use mir.Facts.{to_z-of_z}
 use borrow.Author.Tests.{ne_eqb, ltb-true, ltb-false, lt-ltb, le-ltb}
 
 -- ---- division of an i32 by a positive number
+mag_neg : (r a : ℕ) → r ≤ suc a → mag (neg_ℤ (pos r)) ≤ a
+mag_neg zero a h = omega arith
+mag_neg (suc r) a h = omega arith
+
+mag_quot : (z : ℤ) (k : ℕ) → mag (quot_z z (pos k)) ≤ mag z
+mag_quot (pos a) k = div-le_self a k
+mag_quot (negsuc a) k = mag_neg (suc a / k) a (div-le_self (suc a) k)
+
+pub quot_fits : (z : ℤ) (k : ℕ) → SFits w32 z → SFits w32 (quot_z (to_z w32 (of_z w32 z)) (pos k))
+quot_fits z k f = rw (to_z-of_z f) (record { sfits = omega (arith, mag_quot z k, f.sfits) })
+
 neg_zero : (r : ℕ) → r ≤ 2147483648 → eqb (of_z w32 (neg_ℤ (pos r))) 0 ≡ eqb r 0
 neg_zero zero h = refl
 neg_zero (suc r) h = ne_eqb (4294967296 - suc r) 0 (λ e. omega arith) ∙ sym (ne_eqb (suc r) 0 (λ e. omega arith))

@@ -46,7 +46,7 @@ put_all t l a b c d p q r s =
 -- ---- the call, by what the reader answered: the list that was read, or the line at fault
 module _ {a : ListAnswer} {t k : List ℕ} {r : ℤ} where
   -- what holds of the answer told holds of the one that the contract speaks of
-  as_told : {found : ListAnswer} {t' k' : List ℕ} → found ≡ a → TableRead found t k r t' k' → TableRead a t k r t' k'
+  pub as_told : {found : ListAnswer} {t' k' : List ℕ} → found ≡ a → TableRead found t k r t' k' → TableRead a t k r t' k'
   as_told {found} {t'} {k'} e d = subst (λ (x : ListAnswer). TableRead x t k r t' k') e d
 
   pub not_read : (f : ListFault) → list_told (Err f) ≡ a → r ≡ code (refusal (refusal_number f.refusal)) → TableRead a t k r t k

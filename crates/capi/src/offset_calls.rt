@@ -10,8 +10,7 @@ ghost use Rattle.c_answers.specs.rules.RuleFields.{offset_rule_bytes};
 
 use c_answers::table::{announced_rows_at, arrays, judge_table};
 use c_answers::{fields, refused};
-use leap_table::offsets::Rule;
-use refusals::Refusal;
+use leap_table::offsets::SecondsByRule;
 
 // The fixed rows and the announced ones.
 #[unsafe(no_mangle)]
@@ -25,7 +24,7 @@ pub extern "C" fn ct_check_table(table: &[u8]) -> i64
     (leap_table::rows::FIXED_ROWS + rows.months_size) as i64
 }
 
-fn put_offset(found: Result<(f64, Rule), Refusal>, out: &mut [u8]) -> i64
+fn put_offset(found: SecondsByRule, out: &mut [u8]) -> i64
     ensures { Delivered (in_bytes offset_rule_bytes (outcome found)) out.old result out.new }
 {
     match found {
@@ -35,7 +34,7 @@ fn put_offset(found: Result<(f64, Rule), Refusal>, out: &mut [u8]) -> i64
 }
 
 // A leap passes no rule on.
-fn put_leap(found: Result<(f64, Rule), Refusal>, out: &mut [u8]) -> i64
+fn put_leap(found: SecondsByRule, out: &mut [u8]) -> i64
     ensures { Delivered (in_bytes float_bytes (forget (outcome found))) out.old result out.new }
 {
     match found {

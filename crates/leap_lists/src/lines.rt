@@ -1,6 +1,6 @@
 // One line of a text: what it says, or that it is outside the grammar.
-ghost use Rattle.std.specs.Prelude.{◌≡◌, IfSome, MatchOption, ◌^◌, ◌≤◌, ◌<◌, length, drop, get_or};
-ghost use Rattle.numerals.specs.digits.Decimal.{is_digit, number, AllDigits};
+ghost use Rattle.std.specs.Prelude.{◌≡◌, IfSome, MatchOption, ◌^◌, ◌≤◌, ◌<◌, length, get_or};
+ghost use Rattle.numerals.specs.digits.Decimal.{is_digit, number};
 ghost use Rattle.leap_lists.specs.lines.Scan.{line_blank, behind_blanks, first_digits, ended, last_number};
 ghost use Rattle.leap_lists.specs.lines.Months.{month_from};
 ghost use Rattle.leap_lists.specs.lines.Lines.{row_with, month_row, ntp_row, row_of, expiry_of, line_says};
@@ -56,29 +56,23 @@ fn digit(c: u8) -> bool
     c.is_ascii_digit()
 }
 
-// The digits in front, `most` of them at most, and what is behind them.
-fn first_digits(s: &[u8], most: usize) -> (&[u8], &[u8])
-    ensures digits { result.0.now ≡ first_digits most s.now }
-    ensures rest { result.1.now ≡ drop (length (first_digits most s.now)) s.now }
-    ensures all { AllDigits result.0.now }
-    ensures few { length result.0.now ≤ most }
-{
-    let n = s.iter().take(most).take_while(|c| digit(**c)).count();
-    s.split_at(n)
-}
-
-// The number that digits say.
-fn number(digits: &[u8]) -> u64
-    requires all { AllDigits digits.now }
-    requires few { length digits.now ≤ 12 }
-    ensures says { result ≡ number digits.now }
-    ensures small { result < 10 ^ length digits.now }
+// The number of the digits in front, `most` of them at most, and how many they are: 0 of none.
+// kept: one loop for both, since a row's digits are read once (a call of `number` for them took a quarter more of a text of sixteen rows).
+fn digits(s: &[u8], most: usize) -> (u64, usize)
+    requires { most ≤ 12 }
+    ensures says { result.0 ≡ number (first_digits most s.now) }
+    ensures many { result.1 ≡ length (first_digits most s.now) }
+    ensures within { result.1 ≤ length s.now }
 {
     let mut value = 0;
-    for c in digits {
-        value = 10 * value + (*c - b'0') as u64;
+    for i in 0..most {
+        let c = byte_at(s, i);
+        if !digit(c) {
+            return (value, i);
+        }
+        value = 10 * value + (c - b'0') as u64;
     }
-    value
+    (value, most)
 }
 
 // Nothing is left, or a comment.
@@ -99,14 +93,15 @@ fn last_number(s: &[u8], most: usize) -> Option<u64>
     if !blank(byte_at(s, 0), false) {
         return None;
     }
-    let (digits, rest) = first_digits(behind_blanks(s, false), most);
-    if digits.is_empty() {
+    let line = behind_blanks(s, false);
+    let (value, n) = digits(line, most);
+    if n == 0 {
         return None;
     }
-    if !ended(behind_blanks(rest, true)) {
+    if !ended(behind_blanks(&line[n..], true)) {
         return None;
     }
-    Some(number(digits))
+    Some(value)
 }
 
 // The row of a month, with the seconds that end the line.
@@ -123,22 +118,21 @@ fn row_with(s: &[u8], month: u32) -> Line
 
 // A row whose year stands before a hyphen, and the month behind it.
 #[tactic(auto, unfolding(crate::specs::lines::Lines::month_row))]
-fn month_row(year: &[u8], s: &[u8]) -> Line
-    requires { AllDigits year.now }
-    ensures { (result ≡ month_row (number year.now) (length year.now) s.now) × InRange result }
+fn month_row(year: u64, places: usize, s: &[u8]) -> Line
+    requires { places ≡ 4 → year < 10000 }
+    ensures { (result ≡ month_row year places s.now) × InRange result }
 {
-    if year.len() != 4 {
+    if places != 4 {
         return Line::Outside;
     }
-    let (digits, rest) = first_digits(s, 2);
-    if digits.len() != 2 {
+    let (month, n) = digits(s, 2);
+    if n != 2 {
         return Line::Outside;
     }
-    let month = number(digits);
     if month < 1 || 12 < month {
         return Line::Outside;
     }
-    row_with(rest, (12 * number(year) + month - 1) as u32)
+    row_with(&s[n..], (12 * year + month - 1) as u32)
 }
 
 // The number of the month whose first day is so many days after 1900-01-01.
@@ -161,15 +155,12 @@ fn month_from(day: u64) -> Option<u32>
 
 // A row whose NTP seconds stand in front: they are the midnight that begins a month.
 #[tactic(auto, unfolding(crate::specs::lines::Lines::ntp_row))]
-fn ntp_row(digits: &[u8], s: &[u8]) -> Line
-    requires all { AllDigits digits.now }
-    requires few { length digits.now ≤ 12 }
-    ensures { (result ≡ ntp_row (number digits.now) (length digits.now) s.now) × InRange result }
+fn ntp_row(ntp: u64, places: usize, s: &[u8]) -> Line
+    ensures { (result ≡ ntp_row ntp places s.now) × InRange result }
 {
-    if digits.is_empty() {
+    if places == 0 {
         return Line::Outside;
     }
-    let ntp = number(digits);
     if ntp % DAY != 0 {
         return Line::Outside;
     }
@@ -184,11 +175,12 @@ fn ntp_row(digits: &[u8], s: &[u8]) -> Line
 fn row_of(s: &[u8]) -> Line
     ensures { (result ≡ row_of s.now) × InRange result }
 {
-    let (digits, rest) = first_digits(s, 12);
+    let (value, n) = digits(s, 12);
+    let rest = &s[n..];
     if byte_at(rest, 0) == b'-' {
-        return month_row(digits, &rest[1..]);
+        return month_row(value, n, &rest[1..]);
     }
-    ntp_row(digits, rest)
+    ntp_row(value, n, rest)
 }
 
 // The expiry whose NTP seconds end the line.

@@ -12,6 +12,7 @@ mod whole_day;
 
 pub use in_day::{get_tai_utc_offset, get_tai_utc_offset_by_rows, offset_at_0h_by_rows};
 pub(crate) use look_up::month_number;
+use refusals::Refusal;
 pub use seconds::whole_seconds_by_rows;
 pub use whole_day::{
     day_offsets, day_offsets_by_rows, leap_at_end_of_day, leap_at_end_of_day_by_rows,
@@ -25,6 +26,9 @@ pub enum Rule {
     Whole(u32),
 }
 
+// Seconds with the rule of the day.
+pub type SecondsByRule = Result<(f64, Rule), Refusal>;
+
 // TAI-UTC in seconds at the start, the middle and the end of a day.
 #[derive(Clone, Copy)]
 pub struct DayOffsets {
@@ -32,3 +36,6 @@ pub struct DayOffsets {
     pub at_12h: f64,
     pub at_24h: f64,
 }
+
+// The same, with the rule of the day.
+pub type DayByRule = Result<(DayOffsets, Rule), Refusal>;

@@ -55,7 +55,7 @@ pub fn put_u64(out: &mut [u8], n: u64)
     if out.len() < 8 {
         return;
     }
-    out[..8].copy_from_slice(&n.to_le_bytes());
+    out[..8].copy_from_slice(&bytes_of_u64(n));
 }
 
 // The four bytes of a number at the start of a lent slice; where they do not all fit, nothing is written.

@@ -69,7 +69,7 @@ fn days_out_of_tai(to: u32) -> f64
 }
 
 // The date so many days later, and 9 where a part is not finite.
-#[tactic(auto, unfolding(julian::specs::shifts::Shifts::converted))]
+#[tactic(auto, using(julian::proofs::shifts::Shifted::shifted_says), unfolding(julian::specs::shifts::Shifts::converted))]
 fn shifted(jd: JulianDate, days: f64) -> Result<JulianDate, Refusal>
     ensures { outcome result ≡ converted (plus days) jd }
 {

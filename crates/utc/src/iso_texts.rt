@@ -27,6 +27,9 @@ pub enum NamedForm {
     Expanded,
 }
 
+// The length of a text with the rule of its day.
+pub type TextByRule = Result<(usize, Rule), Refusal>;
+
 // What a text is written by: the calendar's day, the fraction of it, its leap and its rule.
 #[derive(Clone, Copy)]
 pub(crate) struct TextDay {

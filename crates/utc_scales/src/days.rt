@@ -11,9 +11,8 @@ ghost use Rattle.utc_scales.specs.days.Dates.{offset_at0h};
 ghost use Rattle.utc_scales.specs.days.DateRule.{rule_on};
 
 use julian::JulianDate;
-use leap_table::offsets::Rule;
+use leap_table::offsets::SecondsByRule;
 use leap_table::rows::AnnouncedRows;
-use refusals::Refusal;
 
 // A date by its larger part in size, and whether that is jd1.
 // kept: beside `split` and `put_back` of julian's smaller_part: on equal sizes those change jd1, these jd2; one body would take the comparison as a closure.
@@ -70,7 +69,7 @@ pub(crate) fn put_beside(p: Parts, x: f64) -> JulianDate
 }
 
 // TAI-UTC at 0h of the date of a day number, and its rule.
-pub fn offset_at_0h(day: i64, table: &AnnouncedRows) -> Result<(f64, Rule), Refusal>
+pub fn offset_at_0h(day: i64, table: &AnnouncedRows) -> SecondsByRule
     ensures { outcome result ≡ with_rule (offset_at0h (rows_of table.now) (gregorian_date day))
         (rule_on (rows_of table.now) (gregorian_date day)) }
 {

@@ -5,9 +5,8 @@ ghost use Rattle.calendar.specs.Gregorian.{gregorian_date};
 ghost use Rattle.leap_table.specs.rows.Announced.{rows_of};
 ghost use Rattle.utc_scales.specs.Known.{read_on, RightKnown};
 
-use leap_table::offsets::{DayOffsets, Rule};
+use leap_table::offsets::{DayByRule, DayOffsets, Rule};
 use leap_table::rows::AnnouncedRows;
-use refusals::Refusal;
 
 // The offsets of a day and its rule, looked up.
 #[derive(Clone, Copy)]
@@ -19,7 +18,7 @@ pub(crate) struct KnownDay {
 
 // kept: no plainer: two lines, as days::offset_at_0h has them, the date of a day and a call of leap_table, but another call.
 // At 0h, at 12h and at 24h, and the rule of the day.
-pub fn day_of(day: i64, table: &AnnouncedRows) -> Result<(DayOffsets, Rule), Refusal>
+pub fn day_of(day: i64, table: &AnnouncedRows) -> DayByRule
     ensures { outcome result ≡ read_on (rows_of table.now) (gregorian_date day) }
 {
     let t = calendar::gregorian_date(day);
@@ -27,11 +26,7 @@ pub fn day_of(day: i64, table: &AnnouncedRows) -> Result<(DayOffsets, Rule), Ref
 }
 
 // The same, with no look-up where the day is the known one.
-pub(crate) fn day_with(
-    day: i64,
-    known: Option<KnownDay>,
-    table: &AnnouncedRows,
-) -> Result<(DayOffsets, Rule), Refusal>
+pub(crate) fn day_with(day: i64, known: Option<KnownDay>, table: &AnnouncedRows) -> DayByRule
     requires { RightKnown (rows_of table.now) known }
     ensures { outcome result ≡ read_on (rows_of table.now) (gregorian_date day) }
 {

@@ -24,6 +24,9 @@ pub(crate) struct KnownPart {
     pub known: KnownDay,
 }
 
+// A date with the rule of its offset.
+pub type TaiByRule = Result<(TAI, Rule), Refusal>;
+
 // The fraction of a day of 86,400 s, the drift through it and the leap at its end, in days of 86,400 s.
 fn stretch_day_fraction(o: DayOffsets, fraction: f64) -> f64
     ensures { result ≡ U.stretch_day_fraction o fraction }
@@ -68,7 +71,7 @@ pub(crate) fn tai_fraction(
 }
 
 // Refusals in order: 6, then the date's.
-pub fn utc_to_tai_by_rows(utc: UTC, table: &AnnouncedRows) -> Result<(TAI, Rule), Refusal>
+pub fn utc_to_tai_by_rows(utc: UTC, table: &AnnouncedRows) -> TaiByRule
     ensures { seen (λ p. (p.0.0, p.1)) result ≡ utc_to_tai_by_rule (rows_of table.now) utc.0 }
 {
     let p = kept_parts(utc.0);
@@ -80,7 +83,7 @@ pub fn utc_to_tai_by_rows(utc: UTC, table: &AnnouncedRows) -> Result<(TAI, Rule)
 
 // kept: the test of the table and the call by its rows, as every call by a table has them: two steps, which are functions already.
 // TAI with the rule of TAI-UTC on the date. Refusals in order: 20 to 22 the table, 6, then the date's.
-pub fn utc_to_tai(utc: UTC, table: AnnouncedRows) -> Result<(TAI, Rule), Refusal>
+pub fn utc_to_tai(utc: UTC, table: AnnouncedRows) -> TaiByRule
     ensures { seen (λ p. (p.0.0, p.1)) result ≡ onward (table_of table) (λ rows. utc_to_tai_by_rule rows utc.0) }
 {
     leap_table::rows::judge_table(&table)?;

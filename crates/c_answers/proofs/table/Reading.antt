@@ -25,7 +25,7 @@ use Rattle.leap_table.proofs.rows.TableLaws.{spare-unread}
 use Rattle.leap_table.proofs.rows.TablesTaken.{sizes-differ, sizes-large, table_none, none_rows}
 use Rattle.c_answers.specs.table.TableBytes.{signed_from, record_in, of_length, table_bytes}
 use Rattle.leap_table.specs.rows.Announced.{announced_row, rows_to, rows_in, Judged}
-use Rattle.leap_table.proofs.rows.ByParts.{least-low}
+use Rattle.leap_table.proofs.rows.ByParts.{least-low, rows_in_lem}
 use mathlib.Core.List.{[], ◌∷◌, ◌++◌}
 use Rattle.leap_table.proofs.rows.TablesTaken.{when_taken}
 
@@ -167,30 +167,12 @@ as_seen a (Err k) = go (refusal_number k) (number_low k)
     go (suc j) h = refl
 
 -- ---- a size and two arrays that are judged by number: where the table is taken, their rows are its rows
-same-places : (t : AnnouncedRows) (a b n : ℕ) → rows_to (announced_table a b t.months t.seconds) n ≡ rows_to t n
-unfolding rows_to
-same-places t a b zero = refl
-same-places t a b (suc n) = ap (λ (l : List Row). l ++ (announced_row t n ∷ [])) (same-places t a b n)
-
-least-same : (a : ℕ) → least a a ≡ a
-least-same a = go (leb a a)
-  where
-    go : (b : Bool) → cond b a a ≡ a
-    go true = refl
-    go false = refl
-
-by-one-size : (t : AnnouncedRows) (k : ℕ) → k ≡ least t.months_size t.seconds_size → rows_in k t.months t.seconds ≡ rows_of t
-unfolding announced_size
-by-one-size t k e =
-    same-places t k k (announced_size (announced_table k k t.months t.seconds))
-    ∙ ap (λ (j : ℕ). rows_to t (least j 16)) (least-same k ∙ e)
-
 pub by-arrays : (t : AnnouncedRows) (n : ℕ) → unless_refused n (rows_of t) ≡ table_of t
     → unless_refused n (rows_in (least t.months_size 16) t.months t.seconds) ≡ table_of t
 by-arrays t (suc k) e = e
 by-arrays t zero e =
     let k = when_taken t (rows_of t) (sym e) in
-    ap answer (by-one-size t (least t.months_size 16)
+    ap answer (rows_in_lem t (least t.months_size 16)
     (least-low t.months_size 16 k.most ∙ sym (least-low t.months_size t.seconds_size (omega (arith, k.one_size))))) ∙ e
 
 -- by the sizes a and b that were read

@@ -1,6 +1,6 @@
 -- A date so many days later or earlier, and what is refused first. Written from the Rust's files of scales/conversions, each operation rounded once, and from
 -- document 01, "Scale dates" and the order of refusals (9 before 10). Assumes nothing.
-use Rattle.std.specs.Prelude.{Float}
+use Rattle.std.specs.Prelude.{Float, Result, Ok, Err}
 use Rattle.std.specs.Float.{binary64}
 use Rattle.std.specs.Float.Ieee.{add, sub, div}
 use Rattle.refusals.specs.Outcome.{Outcome, answer, onward}
@@ -23,6 +23,11 @@ minus days larger smaller = sub binary64 smaller days
 -- the date with its smaller part changed
 unfoldable pub changed : (Float → Float → Float) → JulianDate → Outcome JulianDate
 changed f d = answer (map_smaller_part f d)
+
+-- the same of a date that may be refused, by whatever names the refusal: that stays
+unfoldable pub shifted : {E : Type 0} → (Float → Float → Float) → Result JulianDate E → Result JulianDate E
+shifted f (Ok d) = Ok (map_smaller_part f d)
+shifted f (Err e) = Err e
 
 -- the same, and 9 where a part is not finite
 unfoldable pub converted : (Float → Float → Float) → JulianDate → Outcome JulianDate

@@ -24,14 +24,14 @@ fn finite_both(jd: JulianDate, seconds: f64) -> Result<JulianDate, Refusal>
     Ok(date)
 }
 
-#[tactic(auto, unfolding(crate::specs::shifts::Shifts::converted_by))]
+#[tactic(auto, using(crate::proofs::shifts::Shifted::shifted_says), unfolding(crate::specs::shifts::Shifts::converted_by))]
 pub fn later_by(jd: JulianDate, seconds: f64) -> Result<JulianDate, Refusal>
     ensures { outcome result ≡ converted_by plus seconds jd }
 {
     later(finite_both(jd, seconds), days_of(seconds))
 }
 
-#[tactic(auto, unfolding(crate::specs::shifts::Shifts::converted_by))]
+#[tactic(auto, using(crate::proofs::shifts::Shifted::shifted_says), unfolding(crate::specs::shifts::Shifts::converted_by))]
 pub fn earlier_by(jd: JulianDate, seconds: f64) -> Result<JulianDate, Refusal>
     ensures { outcome result ≡ converted_by minus seconds jd }
 {

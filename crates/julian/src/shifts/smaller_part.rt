@@ -1,11 +1,9 @@
 // The Rust's map_smaller_part: the smaller part of a date is chosen, changed, and put back. The larger part stays, so that no digit of it is lost.
 ghost use Rattle.std.specs.Prelude.{◌≡◌};
-ghost use Rattle.refusals.specs.Outcome.{onward, outcome};
 ghost use Rattle.julian.specs.shifts.SmallerPart.{first_is_larger, parts_of, put_back, map_smaller_part};
-ghost use Rattle.julian.specs.shifts.Shifts.{plus, minus, changed};
+ghost use Rattle.julian.specs.shifts.Shifts.{plus, minus, shifted};
 
 use crate::JulianDate;
-use refusals::Refusal;
 
 #[derive(Clone, Copy)]
 pub struct Parts {
@@ -70,17 +68,17 @@ fn subtract_days(jd: JulianDate, days: f64) -> JulianDate
     put_back(jd, p.smaller - days)
 }
 
-// The date so many days later; a refusal stays.
-pub fn later(a: Result<JulianDate, Refusal>, days: f64) -> Result<JulianDate, Refusal>
-    ensures { outcome result ≡ onward (outcome a) (changed (plus days)) }
+// The date so many days later; a refusal, of whatever type, stays.
+pub fn later<E>(a: Result<JulianDate, E>, days: f64) -> Result<JulianDate, E>
+    ensures { result ≡ shifted (plus days) a }
 {
     Ok(add_days(a?, days))
 }
 
-// The date so many days earlier; a refusal stays. It shifts, and orders nothing.
+// The date so many days earlier; a refusal, of whatever type, stays. It shifts, and orders nothing.
 // kept: no `-` for it: `JulianDate::add_days` shifts by another rule, the whole days into jd1, and a sign would not tell it from this.
-pub fn earlier(a: Result<JulianDate, Refusal>, days: f64) -> Result<JulianDate, Refusal>
-    ensures { outcome result ≡ onward (outcome a) (changed (minus days)) }
+pub fn earlier<E>(a: Result<JulianDate, E>, days: f64) -> Result<JulianDate, E>
+    ensures { result ≡ shifted (minus days) a }
 {
     Ok(subtract_days(a?, days))
 }

@@ -9,7 +9,7 @@ small : (z : ℤ) → SFits w32 z → nat_abs z ≤ 2147483648
 small (pos n) f = omega (arith, f.sfits)
 small (negsuc n) f = omega (arith, f.sfits)
 
-year-small : (z : ℤ) → SFits w32 z → nat_abs (to_z w32 (of_z w32 z)) ≤ 2147483648
+pub year-small : (z : ℤ) → SFits w32 z → nat_abs (to_z w32 (of_z w32 z)) ≤ 2147483648
 year-small z f = rw (to_z-of_z f) (small z f)
 
 before-zero : (z : ℤ) (m : ℕ) → lt_z z (pos 0) ≡ true → 0 ≡ month_number z m

@@ -1,13 +1,9 @@
 -- The look-up in any list of months: what it finds from the end, that it is the last month that has begun, and how it grows from month to month in a list that
 -- rises. Assumes nothing.
-use Rattle.std.proofs.Common.{◌≡◌, ℕ, zero, suc, ◌+◌, ◌-◌, ◌<◌, ◌≤◌, Bool, true, false, cond, ◌||◌, T, eqb, ltb, leb, List, [], ◌∷◌, ◌++◌, length, get_or, drop}
+use Rattle.std.proofs.Common.{◌≡◌, ℕ, zero, suc, ◌-◌, ◌<◌, ◌≤◌, Bool, true, false, cond, ◌||◌, T, eqb, ltb, leb, List, [], ◌∷◌, ◌++◌, length, get_or, drop, sym}
 use Rattle.std.proofs.Common.{refl, ap, ◌∙◌, subst, le_of_suc-le-suc, not-suc-le-zero, arith, ltb→lt, drop-cons, ne_eqb, eqb-true, le-leb, leb-false, leb-true}
-use Rattle.std.proofs.Common.{sym}
+use lib.Seq.{drop-length}
 use lib.Ieee.Fits.{and_l, and_r}
-use lib.ListN.{take}
-use lib.Seq.{get_or-take, length-take-le}
-use Rattle.std.specs.List.Sorted.{IsPartitionedBy, IsPartitionPoint}
-use Rattle.std.proofs.lemmas.Grind.{get_or_default_zero}
 use borrow.Author.Tests.{lt-leb, eqb-false}
 use Rattle.leap_table.specs.rows.Table.{reached, on_top, rising, LastBegun}
 
@@ -44,29 +40,13 @@ found l i n p h b e =
 pub passed : (l : List ℕ) (i n : ℕ) → 0 < i → i ≤ length l → n < get_or l (i - 1) 0 → reached (drop i l) n ≡ 0 → reached (drop (i - 1) l) n ≡ 0
 passed l i n p h b e = not_yet l (i - 1) n (omega arith) b (subst (λ (k : ℕ). reached (drop k l) n ≡ 0) (sym (next_down i p)) e)
 
--- what a search between a beginning that has begun and an end that has not finds: the rows from i up to `end` have not, those before i have
-down : (l : List ℕ) (n d i : ℕ) → i + d ≤ length l → reached (drop (i + d) l) n ≡ 0 → ((k : ℕ) → i ≤ k → k < i + d → n < get_or l k 0)
-    → reached (drop i l) n ≡ 0
-down l n zero i h e f =
-    let p : i + 0 ≡ i = omega arith in
-    subst (λ (k : ℕ). reached (drop k l) n ≡ 0) p e
-down l n (suc d) i h e f =
-    let p : i + suc d ≡ suc (i + d) = omega arith in
-    down l n d i (omega arith)
-    (not_yet l (i + d) n (omega arith) (f (i + d) (omega arith) (omega arith)) (subst (λ (k : ℕ). reached (drop k l) n ≡ 0) p e))
-    (λ k g b. f k g (omega arith))
+pub at_end : (l : List ℕ) (n : ℕ) → reached (drop (length l) l) n ≡ 0
+unfolding reached
+at_end l n = ap (λ (t : List ℕ). reached t n) (drop-length l)
 
-pub parting : (l : List ℕ) (end i n : ℕ) → end ≤ length l → reached (drop end l) n ≡ 0 → i ≤ end → ((k : ℕ) → k < i → get_or l k 0 ≤ n)
-    → ((k : ℕ) → i ≤ k → k < end → n < get_or l k 0) → i ≡ reached l n
-parting l end i n h e g before after = go i (down l n (end - i) i (omega arith) (subst (λ (k : ℕ). reached (drop k l) n ≡ 0) p e)
-    (λ k b c. after k b (omega arith))) g before
-  where
-    p : end ≡ i + (end - i)
-    p = omega arith
-
-    go : (j : ℕ) → reached (drop j l) n ≡ 0 → j ≤ end → ((k : ℕ) → k < j → get_or l k 0 ≤ n) → j ≡ reached l n
-    go zero z b f = sym z
-    go (suc j) z b f = sym (last l j n (omega arith) (f j (omega arith)) z)
+pub at_start : (l : List ℕ) (i n : ℕ) → i ≤ 0 → reached (drop i l) n ≡ 0 → 0 ≡ reached l n
+at_start l zero n h e = sym e
+at_start l (suc i) n h e = absurd (not-suc-le-zero h)
 
 top-most : (k m : ℕ) (b : Bool) → k ≤ m → on_top k b ≤ suc m
 top-most zero m true h = omega arith
@@ -160,34 +140,6 @@ above a (b ∷ l) t zero h = ltb→lt a b (and_l (ltb a b) (rising (b ∷ l)) t)
 above a (b ∷ l) t (suc k) h =
     let g = ltb→lt a b (and_l (ltb a b) (rising (b ∷ l)) t) in
     omega (arith, g, above b l (tail_rises a (b ∷ l) t) k (le_of_suc-le-suc h))
-
-in_order : (l : List ℕ) → T (rising l) → (i j : ℕ) → i ≤ j → j < length l → get_or l i 0 ≤ get_or l j 0
-in_order [] t i j h k = absurd (not-suc-le-zero k)
-in_order (a ∷ l) t zero zero h k = omega arith
-in_order (a ∷ l) t zero (suc j) h k = omega (arith, above a l t j (le_of_suc-le-suc k))
-in_order (a ∷ l) t (suc i) zero h k = absurd (omega arith)
-in_order (a ∷ l) t (suc i) (suc j) h k = in_order l (tail_rises a l t) i j (le_of_suc-le-suc h) (le_of_suc-le-suc k)
-
--- so that a search may part the first rows of it
-module _ (l : List ℕ) (end n : ℕ) (h : end ≤ length l) where
-  row : (k d : ℕ) → k < end → get_or (take end l) k d ≡ get_or l k 0
-  row k d g = get_or-take end l k d g ∙ get_or_default_zero l k d (omega arith)
-
-  long : length (take end l) ≡ end
-  long = length-take-le end l h
-
-  pub parted : rising l ≡ true → IsPartitionedBy (λ y. leb y n) (take end l)
-  parted r i j d g k b =
-      let m = in_order l (subst T (sym r) tt) i j g (omega (arith, long)) in
-      let q = leb-true (get_or (take end l) j d) n b in
-      le-leb (get_or (take end l) i d) n (omega (arith, row i d (omega (arith, long)), row j d (omega (arith, long)), m, q))
-
-  pub parted-at : (i : ℕ) → reached (drop end l) n ≡ 0 → i ≤ length (take end l)
-      → IsPartitionPoint (λ y. leb y n ≡ true) (λ y. leb y n ≡ false) (take end l) i → i ≡ reached l n
-  parted-at i e b p =
-      parting l end i n h e (omega (arith, long))
-      (λ k g. let q = leb-true (get_or (take end l) k 0) n (p.0 k 0 (omega arith) g) in omega (arith, row k 0 (omega (arith, long)), q))
-      (λ k g c. let q = leb-false (get_or (take end l) k 0) n (p.1 k 0 g (omega (arith, long))) in omega (arith, row k 0 c, q))
 
 pub member_later : (l : List ℕ) → T (rising l) → (i n : ℕ) → i < length l → get_or l i 0 < n → member n l ≡ member n (drop (suc i) l)
 member_later [] t i n h b = absurd (not-suc-le-zero h)

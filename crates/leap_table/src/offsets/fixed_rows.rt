@@ -1,6 +1,6 @@
 // The look-up in the fixed rows, and what they say: the table of constants.rs.
-ghost use Rattle.std.specs.Prelude.{◌≡◌, true, ◌-◌, ◌<◌, ◌≤◌, length, drop, slice_index_or};
-ghost use Rattle.leap_table.specs.rows.Table.{fixed, fixed_rows, starts, reached, rising, none};
+ghost use Rattle.std.specs.Prelude.{◌≡◌, ◌-◌, ◌<◌, ◌≤◌, length, drop, slice_index_or};
+ghost use Rattle.leap_table.specs.rows.Table.{fixed, fixed_rows, starts, reached, none};
 ghost use Rattle.leap_table.specs.offsets.Offset.{seconds_of, start_of, rate_of};
 
 use crate::rows::{FIXED_SIZE, MONTHS};
@@ -23,16 +23,18 @@ const DRIFTING: [(f64, f64, f64); 14] = [
     (4.2131700, 39126.0, 0.0025920),
 ];
 
-// How many rows of a list of months that rises stand up to the last that has begun, where none from place `end` on has begun. The last of them is looked at
-// first: a date of today takes one step.
+// How many rows of a list of months stand up to the last that has begun, where none from place `end` on has begun. From the end: a date of today takes one
+// step.
 fn rows_reached(months: &[u64], end: usize, n: u64) -> usize
-    requires { (0 < end) × (end ≤ length months.now) × (rising months.now ≡ true) × (reached (drop end months.now) n ≡ 0) }
+    requires { (end ≤ length months.now) × (reached (drop end months.now) n ≡ 0) }
     ensures { result ≡ reached months.now n }
 {
-    if months[end - 1] <= n {
-        return end;
+    for i in (0..end).rev() {
+        if months[i] <= n {
+            return i + 1;
+        }
     }
-    months[..end].partition_point(|month| *month <= n)
+    0
 }
 
 // The same in the fixed table. The years before 1972, in which rows drift, and those up to 1987 do not look at the rows after them.

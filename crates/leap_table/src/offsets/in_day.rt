@@ -6,7 +6,7 @@ ghost use Rattle.leap_table.specs.rows.Announced.{rows_of, table_of};
 ghost use Rattle.leap_table.specs.offsets.Offset.{in_day};
 ghost use Rattle.leap_table.specs.offsets.Rule.{offset_by_rule};
 
-use super::Rule;
+use super::SecondsByRule;
 use super::look_up::{
     month_number, of_plain_day, offset_by, plain_day, rule_by, table_rows_reached,
 };
@@ -14,13 +14,7 @@ use crate::rows::{AnnouncedRows, judge_table};
 use refusals::Refusal;
 
 // By the Modified Julian Date. Refusals 1 to 3, the date.
-fn by_mjd(
-    year: i32,
-    month: i32,
-    day: i32,
-    fraction: f64,
-    table: &AnnouncedRows,
-) -> Result<(f64, Rule), Refusal>
+fn by_mjd(year: i32, month: i32, day: i32, fraction: f64, table: &AnnouncedRows) -> SecondsByRule
     requires { in_day fraction ≡ true }
     ensures { outcome result ≡ offset_by_rule (rows_of table.now) year month day fraction }
 {
@@ -36,7 +30,7 @@ pub fn get_tai_utc_offset_by_rows(
     day: i32,
     fraction: f64,
     table: &AnnouncedRows,
-) -> Result<(f64, Rule), Refusal>
+) -> SecondsByRule
     ensures { outcome result ≡ offset_by_rule (rows_of table.now) year month day fraction }
 {
     if !(0.0 <= fraction) {
@@ -55,12 +49,7 @@ pub fn get_tai_utc_offset_by_rows(
 
 // kept: tried and slower: as the call above with 0.0, whose two tests 0h does not need, it took 66 instructions for 60 of a day of 2020, 136 for 132 of 1965.
 // At 0h. Refusals 1 to 3, the date.
-pub fn offset_at_0h_by_rows(
-    year: i32,
-    month: i32,
-    day: i32,
-    table: &AnnouncedRows,
-) -> Result<(f64, Rule), Refusal>
+pub fn offset_at_0h_by_rows(year: i32, month: i32, day: i32, table: &AnnouncedRows) -> SecondsByRule
     ensures { outcome result ≡ offset_by_rule (rows_of table.now) year month day nought }
 {
     if plain_day(year, month, day) {
@@ -78,7 +67,7 @@ pub fn get_tai_utc_offset(
     day: i32,
     fraction: f64,
     table: AnnouncedRows,
-) -> Result<(f64, Rule), Refusal>
+) -> SecondsByRule
     ensures { outcome result ≡ onward (table_of table) (λ rows. offset_by_rule rows year month day fraction) }
 {
     judge_table(&table)?;

@@ -9,7 +9,7 @@ ghost use Rattle.leap_table.specs.offsets.Rule.{rule_of, day_by_rule, leap_by_ru
 use super::look_up::{
     any_rows_reached, month_number, of_plain_day, offset_by, plain_day, rule_by, table_rows_reached,
 };
-use super::{DayOffsets, Rule};
+use super::{DayByRule, DayOffsets, Rule, SecondsByRule};
 use crate::rows::{AnnouncedRows, judge_table};
 use refusals::Refusal;
 
@@ -45,12 +45,7 @@ fn offsets_of_day(table: &AnnouncedRows, month: u64, next: u64, mjd: i64) -> (Da
 }
 
 // By the Modified Julian Date and the next date. Refusals in order: 1 to 3 the date, then 5 no next day.
-fn by_next_day(
-    year: i32,
-    month: i32,
-    day: i32,
-    table: &AnnouncedRows,
-) -> Result<(DayOffsets, Rule), Refusal>
+fn by_next_day(year: i32, month: i32, day: i32, table: &AnnouncedRows) -> DayByRule
     ensures { outcome result ≡ day_by_rule (rows_of table.now) year month day }
 {
     let n = calendar::modified_julian_day(year, month, day)?;
@@ -64,12 +59,7 @@ fn by_next_day(
 }
 
 // Refusals in order: 1 to 3 the date, then 5 no next day.
-pub fn day_offsets_by_rows(
-    year: i32,
-    month: i32,
-    day: i32,
-    table: &AnnouncedRows,
-) -> Result<(DayOffsets, Rule), Refusal>
+pub fn day_offsets_by_rows(year: i32, month: i32, day: i32, table: &AnnouncedRows) -> DayByRule
     ensures { outcome result ≡ day_by_rule (rows_of table.now) year month day }
 {
     if plain_day(year, month, day) {
@@ -106,7 +96,7 @@ pub fn leap_at_end_of_day_by_rows(
     month: i32,
     day: i32,
     table: &AnnouncedRows,
-) -> Result<(f64, Rule), Refusal>
+) -> SecondsByRule
     ensures { outcome result ≡ leap_by_rule (rows_of table.now) year month day }
 {
     if plain_day(year, month, day) {

@@ -7,7 +7,7 @@ unfolding kinds_in
 counted_none js ks ns kind from = refl
 
 module _ (js ks ns : List ℕ) (kind from i : ℕ) where
-  counted-more : (c k r : ℕ) → c ≡ kinds_in js ks ns kind from i → k ≡ kind_at js ks ns (from + i) → r ≡ cond (eqb k kind) 1 0
+  pub counted-more : (c k r : ℕ) → c ≡ kinds_in js ks ns kind from i → k ≡ kind_at js ks ns (from + i) → r ≡ cond (eqb k kind) 1 0
       → c + r ≡ kinds_in js ks ns kind from (i + 1)
   unfolding kinds_in
   counted-more c k r e f g =

@@ -1,15 +1,22 @@
 -- The pattern of a signed number of 64 bits, and the number of a pattern, as std casts them. Assumes nothing.
-use Prim.Native.Nat.{ℕ, suc, ◌-◌, ◌<◌, ◌≤◌}
+use Prim.Native.Nat.{ℕ, zero, suc, ◌+◌, ◌-◌, ◌<◌, ◌≤◌}
 use native.Mathlib.Omega.{arith}
 use mathlib.Core.Path.{◌≡◌, refl, sym, ap, ◌∙◌}
 use mathlib.Core.Bool.{Bool, true, false, cond}
 use lib.Dec.{ltb}
-use lib.IntN.{ℤ, pos, negsuc}
+use lib.IntN.{ℤ, pos, negsuc, ◌-ℤ◌}
 use mir.Syntax.{w64}
 use mir.Val.{SFits, to_z, of_z}
 use mir.Facts.{to_z-of_z, of_z-to_z, to_z_pos, to_z-neg, sfits_to_z}
 use borrow.Author.Tests.{ltb-true, ltb-false}
 use Rattle.numerals.specs.little_endian.LittleEndian.{pattern_of, signed_of}
+
+pub minus_one : (k : ℕ) → negsuc 0 -ℤ pos k ≡ negsuc k
+minus_one zero = refl
+minus_one (suc k) = ap (λ (n : ℕ). negsuc (suc n)) (none k)
+  where
+    none : (k : ℕ) → 0 + k ≡ k
+    none k = omega arith
 
 -- ---- from the pattern to the number
 signed_64 : (n : ℕ) → n < 18446744073709551616 → to_z w64 n ≡ signed_of n

@@ -8,11 +8,10 @@ ghost use Rattle.utc.specs.iso_texts.IsoText.{shown_text_by};
 ghost use Rattle.utc.specs.iso_texts.Named.{form_named};
 ghost use Rattle.utc.specs.iso_texts.TextCall.{TextCall};
 
-use super::NamedForm;
+use super::{NamedForm, TextByRule};
 use crate::shown::time_shown;
 use crate::text::{put_text, put_text_expanded};
 use calendar::CalendarDate;
-use leap_table::offsets::Rule;
 use leap_table::rows::AnnouncedRows;
 use refusals::Refusal;
 use scales::UTC;
@@ -64,7 +63,7 @@ pub fn to_text_by_rows(
     utc: UTC,
     table: &AnnouncedRows,
     out: &mut [u8],
-) -> Result<(usize, Rule), Refusal>
+) -> TextByRule
     ensures { TextRuleCall (text_by_rule (form_named textForm) (rows_of table.now) utc.0) out.old result
         out.new }
 {
@@ -75,12 +74,7 @@ pub fn to_text_by_rows(
 }
 
 // Refusals in order: 20 to 22 the table, then those of its rows.
-fn to_text(
-    textForm: NamedForm,
-    utc: UTC,
-    table: AnnouncedRows,
-    out: &mut [u8],
-) -> Result<(usize, Rule), Refusal>
+fn to_text(textForm: NamedForm, utc: UTC, table: AnnouncedRows, out: &mut [u8]) -> TextByRule
     ensures { TextRuleCall (onward (table_of table) (λ rows. text_by_rule (form_named textForm) rows utc.0)) out.old result
         out.new }
 {
@@ -91,11 +85,7 @@ fn to_text(
 // ---- document 01's form
 // Refusals in order: 6 the parts, 1 the year, 11 the buffer; a refused call writes nothing.
 #[tactic(auto, unfolding(crate::specs::iso_texts::Named::form_named))]
-pub fn to_iso8601_by_rows(
-    utc: UTC,
-    table: &AnnouncedRows,
-    out: &mut [u8],
-) -> Result<(usize, Rule), Refusal>
+pub fn to_iso8601_by_rows(utc: UTC, table: &AnnouncedRows, out: &mut [u8]) -> TextByRule
     ensures { TextRuleCall (iso_text_by_rule (rows_of table.now) utc.0) out.old result out.new }
 {
     to_text_by_rows(NamedForm::Standard, utc, table, out)
@@ -104,7 +94,7 @@ pub fn to_iso8601_by_rows(
 // The date as ISO 8601 text, rounded to the millisecond, at the start of the buffer, and the rule of its day; in a leap second the seconds are 60. Refusals in
 // order: 20 to 22 the table, 6 the parts, 1 the year, 11 the buffer; a refused call writes nothing.
 #[tactic(auto, unfolding(crate::specs::iso_texts::Named::form_named))]
-pub fn to_iso8601(utc: UTC, table: AnnouncedRows, out: &mut [u8]) -> Result<(usize, Rule), Refusal>
+pub fn to_iso8601(utc: UTC, table: AnnouncedRows, out: &mut [u8]) -> TextByRule
     ensures { TextRuleCall (onward (table_of table) (λ rows. iso_text_by_rule rows utc.0)) out.old result out.new }
 {
     to_text(NamedForm::Standard, utc, table, out)
@@ -113,11 +103,7 @@ pub fn to_iso8601(utc: UTC, table: AnnouncedRows, out: &mut [u8]) -> Result<(usi
 // ---- a half millisecond to the even one
 // Refusals in order: 6 the parts, 1 the year, 11 the buffer; a refused call writes nothing.
 #[tactic(auto, unfolding(crate::specs::iso_texts::Named::form_named))]
-pub fn to_iso8601_half_even_by_rows(
-    utc: UTC,
-    table: &AnnouncedRows,
-    out: &mut [u8],
-) -> Result<(usize, Rule), Refusal>
+pub fn to_iso8601_half_even_by_rows(utc: UTC, table: &AnnouncedRows, out: &mut [u8]) -> TextByRule
     ensures { TextRuleCall (half_even_by_rule (rows_of table.now) utc.0) out.old result out.new }
 {
     to_text_by_rows(NamedForm::HalfEven, utc, table, out)
@@ -126,11 +112,7 @@ pub fn to_iso8601_half_even_by_rows(
 // The date as ISO 8601 text, a half millisecond to the even one, at the start of the buffer, and the rule of its day. Refusals in order: 20 to 22 the table, 6
 // the parts, 1 the year, 11 the buffer; a refused call writes nothing.
 #[tactic(auto, unfolding(crate::specs::iso_texts::Named::form_named))]
-pub fn to_iso8601_half_even(
-    utc: UTC,
-    table: AnnouncedRows,
-    out: &mut [u8],
-) -> Result<(usize, Rule), Refusal>
+pub fn to_iso8601_half_even(utc: UTC, table: AnnouncedRows, out: &mut [u8]) -> TextByRule
     ensures { TextRuleCall (onward (table_of table) (λ rows. half_even_by_rule rows utc.0)) out.old result out.new }
 {
     to_text(NamedForm::HalfEven, utc, table, out)
@@ -139,11 +121,7 @@ pub fn to_iso8601_half_even(
 // ---- a year before 0 or after 9999 as a sign and seven digits
 // Refusals in order: 6 the parts, 1 the year, 11 the buffer; a refused call writes nothing.
 #[tactic(auto, unfolding(crate::specs::iso_texts::Named::form_named))]
-pub fn to_iso8601_expanded_by_rows(
-    utc: UTC,
-    table: &AnnouncedRows,
-    out: &mut [u8],
-) -> Result<(usize, Rule), Refusal>
+pub fn to_iso8601_expanded_by_rows(utc: UTC, table: &AnnouncedRows, out: &mut [u8]) -> TextByRule
     ensures { TextRuleCall (expanded_by_rule (rows_of table.now) utc.0) out.old result out.new }
 {
     to_text_by_rows(NamedForm::Expanded, utc, table, out)
@@ -152,11 +130,7 @@ pub fn to_iso8601_expanded_by_rows(
 // The date as ISO 8601 text of 23 or 27 bytes, rounded to the millisecond, at the start of the buffer, and the rule of its day. Refusals in order: 20 to 22 the
 // table, 6 the parts, 1 the year, 11 the buffer; a refused call writes nothing.
 #[tactic(auto, unfolding(crate::specs::iso_texts::Named::form_named))]
-pub fn to_iso8601_expanded(
-    utc: UTC,
-    table: AnnouncedRows,
-    out: &mut [u8],
-) -> Result<(usize, Rule), Refusal>
+pub fn to_iso8601_expanded(utc: UTC, table: AnnouncedRows, out: &mut [u8]) -> TextByRule
     ensures { TextRuleCall (onward (table_of table) (λ rows. expanded_by_rule rows utc.0)) out.old result out.new }
 {
     to_text(NamedForm::Expanded, utc, table, out)

@@ -1,13 +1,10 @@
 -- `julian::shifts::smaller_part::earlier` meets its contract. Assumes nothing.
-use mathlib.Core.Path.{sym, ap, ◌∙◌}
-use Rattle.refusals.specs.Outcome.{answer, outcome}
-use Rattle.refusals.proofs.Handed.{stops, goes}
-use Rattle.julian.specs.shifts.Shifts.{minus, changed}
+use Rattle.julian.specs.shifts.Shifts.{minus}
+use Rattle.julian.proofs.shifts.Shifted.{of-date, of-refusal}
 use Rattle.julian.proofs.shifts.smaller_part.earlier.Goals as goal
 
 pub returns-in_err-a : goal.returns-in_err-a
-returns-in_err-a c = stops _ _ _ _ c.from_residual.ensures.1 (ap outcome (sym c.in_err-a.was))
+returns-in_err-a g c = of-refusal (minus c.args.days) _ _ _ c.in_err-a.was c.from_residual.ensures.1
 
 pub returns : goal.returns
-unfolding outcome changed
-returns c = ap answer c.subtract_days.ensures ∙ goes _ _ (changed (minus c.args.days)) (ap outcome (sym c.in_ok-a.was))
+returns g c = of-date (minus c.args.days) _ _ _ c.in_ok-a.was c.subtract_days.ensures

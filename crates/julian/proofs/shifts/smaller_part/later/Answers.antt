@@ -1,13 +1,10 @@
 -- `julian::shifts::smaller_part::later` meets its contract. Assumes nothing.
-use mathlib.Core.Path.{sym, ap, ◌∙◌}
-use Rattle.refusals.specs.Outcome.{answer, outcome}
-use Rattle.refusals.proofs.Handed.{stops, goes}
-use Rattle.julian.specs.shifts.Shifts.{plus, changed}
+use Rattle.julian.specs.shifts.Shifts.{plus}
+use Rattle.julian.proofs.shifts.Shifted.{of-date, of-refusal}
 use Rattle.julian.proofs.shifts.smaller_part.later.Goals as goal
 
 pub returns-in_err-a : goal.returns-in_err-a
-returns-in_err-a c = stops _ _ _ _ c.from_residual.ensures.1 (ap outcome (sym c.in_err-a.was))
+returns-in_err-a g c = of-refusal (plus c.args.days) _ _ _ c.in_err-a.was c.from_residual.ensures.1
 
 pub returns : goal.returns
-unfolding outcome changed
-returns c = ap answer c.add_days.ensures ∙ goes _ _ (changed (plus c.args.days)) (ap outcome (sym c.in_ok-a.was))
+returns g c = of-date (plus c.args.days) _ _ _ c.in_ok-a.was c.add_days.ensures

@@ -15,7 +15,7 @@ before-1972 n h = late 23663 (drop 14 (starts fixed)) tt n (omega arith)
 
 pub rows_reached-requires : goal.rows_reached-requires
 unfolding reached
-rows_reached-requires c = (omega arith, omega arith, refl, refl)
+rows_reached-requires c = (omega arith, refl)
 
 pub returns-then-n-ge23856 : goal.returns-then-n-ge23856
 unfolding fixed
@@ -23,7 +23,7 @@ returns-then-n-ge23856 c = (c.rows_reached.ensures, rw c.rows_reached.ensures (a
 
 pub rows_reached-requires-then-n-ge23664 : goal.rows_reached-requires-then-n-ge23664
 unfolding fixed
-rows_reached-requires-then-n-ge23664 c = (omega arith, omega arith, refl, before-1988 _ c.if-n-ge23856.false)
+rows_reached-requires-then-n-ge23664 c = (omega arith, before-1988 _ c.if-n-ge23856.false)
 
 pub returns-then-n-ge23664 : goal.returns-then-n-ge23664
 unfolding fixed
@@ -31,7 +31,7 @@ returns-then-n-ge23664 c = (c.rows_reached-then-n-ge23664.ensures, rw c.rows_rea
 
 pub rows_reached-requires-2 : goal.rows_reached-requires-2
 unfolding fixed
-rows_reached-requires-2 c = (omega arith, omega arith, refl, before-1972 _ c.if-n-ge23664.false)
+rows_reached-requires-2 c = (omega arith, before-1972 _ c.if-n-ge23664.false)
 
 pub returns : goal.returns
 unfolding fixed

@@ -1,19 +1,19 @@
 -- `leap_table::offsets::fixed_rows::rows_reached` meets its contract. Assumes nothing.
-use Rattle.std.proofs.Common.{rules, arith}
-use Rattle.std.proofs.lemmas.List.Sorted.{IsPartitionPoint-from_clause}
-use lib.Dec.{leb}
-use Rattle.leap_table.proofs.rows.Reached.{found, parted, parted-at}
+use Rattle.std.proofs.Common.{◌≡◌, ◌<◌, ◌+◌, ◌-◌, ℕ, arith, ◌∙◌}
+use Rattle.leap_table.proofs.rows.Reached.{found, passed}
 use Rattle.leap_table.proofs.offsets.fixed_rows.rows_reached.Goals as goal
 
-pub returns-then-months-end : goal.returns-then-months-end
-returns-then-months-end c =
-    let r = c.requires in
-    found c.args.months.now c.args.end c.args.n r.0 r.1 (omega (arith, c.if-months-end.true)) r.3
+one_up : (i : ℕ) → 0 < i → i - 1 + 1 ≡ i
+one_up i h = omega arith
 
-pub returns : goal.returns
-returns c =
-    let r = c.requires in
-    let a = c.args in
-    parted-at a.months.now a.end a.n r.1 c.partition_point.result r.3 c.partition_point.ensures.bound
-    (IsPartitionPoint-from_clause (λ y. leb y a.n) _ c.partition_point.result c.partition_point.ensures.partitioned (parted a.months.now a.end a.n r.1 r.2)
-    (λ x r f' k. search rules))
+pub returns-then-months-i : goal.returns-then-months-i
+returns-then-months-i c =
+    let p = c.loop-i-test.true in
+    one_up c.loop-i.i (omega (arith, p)) ∙ found c.args.months.now c.loop-i.i c.args.n (omega (arith, p))
+    (omega (arith, c.requires.0, c.loop-i.auto.i)) (omega (arith, c.if-months-i.true)) c.loop-i.invariant
+
+pub loop-i-preserved : goal.loop-i-preserved
+loop-i-preserved c =
+    let p = c.loop-i-test.true in
+    passed c.args.months.now c.loop-i.i c.args.n (omega (arith, p)) (omega (arith, c.requires.0, c.loop-i.auto.i)) (omega (arith, c.if-months-i.false))
+    c.loop-i.invariant

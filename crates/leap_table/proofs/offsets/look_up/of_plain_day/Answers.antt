@@ -1,7 +1,7 @@
 -- `leap_table::offsets::look_up::of_plain_day` meets its contract: the row of the month is one of whole seconds. Assumes nothing.
 use Rattle.std.proofs.Common.{◌≡◌, ℕ, ◌+◌, ◌≤◌, nat_abs, ap, ◌∙◌, arith}
 use Rattle.calendar.proofs.Signs.{to-unsigned, read_back}
-use Rattle.leap_table.specs.rows.Table.{starts, reached, month_number, fixed_rows, most_rows}
+use Rattle.leap_table.specs.rows.Table.{starts, reached, month_number, fixed_rows}
 use Rattle.leap_table.specs.rows.Announced.{announced_size, rows_of}
 use Rattle.leap_table.specs.offsets.Offset.{offset_at}
 use Rattle.leap_table.specs.offsets.Rule.{rule_by, rule_of, rule_at}

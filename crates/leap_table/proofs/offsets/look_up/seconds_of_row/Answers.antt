@@ -4,7 +4,6 @@ use Rattle.leap_table.specs.rows.Announced.{announced_size, rows_of}
 use Rattle.leap_table.specs.rows.Table.{none, fixed_rows}
 use Rattle.leap_table.specs.offsets.Offset.{seconds_of}
 use Rattle.leap_table.proofs.rows.Tables.{at_most_16, fixed-place, announced_place}
-use Rattle.leap_table.proofs.rows.ByParts.{few-rows}
 use Rattle.leap_table.proofs.offsets.look_up.seconds_of_row.Goals as goal
 
 -- the row after the fixed ones is the first announced one

@@ -1,5 +1,5 @@
 -- `leap_table::offsets::whole_day::offsets_of_day` meets its contract. Assumes nothing.
-use Rattle.std.proofs.Common.{ap, ◌∙◌, arith}
+use Rattle.std.proofs.Common.{ap, ◌∙◌}
 use lib.Ieee.{of_bits}
 use Rattle.leap_table.specs.offsets.Leap.{offsets_of_day}
 use Rattle.leap_table.specs.rows.Announced.{rows_of}
