@@ -108,9 +108,9 @@ pub(crate) fn judge(held: Held, line: Line) -> Result<(), Refusal>
 }
 
 // One row more.
-fn with_row(mut held: Held, month: u32, seconds: u32) -> Held
-    requires { (held.size < 16) × (month < 2147483648) × (seconds < 2147483648) }
-    ensures { result ≡ with_row held month seconds }
+fn add_row(held: &mut Held, month: u32, seconds: u32)
+    requires { (held.old.size < 16) × (month < 2147483648) × (seconds < 2147483648) }
+    ensures { held.new ≡ with_row held.old month seconds }
 {
     let i = held.size as usize;
     held.months[i] = month as i32;
@@ -118,21 +118,17 @@ fn with_row(mut held: Held, month: u32, seconds: u32) -> Held
     held.size += 1;
     held.month = month;
     held.second = seconds;
-    held
 }
 
-// What is held with a line that is not refused.
+// Adds what a line that is not refused says.
 #[tactic(auto, unfolding(crate::specs::Held::with_line, crate::specs::Held::line_fault, crate::specs::Held::later_fault))]
-pub(crate) fn with_line(mut held: Held, line: Line) -> Held
-    requires { (line_fault held line ≡ 0) × InRange line }
-    ensures { result ≡ with_line held line }
+pub(crate) fn add_line(held: &mut Held, line: Line)
+    requires { (line_fault held.old line ≡ 0) × InRange line }
+    ensures { held.new ≡ with_line held.old line }
 {
     match line {
-        Line::Row(month, seconds) if LAST_MONTH < month => with_row(held, month, seconds),
-        Line::Expiry(day) => {
-            held.known = day;
-            held
-        }
-        _ => held,
+        Line::Row(month, seconds) if LAST_MONTH < month => add_row(held, month, seconds),
+        Line::Expiry(day) => held.known = day,
+        _ => (),
     }
 }

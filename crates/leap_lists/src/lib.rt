@@ -40,7 +40,7 @@ pub fn read(text: &[u8]) -> Result<ListRead, ListFault>
             refusal,
             line: i + 1,
         })?;
-        held = held::with_line(held, found);
+        held::add_line(&mut held, found);
     }
     // kept: two locals: tried, and the borrow checker does not cover an array field that goes straight into a literal
     let months = held.months;

@@ -43,7 +43,7 @@ all-leading (suc k) (c ∷ cs) = either (is_digit c) refl (all-leading k cs)
     either true e h = let g = digit_bounds c e in (g.0, g.1, h)
     either false e h = tt
 
--- ---- as the code counts them
+-- ---- blanks and digits counted by the library, which no contract cites
 pub blanks_counted : (r : Bool) (s : List ℕ) → drop (length (take_while (line_blank r) s)) s ≡ behind_blanks r s
 unfolding behind_blanks
 blanks_counted r [] = refl

@@ -35,8 +35,8 @@ returns-in_err-map_err c =
     ∙ sym (t.1 ∙ fault_there c.loop-i.held (length c.loop-i.yielded) _ _ (refusal_number found.0) k.0 k.1)
     ∙ c.loop-i.invariant.1
 
-pub with_line-held-requires : goal.with_line-held-requires
-with_line-held-requires c =
+pub add_line-requires : goal.add_line-requires
+add_line-requires c =
     (taken (at_ok _ _ _ _ c.map_err.ensures.cases c.in_ok-map_err.was).1 c.judge.ensures, c.read_line-found.ensures.1)
 
 pub loop-i-preserved : goal.loop-i-preserved
@@ -49,9 +49,9 @@ loop-i-preserved c =
     c.loop-i.yielded _ c.loop-i.yielded_by _ _ _ c.in-Some.is c.next.ensures.steps) in
     let k = c.read_line-found.ensures.0 in
     let fault = ap (line_fault c.loop-i.held) (sym k) ∙ taken (at_ok _ _ _ _ c.map_err.ensures.cases c.in_ok-map_err.was).1 c.judge.ensures in
-    let next = c.with_line-held.ensures ∙ ap (with_line c.loop-i.held) k in (
-      rw c.with_line-held.ensures (small-second c.loop-i.held c.read_line-found.result c.loop-i.invariant.0 c.read_line-found.ensures.1),
-      ap (λ (m : ℕ). read_from c.with_line-held.result m (drop m (parts c.args.text.now))) (length_push c.loop-i.yielded (c.in-Some.i, c.in-Some.line))
+    let next = c.add_line.ensures ∙ ap (with_line c.loop-i.held) k in (
+      rw c.add_line.ensures (small-second c.loop-i.held c.read_line-found.result c.loop-i.invariant.0 c.read_line-found.ensures.1),
+      ap (λ (m : ℕ). read_from c.add_line.new.held m (drop m (parts c.args.text.now))) (length_push c.loop-i.yielded (c.in-Some.i, c.in-Some.line))
           ∙ ap (λ (x : Held). read_from x (n + 1) (drop (n + 1) (parts c.args.text.now))) next
           ∙ sym (no_fault c.loop-i.held n _ (drop (n + 1) (parts c.args.text.now)) fault)
           ∙ sym t.1
